@@ -1,0 +1,84 @@
+// Sets of small numbers as masks: bit i of a mask is set where i is in the set. Masks of 32 bits hold integrators; those of 64 bits, in
+// `wide`, hold source numbers. A set is visited in ascending order by `lowest` and `rest` while it is not 0.
+ghost use mathlib.Core.Path.{_≡_};
+ghost use Prim.Native.Nat.{_<_, _≤_};
+ghost use lib.Dec.{eqb};
+ghost use lib.ListN.{getD};
+ghost use Rattle.bitset.specs.Mask.{has, maskOf, countOf, allOf, union, withBit, lowestOf, restOf};
+
+mod wide;
+
+pub use wide::has64;
+pub use wide::joined;
+pub use wide::lowest64;
+pub use wide::rest64;
+pub use wide::union64;
+pub use wide::with64;
+
+// i is in m.
+pub fn has(m: u32, i: usize) -> bool
+    requires { ⌜ i < 32 ⌝ }
+    ensures { λ r. ⌜ r ≡ has m i ⌝ }
+{
+    (m >> i) % 2 == 1
+}
+
+// m and i.
+pub fn with(m: u32, i: usize) -> u32
+    requires { ⌜ i < 32 ⌝ }
+    ensures { λ r. ⌜ r ≡ withBit m i ⌝ }
+{
+    m | (1 << i)
+}
+
+// The lowest of m.
+pub fn lowest(m: u32) -> usize
+    requires { ⌜ 0 < m ⌝ }
+    ensures { λ r. ⌜ r ≡ lowestOf 32 m ⌝ }
+{
+    u32::trailing_zeros(m) as usize
+}
+
+// m without its lowest.
+pub fn rest(m: u32) -> u32
+    requires { ⌜ 0 < m ⌝ }
+    ensures { λ r. ⌜ r ≡ restOf m ⌝ }
+{
+    m & (m - 1)
+}
+
+// How many are in m.
+pub fn count(m: u32) -> usize
+    ensures { λ r. ⌜ r ≡ countOf (has m) 32 ⌝ }
+{
+    u32::count_ones(m) as usize
+}
+
+// What is in a or in b.
+pub fn union(a: u32, b: u32) -> u32
+    ensures { λ r. ⌜ r ≡ union a b ⌝ }
+{
+    a | b
+}
+
+// All below n. With n = 32 the shift needs more than 32 bits.
+pub fn all(n: usize) -> u32
+    requires { ⌜ n ≤ 32 ⌝ }
+    ensures { λ r. ⌜ r ≡ allOf n ⌝ }
+{
+    ((1u64 << n) - 1) as u32
+}
+
+// The i below n with ticks[i] = t.
+pub fn equal_to(ticks: &[u32; 32], n: usize, t: u32) -> u32
+    requires { ⌜ n ≤ 32 ⌝ }
+    ensures { λ r. ⌜ r ≡ maskOf (λ i. eqb (getD (now (ticks .entry)) i 0) t) n ⌝ }
+{
+    let mut r: u32 = 0;
+    for i in 0..n {
+        if ticks[i] == t {
+            r = with(r, i);
+        }
+    }
+    r
+}

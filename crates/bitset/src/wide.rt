@@ -1,0 +1,51 @@
+// Masks of 64 bits.
+ghost use mathlib.Core.Path.{_≡_};
+ghost use Prim.Native.Nat.{_^_, _<_, _≤_};
+ghost use Rattle.bitset.specs.Mask.{has, union, withBit, lowestOf, restOf, joinedOf};
+
+// `has` for 64 bits.
+pub fn has64(m: u64, i: usize) -> bool
+    requires { ⌜ i < 64 ⌝ }
+    ensures { λ r. ⌜ r ≡ has m i ⌝ }
+{
+    (m >> i) % 2 == 1
+}
+
+// `with` for 64 bits.
+pub fn with64(m: u64, i: usize) -> u64
+    requires { ⌜ i < 64 ⌝ }
+    ensures { λ r. ⌜ r ≡ withBit m i ⌝ }
+{
+    m | (1 << i)
+}
+
+// `lowest` for 64 bits.
+pub fn lowest64(m: u64) -> usize
+    requires { ⌜ 0 < m ⌝ }
+    ensures { λ r. ⌜ r ≡ lowestOf 64 m ⌝ }
+{
+    u64::trailing_zeros(m) as usize
+}
+
+// `rest` for 64 bits.
+pub fn rest64(m: u64) -> u64
+    requires { ⌜ 0 < m ⌝ }
+    ensures { λ r. ⌜ r ≡ restOf m ⌝ }
+{
+    m & (m - 1)
+}
+
+// `union` for 64 bits.
+pub fn union64(a: u64, b: u64) -> u64
+    ensures { λ r. ⌜ r ≡ union a b ⌝ }
+{
+    a | b
+}
+
+// The i of `low`, which are below n, and n + i for the i of `high`.
+pub fn joined(low: u32, high: u32, n: usize) -> u64
+    requires { ⌜ (n ≤ 32) × (low < 2 ^ n) ⌝ }
+    ensures { λ r. ⌜ r ≡ joinedOf low high n ⌝ }
+{
+    ((high as u64) << n) | (low as u64)
+}
