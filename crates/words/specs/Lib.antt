@@ -1,0 +1,6 @@
+pub mod Word
+pub mod Examples
+pub mod Reading
+pub mod Writing
+pub mod Flat
+pub mod Signs
