@@ -1,0 +1,118 @@
+-- "Plan file": where each number stands, and the plan that a file holds. Nothing is tested here; what a file does not have reads as 0.
+use mathlib.Core.Path.{_≡_}
+use mathlib.Core.List.{List, [], _∷_}
+use Prim.Native.Nat.{ℕ, zero, suc, _+_, _*_, _/_}
+use lib.IntN.{ℤ, pos}
+use lib.ListN.{length, take, drop}
+use Rattle.words.specs.Word.{word, signedWord}
+use Rattle.plan.specs.Lists.{nat, row}
+use Rattle.plan.specs.declared.Plan.{Plan}
+
+-- the arrays of a plan have their full width, as those of a struct have
+pub record Shaped (p : Plan) : Type 0 where
+  pub starts : length (p .starts) ≡ 32
+  pub quanta : length (p .quanta) ≡ 32
+  pub firsts : length (p .firsts) ≡ 8
+  pub kinds : length (p .kinds) ≡ 16
+  pub lefts : length (p .lefts) ≡ 16
+  pub rights : length (p .rights) ≡ 16
+  pub lows : length (p .lows) ≡ 16
+  pub highs : length (p .highs) ≡ 16
+  pub targets : length (p .targets) ≡ 256
+  pub sources : length (p .sources) ≡ 256
+  pub coefficients : length (p .coefficients) ≡ 256
+  pub ticks : length (p .ticks) ≡ 64
+  pub numbers : length (p .numbers) ≡ 64
+  pub values : length (p .values) ≡ 64
+
+-- "Let M = 2^30 = 1,073,741,824."
+abbrev pub M : ℕ
+M = 1073741824
+
+-- "Sections in order": integrators, inputs, nodes, links, commands; of each the bytes of an entry, and the least and the largest count
+abbrev pub sections : ℕ
+sections = 5
+
+abbrev pub entrySizes : List ℕ
+entrySizes = 8 ∷ 4 ∷ 20 ∷ 12 ∷ 12 ∷ []
+
+abbrev pub leastCounts : List ℕ
+leastCounts = 1 ∷ 0 ∷ 0 ∷ 0 ∷ 0 ∷ []
+
+abbrev pub largestCounts : List ℕ
+largestCounts = 32 ∷ 8 ∷ 16 ∷ 256 ∷ 64 ∷ []
+
+-- "Header, 44 bytes: horizon .., then five pairs of offset and length in bytes"
+abbrev pub headerLength : ℕ
+headerLength = 4 + 8 * sections
+
+unfoldable pub horizonIn : List ℕ → ℕ
+horizonIn file = word file 0
+
+unfoldable pub offsetIn : List ℕ → ℕ → ℕ
+offsetIn file k = word file (4 + 8 * k)
+
+unfoldable pub lengthIn : List ℕ → ℕ → ℕ
+lengthIn file k = word file (8 + 8 * k)
+
+-- "The first offset is 44, each next offset is the previous offset plus length": where section k is to start; of the number behind the
+-- last section, where the file is to end
+unfoldable pub startIn : List ℕ → ℕ → ℕ
+startIn file zero = headerLength
+startIn file (suc k) = offsetIn file k + lengthIn file k
+
+unfoldable pub countIn : List ℕ → ℕ → ℕ
+countIn file k = lengthIn file k / nat entrySizes k
+
+-- `length` bytes of a file from `offset` on
+unfoldable pub part : List ℕ → ℕ → ℕ → List ℕ
+part file offset length = take length (drop offset file)
+
+unfoldable pub sectionIn : List ℕ → ℕ → List ℕ
+sectionIn file k = part file (offsetIn file k) (lengthIn file k)
+
+-- one column of section k as an array: word number `column` of each entry by a reading of words, and a zero in the unused entries
+unfoldable pub columnIn : {A : Type 0} → A → (List ℕ → ℕ → A) → List ℕ → ℕ → ℕ → List A
+columnIn unused read file k column =
+    row unused (nat largestCounts k) (countIn file k) (λ i. read (sectionIn file k) (nat entrySizes k * i + 4 * column))
+
+-- of numbers that are not signed, of signed ones, and of an amount that is not signed
+abbrev pub wordsIn : List ℕ → ℕ → ℕ → List ℕ
+wordsIn = columnIn 0 word
+
+abbrev pub signedsIn : List ℕ → ℕ → ℕ → List ℤ
+signedsIn = columnIn (pos 0) signedWord
+
+abbrev pub amountsIn : List ℕ → ℕ → ℕ → List ℤ
+amountsIn = columnIn (pos 0) (λ s at. pos (word s at))
+
+-- the plan that a file holds, number for number
+unfoldable pub planIn : List ℕ → Plan
+planIn file =
+    record {
+      horizon = horizonIn file;
+      n = countIn file 0;
+      m = countIn file 1;
+      k = countIn file 2;
+      links = countIn file 3;
+      commands = countIn file 4;
+      -- "Integrators, .. 8 bytes: signed start ..; quantum"
+      starts = signedsIn file 0 0;
+      quanta = amountsIn file 0 1;
+      -- "Inputs, .. 4 bytes: signed first value"
+      firsts = signedsIn file 1 0;
+      -- "Nodes, .. 20 bytes: kind, A, B, signed lo, signed hi"
+      kinds = wordsIn file 2 0;
+      lefts = wordsIn file 2 1;
+      rights = wordsIn file 2 2;
+      lows = signedsIn file 2 3;
+      highs = signedsIn file 2 4;
+      -- "Links, .. 12 bytes: target integrator, source, signed coefficient"
+      targets = wordsIn file 3 0;
+      sources = wordsIn file 3 1;
+      coefficients = signedsIn file 3 2;
+      -- "Commands, .. 12 bytes: tick .., input number .., signed value"
+      ticks = wordsIn file 4 0;
+      numbers = wordsIn file 4 1;
+      values = signedsIn file 4 2;
+    }

@@ -1,0 +1,12 @@
+-- The plan file of document 01: its format, its rules as tests and as propositions, the refusals 1 to 9, the section view, the encoding,
+-- and worked examples of these.
+pub mod Lists
+pub mod Format
+pub mod Tests
+pub mod Refusals
+pub mod Encoding
+pub mod Rules
+pub mod Idle
+pub mod Cases
+pub mod Files
+pub mod Examples

@@ -1,0 +1,91 @@
+-- "When a call declines", 1 to 9: what a file is refused for, tried in order, with the lowest faulty entry; and the section view.
+use mathlib.Core.Bool.{Bool, true, false, cond, _&&_}
+use mathlib.Core.List.{List, []}
+use Prim.Native.Nat.{ℕ, zero, suc, _+_}
+use lib.Dec.{ltb, eqb}
+use Rattle.plan.specs.Format.{sections, sectionIn, planIn}
+use Rattle.plan.specs.Tests.{longEnough, offsetsKept, sizesKept, horizonKept, integratorKept, inputKept, nodeKept, linkLimits}
+use Rattle.plan.specs.Tests.{linkOrdered, commandLimits, commandOrdered}
+use Rattle.plan.specs.declared.Plan.{Plan}
+use Rattle.plan.specs.declared.Finding.{Finding}
+use Rattle.plan.specs.declared.Finding.the-variants.{Clean, Short, Offsets, Sizes, Horizon, Integrator, Input, Node, Link, Command}
+
+-- document 01's number of each finding, 0 for none
+unfoldable pub numberOf : Finding → ℕ
+numberOf Clean = 0
+numberOf Short = 1
+numberOf Offsets = 2
+numberOf Sizes = 3
+numberOf Horizon = 4
+numberOf (Integrator i) = 5
+numberOf (Input j) = 6
+numberOf (Node j) = 7
+numberOf (Link e) = 8
+numberOf (Command e) = 9
+
+-- and its entry: "lowest faulty entry of that section (0 for 1 to 4)"
+unfoldable pub entryOf : Finding → ℕ
+entryOf Clean = 0
+entryOf Short = 0
+entryOf Offsets = 0
+entryOf Sizes = 0
+entryOf Horizon = 0
+entryOf (Integrator i) = i
+entryOf (Input j) = j
+entryOf (Node j) = j
+entryOf (Link e) = e
+entryOf (Command e) = e
+
+unfoldable pub isClean : Finding → Bool
+isClean finding = eqb (numberOf finding) 0
+
+-- the finding where a rule is broken
+abbrev pub unless : Bool → Finding → Finding
+unless kept finding = cond kept Clean finding
+
+-- the first finding, or else the next
+unfoldable pub orElse : Finding → Finding → Finding
+orElse finding next = cond (isClean finding) next finding
+
+-- the first finding of the `left` entries from i on: that of the lowest faulty entry
+unfoldable pub firstFinding : (ℕ → Finding) → ℕ → ℕ → Finding
+firstFinding at i zero = Clean
+firstFinding at i (suc left) = orElse (at i) (firstFinding at (i + 1) left)
+
+module _ (p : Plan) where
+  -- 4 to 9, each over the whole of its section. "an order fault is the later entry's": it is found at the entry that does not ascend
+  unfoldable pub horizonFinding : Finding
+  horizonFinding = unless (horizonKept (p .horizon)) Horizon
+
+  unfoldable pub integratorsFinding : Finding
+  integratorsFinding = firstFinding (λ i. unless (integratorKept p i) (Integrator i)) 0 (p .n)
+
+  unfoldable pub inputsFinding : Finding
+  inputsFinding = firstFinding (λ j. unless (inputKept p j) (Input j)) 0 (p .m)
+
+  unfoldable pub nodesFinding : Finding
+  nodesFinding = firstFinding (λ j. unless (nodeKept p j) (Node j)) 0 (p .k)
+
+  unfoldable pub linksFinding : Finding
+  linksFinding = firstFinding (λ e. unless (linkLimits p e && linkOrdered p e) (Link e)) 0 (p .links)
+
+  unfoldable pub commandsFinding : Finding
+  commandsFinding = firstFinding (λ e. unless (commandLimits p e && commandOrdered p e) (Command e)) 0 (p .commands)
+
+  -- the rules 4 to 9 of a plan, in order
+  unfoldable pub planFinding : Finding
+  planFinding =
+      orElse horizonFinding (orElse integratorsFinding (orElse inputsFinding (orElse nodesFinding (orElse linksFinding commandsFinding))))
+
+-- "Load tries 1 to 9 and returns number, lowest faulty entry"
+unfoldable pub findingOf : List ℕ → Finding
+findingOf file =
+    orElse (unless (longEnough file) Short)
+    (orElse (unless (offsetsKept file) Offsets) (orElse (unless (sizesKept file) Sizes) (planFinding (planIn file))))
+
+unfoldable pub accepted : List ℕ → Bool
+accepted file = isClean (findingOf file)
+
+-- "hands back that part of the caller's own file, or an empty part if the file would be refused or the number is above 4"
+unfoldable pub sectionOf : List ℕ → ℕ → List ℕ
+sectionOf file number = cond (accepted file && ltb number sections) (sectionIn file number) []

@@ -1,0 +1,122 @@
+-- The rules of "Plan file" as propositions, in document 01's words, and the list of them by refusal number.
+use mathlib.Core.Path.{_≡_}
+use mathlib.Core.Logic.{_⊎_}
+use mathlib.Core.List.{List, [], _∷_}
+use Prim.Native.Nat.{ℕ, suc, _+_, _*_, _%_, _≤_, _<_}
+use lib.IntN.{ℤ, pos, negℤ}
+use lib.Signed.{_≤ℤ_}
+use lib.ListN.{length, getD}
+use Rattle.plan.specs.Lists.{nat, int}
+use Rattle.plan.specs.Format.{M, sections, entrySizes, leastCounts, largestCounts, headerLength, offsetIn, lengthIn, startIn}
+use Rattle.plan.specs.Format.{countIn, planIn}
+use Rattle.plan.specs.Tests.{counts}
+use Rattle.plan.specs.declared.Plan.{Plan}
+
+-- a number lies within ±b
+abbrev pub Within : ℕ → ℤ → Type 0
+Within b z = (negℤ (pos b) ≤ℤ z) × (z ≤ℤ pos b)
+
+-- a count is inside the limits of section k
+abbrev pub CountRule : ℕ → ℕ → Type 0
+CountRule k count = (nat leastCounts k ≤ count) × (count ≤ nat largestCounts k)
+
+-- "Strictly ascending by" xs, "then" ys: entry e stands above its predecessor
+abbrev pub Ascends : List ℕ → List ℕ → ℕ → Type 0
+Ascends xs ys e = (d : ℕ) → suc d ≡ e → (nat xs d < nat xs e) ⊎ ((nat xs d ≡ nat xs e) × (nat ys d < nat ys e))
+
+module _ (file : List ℕ) where
+  pub record OffsetRule : Type 0 where
+    pub first : offsetIn file 0 ≡ headerLength
+    pub next : (k : ℕ) → suc k < sections → offsetIn file (suc k) ≡ offsetIn file k + lengthIn file k
+    pub last : (k : ℕ) → suc k ≡ sections → length file ≡ offsetIn file k + lengthIn file k
+
+  pub record SizeRule : Type 0 where
+    pub whole : (k : ℕ) → k < sections → lengthIn file k % nat entrySizes k ≡ 0
+    pub count : (k : ℕ) → k < sections → CountRule k (countIn file k)
+
+module _ (p : Plan) where
+  abbrev pub HorizonRule : Type 0
+  HorizonRule = (1 ≤ p .horizon) × (p .horizon ≤ 2000000000)
+
+  -- the counts of a plan that comes in no file
+  abbrev pub CountsRule : Type 0
+  CountsRule = (k : ℕ) → k < sections → CountRule k (nat (counts p) k)
+
+  pub record IntegratorRule (i : ℕ) : Type 0 where
+    pub start : Within M (int (p .starts) i)
+    pub least : pos 1 ≤ℤ int (p .quanta) i
+    pub most : int (p .quanta) i ≤ℤ pos M
+
+  abbrev pub InputRule : ℕ → Type 0
+  InputRule j = Within M (int (p .firsts) j)
+
+  -- "A and B, where used, name integrators, inputs or lower-numbered nodes": the sources below the node's own number
+  abbrev pub Below : ℕ → ℕ → Type 0
+  Below j source = source < p .n + p .m + j
+
+  pub record NodeRule (j : ℕ) : Type 0 where
+    pub kind : nat (p .kinds) j ≤ 3
+    pub left : Below j (nat (p .lefts) j)
+    -- "B is 0 and names nothing" in kind 2; the others use it
+    pub right : (nat (p .kinds) j ≡ 2 → ⊥) → Below j (nat (p .rights) j)
+    pub unused : nat (p .kinds) j ≡ 2 → nat (p .rights) j ≡ 0
+    -- kinds 0 and 1 "with lo and hi 0"
+    pub plain : nat (p .kinds) j ≤ 1 → (int (p .lows) j ≡ pos 0) × (int (p .highs) j ≡ pos 0)
+    -- "For kinds 2 and 3 lo and hi lie within ±M."
+    pub limits : 2 ≤ nat (p .kinds) j → Within M (int (p .lows) j) × Within M (int (p .highs) j)
+    -- kind 2 is "a limited to lo..hi, lo ≤ hi"
+    pub order : nat (p .kinds) j ≡ 2 → int (p .lows) j ≤ℤ int (p .highs) j
+
+  pub record LinkRule (e : ℕ) : Type 0 where
+    pub target : nat (p .targets) e < p .n
+    pub source : nat (p .sources) e < p .n + p .m + p .k
+    pub nonzero : int (p .coefficients) e ≡ pos 0 → ⊥
+    pub coefficient : Within 16777216 (int (p .coefficients) e)
+    pub order : Ascends (p .targets) (p .sources) e
+
+  pub record CommandRule (e : ℕ) : Type 0 where
+    pub least : 1 ≤ nat (p .ticks) e
+    pub most : nat (p .ticks) e ≤ p .horizon
+    pub number : nat (p .numbers) e < p .m
+    pub value : Within M (int (p .values) e)
+    pub order : Ascends (p .ticks) (p .numbers) e
+
+  -- "its plan keeps all rules above"
+  pub record PlanRules : Type 0 where
+    pub counts : CountsRule
+    pub horizon : HorizonRule
+    pub integrators : (i : ℕ) → i < p .n → IntegratorRule i
+    pub inputs : (j : ℕ) → j < p .m → InputRule j
+    pub nodes : (j : ℕ) → j < p .k → NodeRule j
+    pub links : (e : ℕ) → e < p .links → LinkRule e
+    pub commands : (e : ℕ) → e < p .commands → CommandRule e
+
+module _ (file : List ℕ) where
+  -- The rules by refusal number, 1 to 9; the first stands for number 0 and asks nothing. Each is asked of an entry; rules 1 to 4 have one,
+  -- number 0.
+  abbrev pub rules : List (ℕ → Type 0)
+  rules =
+      (λ _. Unit {0})
+      ∷ (λ _. headerLength ≤ length file)
+      ∷ (λ _. OffsetRule file)
+      ∷ (λ _. SizeRule file)
+      ∷ (λ _. HorizonRule (planIn file))
+      ∷ IntegratorRule (planIn file)
+      ∷ InputRule (planIn file)
+      ∷ NodeRule (planIn file)
+      ∷ LinkRule (planIn file)
+      ∷ CommandRule (planIn file)
+      ∷ []
+
+  -- how many entries each is asked of
+  abbrev pub ruleEntries : List ℕ
+  ruleEntries =
+      let p = planIn file in
+      0 ∷ 1 ∷ 1 ∷ 1 ∷ 1 ∷ p .n ∷ p .m ∷ p .k ∷ p .links ∷ p .commands ∷ []
+
+  -- entry e keeps the rule of refusal number k, and every entry keeps it
+  abbrev pub Rule : ℕ → ℕ → Type 0
+  Rule k e = getD rules k (λ _. Unit {0}) e
+
+  abbrev pub Holds : ℕ → Type 0
+  Holds k = (e : ℕ) → e < nat ruleEntries k → Rule k e

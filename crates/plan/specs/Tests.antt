@@ -1,0 +1,89 @@
+-- The rules of "Plan file" as tests: of the file's directory, of the counts, and of each entry of a plan. The limits of an entry and its
+-- order are two tests. Rules.antt has the same rules as propositions.
+use mathlib.Core.Bool.{Bool, true, false, not, cond, _&&_, _||_}
+use mathlib.Core.List.{List, [], _∷_}
+use Prim.Native.Nat.{ℕ, _+_, _-_, _*_, _%_}
+use lib.IntN.{ℤ, pos}
+use lib.Signed.{leZ}
+use lib.Dec.{leb, ltb, eqb}
+use lib.ListN.{length}
+use Rattle.integers.specs.Parts.{∣_∣}
+use Rattle.integers.specs.Range.{within}
+use Rattle.plan.specs.Lists.{nat, int, every}
+use Rattle.plan.specs.Format.{M, sections, entrySizes, leastCounts, largestCounts, headerLength, offsetIn, lengthIn, startIn, countIn}
+use Rattle.plan.specs.declared.Plan.{Plan}
+
+-- ---- the file
+unfoldable pub longEnough : List ℕ → Bool
+longEnough file = leb headerLength (length file)
+
+-- "The first offset is 44, each next offset is the previous offset plus length, the last section ends the file."
+unfoldable pub offsetsKept : List ℕ → Bool
+offsetsKept file = every (λ k. eqb (offsetIn file k) (startIn file k)) sections && eqb (length file) (startIn file sections)
+
+-- a count is inside its section's limits
+unfoldable pub countKept : ℕ → ℕ → Bool
+countKept k count = leb (nat leastCounts k) count && leb count (nat largestCounts k)
+
+-- a section is a whole number of entries, and their count is inside its limits
+unfoldable pub sizesKept : List ℕ → Bool
+sizesKept file = every (λ k. eqb (lengthIn file k % nat entrySizes k) 0 && countKept k (countIn file k)) sections
+
+-- ---- the plan
+-- "horizon (a tick, 1 to 2,000,000,000)"
+unfoldable pub horizonKept : ℕ → Bool
+horizonKept horizon = leb 1 horizon && leb horizon 2000000000
+
+module _ (p : Plan) where
+  -- the counts in the order of the sections
+  unfoldable pub counts : List ℕ
+  counts = p .n ∷ p .m ∷ p .k ∷ p .links ∷ p .commands ∷ []
+
+  unfoldable pub countsKept : Bool
+  countsKept = every (λ k. countKept k (nat counts k)) sections
+
+  -- "signed start within ±M; quantum 1 to M"
+  unfoldable pub integratorKept : ℕ → Bool
+  integratorKept i = within M (int (p .starts) i) && leZ (pos 1) (int (p .quanta) i) && leZ (int (p .quanta) i) (pos M)
+
+  -- "signed first value within ±M"
+  unfoldable pub inputKept : ℕ → Bool
+  inputKept j = within M (int (p .firsts) j)
+
+-- The rule of a node's kind. A node's own source number is `own`, so "integrators, inputs or lower-numbered nodes" are the sources below it.
+-- Kinds 0 and 1: "with lo and hi 0". Kind 2: "lo ≤ hi, B is 0 and names nothing". Kinds 2 and 3: "lo and hi lie within ±M".
+unfoldable pub kindKept : ℕ → ℕ → ℕ → ℕ → ℤ → ℤ → Bool
+kindKept own kind a b lo hi =
+    ltb a own &&
+    cond (leb kind 1) (ltb b own && eqb ∣ lo ∣ 0 && eqb ∣ hi ∣ 0)
+    (within M lo && within M hi && cond (eqb kind 2) (eqb b 0 && leZ lo hi) (eqb kind 3 && ltb b own))
+
+-- (a, b) stands before (c, d): by the first, then by the second
+unfoldable pub ascends : ℕ → ℕ → ℕ → ℕ → Bool
+ascends a b c d = ltb a c || (eqb a c && ltb b d)
+
+module _ (p : Plan) where
+  unfoldable pub nodeKept : ℕ → Bool
+  nodeKept j =
+      kindKept (p .n + p .m + j) (nat (p .kinds) j) (nat (p .lefts) j) (nat (p .rights) j) (int (p .lows) j) (int (p .highs) j)
+
+  -- "target integrator, source, signed coefficient, not 0, within ±16,777,216"; "Links may name any source."
+  unfoldable pub linkLimits : ℕ → Bool
+  linkLimits e =
+      ltb (nat (p .targets) e) (p .n) && ltb (nat (p .sources) e) (p .n + p .m + p .k)
+      && not (eqb ∣ int (p .coefficients) e ∣ 0) && within 16777216 (int (p .coefficients) e)
+
+  -- "Strictly ascending by target, then source."
+  unfoldable pub linkOrdered : ℕ → Bool
+  linkOrdered e =
+      eqb e 0 || ascends (nat (p .targets) (e - 1)) (nat (p .sources) (e - 1)) (nat (p .targets) e) (nat (p .sources) e)
+
+  -- "tick 1 to horizon, input number below m, signed value within ±M"
+  unfoldable pub commandLimits : ℕ → Bool
+  commandLimits e =
+      leb 1 (nat (p .ticks) e) && leb (nat (p .ticks) e) (p .horizon) && ltb (nat (p .numbers) e) (p .m) && within M (int (p .values) e)
+
+  -- "Strictly ascending by tick, then input."
+  unfoldable pub commandOrdered : ℕ → Bool
+  commandOrdered e =
+      eqb e 0 || ascends (nat (p .ticks) (e - 1)) (nat (p .numbers) (e - 1)) (nat (p .ticks) e) (nat (p .numbers) e)
