@@ -1,0 +1,279 @@
+-- Document 01's examples P1 to P9, and cases that are easily got wrong, as one table with one theorem over it.
+use mathlib.Core.Path.{_≡_, refl}
+use mathlib.Core.Bool.{Bool, true, false}
+use mathlib.Core.List.{List, [], _∷_}
+use Prim.Native.Nat.{ℕ}
+use lib.IntN.{ℤ, pos, negsuc}
+use lib.ListN.{replicate}
+use Rattle.integers.specs.Division.{ceilDiv}
+use Rattle.integers.specs.Range.{limited, within}
+use Rattle.bitset.specs.Mask.{countOf}
+use Rattle.words.specs.Word.{numberAt, bytesOf, signedOf, unsignedOf, wordOf, flat}
+use Rattle.plan.specs.Lists.{nat, int, table, row, joined, every, some, firstFrom}
+use Rattle.plan.specs.Format.{horizonIn, offsetIn, lengthIn, startIn, countIn, part, sectionIn, columnIn, planIn}
+use Rattle.plan.specs.Tests.{longEnough, offsetsKept, countKept, sizesKept, horizonKept, counts, countsKept, integratorKept, inputKept}
+use Rattle.plan.specs.Tests.{kindKept, ascends, nodeKept, linkLimits, linkOrdered, commandLimits, commandOrdered}
+use Rattle.plan.specs.Refusals.{numberOf, isClean, orElse, firstFinding, horizonFinding, integratorsFinding, inputsFinding, nodesFinding}
+use Rattle.plan.specs.Refusals.{linksFinding, commandsFinding, planFinding, findingOf, accepted}
+use Rattle.plan.specs.Encoding.{lengthOf, offsetOf, headerWords, integratorWords, inputWords, nodeWords, linkWords, commandWords}
+use Rattle.plan.specs.Encoding.{fileWords, encode}
+use Rattle.plan.specs.Idle.{idlePlan}
+use Rattle.plan.specs.Cases.{Case, case, AllRight, end, _&_}
+use Rattle.plan.specs.Files.{fileOf, cupFile}
+use Rattle.plan.specs.declared.Plan.{Plan}
+use Rattle.machine.specs.Values.{nodeOf, valueWith, valueOf, sumOver, rateOf}
+use Rattle.machine.specs.Due.{upperLevel, lowerLevel, distance, ticksTo, dueTick, dueOf}
+use Rattle.machine.specs.Next.{nextCommand, commandTick, leastDue, nextTick}
+use Rattle.machine.specs.Start.{startSlope, startDue, startOf, startState, idleState}
+use Rattle.machine.specs.Reach.{isDue, setsInput, isCommanded, changes, dependsWith, reaches, reached}
+use Rattle.machine.specs.Instant.{positionAt, settingOf, settings, moves, eventBytes, eventsAt, outputs, slopeThen, xThen, dueThen}
+use Rattle.machine.specs.Instant.{takenAt, tickOf, instant, eventsOf}
+use Rattle.machine.specs.Status.{bars, barring, statusAt, integratorAt, statusOf, integratorOf, isPaused}
+use Rattle.machine.specs.Runs.{after, events, positionOf}
+use Rattle.machine.specs.Plain.{Plain, settled, plainStart, plainTick, plainPosition, plainOutputs, plainInstant, plainEventsOf}
+use Rattle.machine.specs.Plain.{plainStatus, plainIntegrator, lazyCount, plainFrom, plainEventsFrom, plainAfter, plainEvents}
+use Rattle.machine.specs.SoundTest.{unusedNat, unusedInt, planUnused, planSound, runningUnused, integratorSound, runningSound}
+use Rattle.machine.specs.SoundTest.{isSound}
+use Rattle.machine.specs.declared.Running.{Running}
+use Rattle.machine.specs.declared.State.{State}
+use Rattle.machine.specs.declared.Engine.{Engine}
+use Rattle.machine.specs.declared.Engine.the-variants.{Lazy, Eager}
+
+-- M, and what lies just beyond it
+abbrev m : ℤ
+m = pos 1073741824
+
+abbrev minus-m : ℤ
+minus-m = negsuc 1073741823
+
+-- ---- the plans, each of its file's bytes
+
+-- "A cup in full"
+abbrev cup : Plan
+cup = planIn cupFile
+
+-- its events, as document 01 lists them
+abbrev cupEvents : List ℕ
+cupEvents = 4 ∷ 0 ∷ 0 ∷ 0 ∷ 0 ∷ 0 ∷ 0 ∷ 0 ∷ 12 ∷ 0 ∷ 0 ∷ 0 ∷ 6 ∷ 0 ∷ 0 ∷ 0 ∷ 2 ∷ 0 ∷ 0 ∷ 0 ∷ 253 ∷ 255 ∷ 255 ∷ 255 ∷ []
+
+-- ten ticks of an integrator of this start and quantum, with one input and a link from it of this coefficient
+abbrev pumpFile : ℤ → ℕ → ℤ → ℤ → List ℕ
+pumpFile start quantum value coefficient = fileOf 10 (wordOf start ∷ quantum ∷ []) (wordOf value ∷ []) [] (0 ∷ 1 ∷ wordOf coefficient ∷ []) []
+
+abbrev pump : ℤ → ℕ → ℤ → ℤ → Plan
+pump start quantum value coefficient = planIn (pumpFile start quantum value coefficient)
+
+-- integrator 0 fed by an input of 3; integrator 1 by a node of kind 2, whose A is that input and whose B is 0 and names nothing
+abbrev limitFile : List ℕ
+limitFile =
+    fileOf 10 (0 ∷ 10 ∷ 0 ∷ 1000 ∷ []) (3 ∷ []) (2 ∷ 2 ∷ 0 ∷ wordOf (negsuc 4) ∷ 5 ∷ []) (0 ∷ 2 ∷ 65536 ∷ 1 ∷ 3 ∷ 65536 ∷ []) []
+
+-- the same with a node of kind 0, which names integrator 0 by B; a second node over the first one feeds integrator 1
+abbrev chainFile : List ℕ
+chainFile =
+    fileOf 10 (0 ∷ 10 ∷ 0 ∷ 1000 ∷ []) (3 ∷ []) (0 ∷ 2 ∷ 0 ∷ 0 ∷ 0 ∷ 2 ∷ 3 ∷ 0 ∷ wordOf minus-m ∷ 1073741824 ∷ [])
+    (0 ∷ 2 ∷ 65536 ∷ 1 ∷ 4 ∷ 65536 ∷ []) []
+
+-- two integrators that feed each other, both fed by an input of 10
+abbrev pairFile : List ℕ
+pairFile =
+    fileOf 10 (0 ∷ 10 ∷ 0 ∷ 10 ∷ []) (10 ∷ []) [] (0 ∷ 1 ∷ 65536 ∷ 0 ∷ 2 ∷ 65536 ∷ 1 ∷ 0 ∷ 65536 ∷ 1 ∷ 2 ∷ 65536 ∷ []) []
+
+-- three integrators that are due at tick 1; the outputs of the last two are then beyond M. A command stands at the same tick
+abbrev rangeFile : List ℕ
+rangeFile =
+    fileOf 10 (0 ∷ 5 ∷ 1073741823 ∷ 5 ∷ 1073741822 ∷ 5 ∷ []) (5 ∷ []) [] (0 ∷ 3 ∷ 65536 ∷ 1 ∷ 3 ∷ 65536 ∷ 2 ∷ 3 ∷ 65536 ∷ [])
+    (1 ∷ 0 ∷ 7 ∷ [])
+
+-- one integrator that nothing feeds; two inputs, both set at tick 2, and the second again at the horizon, to the value that it has
+abbrev commandsFile : List ℕ
+commandsFile = fileOf 10 (0 ∷ 1 ∷ []) (1 ∷ 2 ∷ []) [] [] (2 ∷ 0 ∷ 7 ∷ 2 ∷ 1 ∷ wordOf (negsuc 7) ∷ 10 ∷ 1 ∷ wordOf (negsuc 7) ∷ [])
+
+-- ---- what the cases say of them
+abbrev lazily : Plan → ℕ → Running
+lazily p b = after p Lazy b (startOf p)
+
+abbrev eagerly : Plan → ℕ → Running
+eagerly p b = after p Eager b (startOf p)
+
+-- d of the cup's first integrator, whose quantum is 10, from l = 0
+abbrev dueFrom : ℤ → ℤ → ℤ → ℕ
+dueFrom x q s = dueOf cup (q ∷ []) 0 0 x s
+
+-- running figures of the cup: positions, slopes, last-moved and due ticks of its two integrators, clock, next command, instants, updates
+abbrev figures : ℤ → ℤ → ℤ → ℤ → ℕ → ℕ → ℕ → ℕ → ℕ → ℕ → ℕ → ℕ → Running
+figures x0 x1 s0 s1 l0 l1 d0 d1 clock next instants updates = record {
+  x = x0 ∷ x1 ∷ replicate 30 (pos 0);
+  q = pos 12 ∷ replicate 31 (pos 0);
+  s = s0 ∷ s1 ∷ replicate 30 (pos 0);
+  l = l0 ∷ l1 ∷ replicate 30 0;
+  d = d0 ∷ d1 ∷ replicate 30 0;
+  inputs = pos 3 ∷ replicate 7 (pos 0);
+  clock = clock;
+  next = next;
+  instants = instants;
+  updates = updates;
+}
+
+abbrev sound : Running → Bool
+sound r = isSound (record { plan = cup; run = r })
+
+pub examples : List Case
+examples =
+    -- P1, from the file's bytes: "4 0 12", "6 2 -3", "end 1 6 2 3"; "Eager updates are 4. At clock 6 the positions are 18 and 24."
+    case Bool (accepted cupFile) true
+    ∷ case (List ℕ) (encode cup) cupFile
+    ∷ case (List ℕ) (events cup Lazy 64 (startOf cup)) cupEvents
+    ∷ case ℕ (statusOf cup (lazily cup 64)) 1
+    ∷ case ℕ (integratorOf cup (lazily cup 64)) 0
+    ∷ case ℕ (lazily cup 64 .clock) 6
+    ∷ case ℕ (lazily cup 64 .instants) 2
+    ∷ case ℕ (lazily cup 64 .updates) 3
+    ∷ case ℕ (eagerly cup 64 .updates) 4
+    ∷ case ℤ (positionOf (lazily cup 64) 0) (pos 18)
+    ∷ case ℤ (positionOf (lazily cup 64) 1) (pos 24)
+    ∷ case ℤ (positionOf (eagerly cup 64) 0) (pos 18)
+    ∷ case ℤ (positionOf (eagerly cup 64) 1) (pos 24)
+    ∷ case (List ℕ) (events cup Eager 64 (startOf cup)) cupEvents
+    -- and its plain machine
+    ∷ case (List ℕ) (plainEvents cup 64) cupEvents
+    ∷ case ℕ (plainStatus cup (plainAfter cup 64)) 1
+    ∷ case ℕ (plainIntegrator cup (plainAfter cup 64)) 0
+    ∷ case (List ℤ) (plainAfter cup 64 .x) (pos 18 ∷ pos 24 ∷ replicate 30 (pos 0))
+    ∷ case (List ℤ) (plainAfter cup 64 .q) (pos 12 ∷ replicate 31 (pos 0))
+    ∷ case (List ℤ) (plainAfter cup 64 .s) (negsuc 2 ∷ pos 12 ∷ replicate 30 (pos 0))
+    ∷ case (List ℕ) (plainAfter cup 64 .d) (12 ∷ 88 ∷ replicate 30 0)
+    ∷ case (List ℤ) (lazily cup 64 .q) (pos 12 ∷ replicate 31 (pos 0))
+    ∷ case (List ℤ) (lazily cup 64 .s) (negsuc 2 ∷ pos 12 ∷ replicate 30 (pos 0))
+    ∷ case (List ℕ) (lazily cup 64 .d) (12 ∷ 88 ∷ replicate 30 0)
+    ∷ case ℕ (plainAfter cup 64 .instants) 2
+    ∷ case ℕ (lazyCount cup (plainAfter cup 0)) 2
+    ∷ case ℕ (lazyCount cup (plainAfter cup 1)) 1
+    -- the whole state after its first instant: what is due gives its position, what is reached keeps its output, unused entries stay 0
+    ∷ case Running (lazily cup 1) (figures (pos 12) (pos 0) (pos 3) (pos 12) 4 4 8 88 4 0 1 2)
+    ∷ case (List ℕ) (startOf cup .d) (4 ∷ 4294967295 ∷ replicate 30 0)
+    ∷ case (List ℤ) (startOf cup .s) (pos 3 ∷ pos 0 ∷ replicate 30 (pos 0))
+    ∷ case ℕ (statusOf cup (startOf cup)) 0
+    -- P2 to P5: T, and never
+    ∷ case ℕ (dueFrom (pos 0) (pos 0) (pos 3)) 4
+    ∷ case ℕ (dueFrom (pos 18) (pos 12) (negsuc 2)) 6
+    ∷ case ℕ (dueFrom (pos 0) (pos 0) (pos 0)) 4294967295
+    ∷ case ℕ (dueFrom (pos 0) (pos 0) (pos 9)) 2
+    ∷ case ℕ (dueFrom (pos 0) (pos 0) (pos 10)) 1
+    ∷ case ℕ (dueFrom (pos 0) (pos 0) (pos 11)) 1
+    ∷ case Bool (accepted (pumpFile (pos 0) 10 (pos 11) (pos 65536))) true
+    ∷ case ℤ (int (lazily (pump (pos 0) 10 (pos 11) (pos 65536)) 1 .q) 0) (pos 11)
+    -- past a level, the level ahead is reached after one tick; towards the other one, after the whole distance
+    ∷ case ℕ (dueFrom (pos 25) (pos 12) (pos 3)) 1
+    ∷ case ℕ (dueFrom (pos 22) (pos 12) (pos 3)) 1
+    ∷ case ℕ (dueFrom (negsuc 2) (pos 12) (negsuc 2)) 1
+    ∷ case ℕ (dueFrom (pos 25) (pos 12) (negsuc 2)) 8
+    ∷ case ℕ (dueFrom (negsuc 2) (pos 12) (pos 3)) 9
+    -- P6: slopes of the sums −1, −65,536, 65,535, 65,536
+    ∷ case ℤ (startSlope (pump (pos 0) 10 (negsuc 0) (pos 1)) 0) (negsuc 0)
+    ∷ case ℤ (startSlope (pump (pos 0) 10 (negsuc 65535) (pos 1)) 0) (negsuc 0)
+    ∷ case ℤ (startSlope (pump (pos 0) 10 (pos 65535) (pos 1)) 0) (pos 0)
+    ∷ case ℤ (startSlope (pump (pos 0) 10 (pos 65536) (pos 1)) 0) (pos 1)
+    -- P7, P8, and the other kinds: differences and products are clipped to ±M, products are rounded down
+    ∷ case ℤ (nodeOf 1 (pos 0) (pos 0) (pos 1) (negsuc 0)) (negsuc 0)
+    ∷ case ℤ (nodeOf 3 (pos 1) (pos 2) (pos 7) (pos 7)) (pos 2)
+    ∷ case ℤ (nodeOf 3 (pos 1) (pos 2) (pos 7) (pos 8)) (pos 1)
+    ∷ case ℤ (nodeOf 3 (pos 1) (pos 2) (pos 8) (pos 7)) (pos 2)
+    ∷ case ℤ (nodeOf 0 (pos 0) (pos 0) (pos 5) (pos 8)) (negsuc 2)
+    ∷ case ℤ (nodeOf 0 (pos 0) (pos 0) m minus-m) m
+    ∷ case ℤ (nodeOf 0 (pos 0) (pos 0) minus-m m) minus-m
+    ∷ case ℤ (nodeOf 1 (pos 0) (pos 0) m m) m
+    ∷ case ℤ (nodeOf 1 (pos 0) (pos 0) m minus-m) minus-m
+    ∷ case ℤ (nodeOf 1 (pos 0) (pos 0) (pos 131072) (pos 3)) (pos 6)
+    ∷ case ℤ (nodeOf 2 (negsuc 4) (pos 5) (pos 6) (pos 0)) (pos 5)
+    ∷ case ℤ (nodeOf 2 (negsuc 4) (pos 5) (negsuc 5) (pos 0)) (negsuc 4)
+    ∷ case ℤ (nodeOf 2 (negsuc 4) (pos 5) (pos 4) (pos 9)) (pos 4)
+    -- P9: a due value of M passes, M + 1 bars; so do −M and −M − 1
+    ∷ case ℕ (statusOf (pump (pos 1073741823) 1 (pos 1) (pos 65536)) (lazily (pump (pos 1073741823) 1 (pos 1) (pos 65536)) 0)) 0
+    ∷ case ℤ (int (lazily (pump (pos 1073741823) 1 (pos 1) (pos 65536)) 1 .q) 0) m
+    ∷ case ℕ (statusOf (pump (pos 1073741823) 1 (pos 2) (pos 65536)) (lazily (pump (pos 1073741823) 1 (pos 2) (pos 65536)) 1)) 2
+    ∷ case ℕ (lazily (pump (pos 1073741823) 1 (pos 2) (pos 65536)) 1 .instants) 0
+    ∷ case ℤ (int (lazily (pump (negsuc 1073741822) 1 (negsuc 0) (pos 65536)) 1 .q) 0) minus-m
+    ∷ case ℕ (statusOf (pump (negsuc 1073741822) 1 (negsuc 1) (pos 65536)) (lazily (pump (negsuc 1073741822) 1 (negsuc 1) (pos 65536)) 0)) 2
+    -- finished goes before range: the value would be beyond M, but its tick is above the horizon
+    ∷ case ℕ (statusOf (pump (pos 1073741823) 100 (pos 9) (pos 65536)) (startOf (pump (pos 1073741823) 100 (pos 9) (pos 65536)))) 1
+    -- the due integrator 0 is no operand of a node of kind 2 whose B is 0, so the node's listener is not reached; by kind 0 it is, through
+    -- a second node too
+    ∷ case Bool (accepted limitFile) true
+    ∷ case Bool (reached (planIn limitFile) (startOf (planIn limitFile) .d) 4 1) false
+    ∷ case ℕ (lazily (planIn limitFile) 1 .updates) 1
+    ∷ case Bool (accepted chainFile) true
+    ∷ case Bool (reached (planIn chainFile) (startOf (planIn chainFile) .d) 4 1) true
+    ∷ case ℕ (lazily (planIn chainFile) 1 .updates) 2
+    ∷ case (List ℤ) (lazily (planIn chainFile) 1 .s) (pos 3 ∷ negsuc 8 ∷ replicate 30 (pos 0))
+    -- two that are due at one tick: both outputs are set before either slope is taken
+    ∷ case Bool (accepted pairFile) true
+    ∷ case (List ℤ) (lazily (planIn pairFile) 1 .q) (pos 10 ∷ pos 10 ∷ replicate 30 (pos 0))
+    ∷ case (List ℤ) (lazily (planIn pairFile) 1 .s) (pos 20 ∷ pos 20 ∷ replicate 30 (pos 0))
+    ∷ case ℕ (lazily (planIn pairFile) 1 .updates) 2
+    -- range names the lowest integrator beyond ±M, not the lowest that is due, and bars that tick's command too
+    ∷ case Bool (accepted rangeFile) true
+    ∷ case ℕ (tickOf (planIn rangeFile) (startOf (planIn rangeFile))) 1
+    ∷ case ℕ (statusOf (planIn rangeFile) (startOf (planIn rangeFile))) 2
+    ∷ case ℕ (integratorOf (planIn rangeFile) (startOf (planIn rangeFile))) 1
+    ∷ case ℕ (lazily (planIn rangeFile) 5 .clock) 0
+    ∷ case ℤ (int (lazily (planIn rangeFile) 5 .inputs) 0) (pos 5)
+    ∷ case (List ℕ) (events (planIn rangeFile) Eager 5 (startOf (planIn rangeFile))) []
+    ∷ case ℕ (plainIntegrator (planIn rangeFile) (plainAfter (planIn rangeFile) 5)) 1
+    -- two commands at one tick are one instant, by ascending source; a command that repeats a value, at the horizon, is obeyed
+    ∷ case Bool (accepted commandsFile) true
+    ∷ case (List ℕ) (events (planIn commandsFile) Lazy 1 (startOf (planIn commandsFile))) (2 ∷ 0 ∷ 0 ∷ 0 ∷ 1 ∷ 0 ∷ 0 ∷ 0 ∷ 7 ∷ 0 ∷ 0 ∷ 0 ∷ 2 ∷ 0 ∷ 0 ∷ 0 ∷ 2 ∷ 0 ∷ 0 ∷ 0 ∷ 248 ∷ 255 ∷ 255 ∷ 255 ∷ [])
+    ∷ case ℕ (lazily (planIn commandsFile) 1 .next) 2
+    ∷ case (List ℤ) (lazily (planIn commandsFile) 1 .inputs) (pos 7 ∷ negsuc 7 ∷ replicate 6 (pos 0))
+    ∷ case ℕ (lazily (planIn commandsFile) 64 .instants) 2
+    ∷ case ℕ (lazily (planIn commandsFile) 64 .clock) 10
+    ∷ case ℕ (lazily (planIn commandsFile) 64 .next) 3
+    ∷ case ℕ (lazily (planIn commandsFile) 64 .updates) 0
+    ∷ case ℕ (eagerly (planIn commandsFile) 64 .updates) 2
+    -- idle: its due tick is never, it is finished, and its unused entries are 0
+    ∷ case ℕ (nat (idleState .run .d) 0) 4294967295
+    ∷ case ℕ (nat (idleState .run .d) 1) 0
+    ∷ case ℕ (statusOf (idleState .plan) (idleState .run)) 1
+    ∷ case State (startState (planIn (encode idlePlan))) idleState
+    -- sound states: loaded, idle, after runs; between two instants with no instant counted
+    ∷ case Bool (isSound (startState cup)) true
+    ∷ case Bool (isSound idleState) true
+    ∷ case Bool (sound (lazily cup 64)) true
+    ∷ case Bool (sound (eagerly cup 64)) true
+    ∷ case Bool (sound (figures (pos 12) (pos 0) (pos 3) (pos 12) 4 4 8 88 5 0 0 0)) true
+    ∷ case Bool (sound (figures (pos 13) (pos 1) (pos 3) (pos 12) 4 4 7 88 4 0 4 8)) true
+    -- and states that are not: x at a level, a wrong slope, a wrong due tick, l above c, c at d, c above the horizon, a wrong next command,
+    -- too many instants, too many updates
+    ∷ case Bool (sound (figures (pos 22) (pos 0) (pos 3) (pos 12) 4 4 5 88 4 0 1 2)) false
+    ∷ case Bool (sound (figures (pos 2) (pos 0) (pos 3) (pos 12) 4 4 11 88 4 0 1 2)) false
+    ∷ case Bool (sound (figures (pos 12) (pos 0) (pos 3) (pos 11) 4 4 8 95 4 0 1 2)) false
+    ∷ case Bool (sound (figures (pos 12) (pos 0) (pos 3) (pos 12) 4 4 9 88 4 0 1 2)) false
+    ∷ case Bool (sound (figures (pos 12) (pos 0) (pos 3) (pos 12) 5 4 9 88 4 0 1 2)) false
+    ∷ case Bool (sound (figures (pos 12) (pos 0) (pos 3) (pos 12) 4 4 8 88 8 1 1 2)) false
+    ∷ case Bool (sound (figures (pos 12) (pos 0) (pos 3) (pos 12) 10 10 14 94 11 1 1 2)) false
+    ∷ case Bool (sound (figures (pos 12) (pos 0) (pos 3) (pos 12) 4 4 8 88 4 1 1 2)) false
+    ∷ case Bool (sound (figures (pos 12) (pos 0) (pos 3) (pos 12) 4 4 8 88 4 0 5 2)) false
+    ∷ case Bool (sound (figures (pos 12) (pos 0) (pos 3) (pos 12) 4 4 8 88 4 0 1 3)) false
+    ∷ []
+
+-- every example is right: each pair of values is equal by computation
+pub examples-right : AllRight examples
+unfolding examples ceilDiv limited within countOf numberAt bytesOf signedOf unsignedOf flat table row joined every some firstFrom
+    horizonIn offsetIn lengthIn startIn countIn part sectionIn columnIn planIn longEnough offsetsKept countKept sizesKept
+    horizonKept counts countsKept integratorKept inputKept kindKept ascends nodeKept linkLimits linkOrdered commandLimits
+    commandOrdered numberOf isClean orElse firstFinding horizonFinding integratorsFinding inputsFinding nodesFinding linksFinding
+    commandsFinding planFinding findingOf accepted lengthOf offsetOf headerWords integratorWords inputWords nodeWords linkWords
+    commandWords fileWords encode nodeOf valueWith valueOf sumOver rateOf upperLevel lowerLevel distance ticksTo dueTick dueOf
+    nextCommand commandTick leastDue nextTick startSlope startDue startOf startState idleState isDue setsInput isCommanded changes
+    dependsWith reaches reached positionAt settingOf settings moves eventBytes eventsAt outputs slopeThen xThen dueThen takenAt
+    tickOf instant eventsOf bars barring statusAt integratorAt statusOf integratorOf isPaused after events positionOf settled
+    plainStart plainTick plainPosition plainOutputs plainInstant plainEventsOf plainStatus plainIntegrator lazyCount plainFrom
+    plainEventsFrom plainAfter plainEvents unusedNat unusedInt planUnused planSound runningUnused integratorSound runningSound
+    isSound
+examples-right =
+    refl & refl & refl & refl & refl & refl & refl & refl & refl & refl & refl & refl & refl & refl & refl & refl & refl & refl & refl & refl &
+    refl & refl & refl & refl & refl & refl & refl & refl & refl & refl & refl & refl & refl & refl & refl & refl & refl & refl & refl & refl &
+    refl & refl & refl & refl & refl & refl & refl & refl & refl & refl & refl & refl & refl & refl & refl & refl & refl & refl & refl & refl &
+    refl & refl & refl & refl & refl & refl & refl & refl & refl & refl & refl & refl & refl & refl & refl & refl & refl & refl & refl & refl &
+    refl & refl & refl & refl & refl & refl & refl & refl & refl & refl & refl & refl & refl & refl & refl & refl & refl & refl & refl & refl &
+    refl & refl & refl & refl & refl & refl & refl & refl & refl & refl & refl & refl & refl & refl & refl & refl & end

@@ -1,0 +1,87 @@
+-- "One instant", steps 1 to 6, and its events.
+use mathlib.Core.Bool.{Bool, true, false, cond, _||_}
+use mathlib.Core.List.{List, [], _∷_}
+use Prim.Native.Nat.{ℕ, zero, suc, _+_, _-_}
+use lib.IntN.{ℤ, pos, _+ℤ_, _*ℤ_}
+use Rattle.bitset.specs.Mask.{countOf}
+use Rattle.words.specs.Word.{wordOf, flat}
+use Rattle.plan.specs.Lists.{nat, int, row, joined}
+use Rattle.plan.specs.declared.Plan.{Plan}
+use Rattle.machine.specs.Values.{valueWith, rateOf}
+use Rattle.machine.specs.Due.{dueOf}
+use Rattle.machine.specs.Next.{nextCommand, nextTick}
+use Rattle.machine.specs.Reach.{isDue, setsInput, changes, reached}
+use Rattle.machine.specs.declared.Running.{Running}
+use Rattle.machine.specs.declared.Engine.{Engine}
+use Rattle.machine.specs.declared.Engine.the-variants.{Lazy, Eager}
+
+-- x+s×(t−l)
+unfoldable pub positionAt : Running → ℕ → ℕ → ℤ
+positionAt r t i = int (r .x) i +ℤ int (r .s) i *ℤ pos (t - nat (r .l) i)
+
+-- the value of input j after those of the first e commands that are of tick t
+unfoldable pub settingOf : Plan → List ℤ → ℕ → ℕ → ℕ → ℤ
+settingOf p u t j zero = int u j
+settingOf p u t j (suc e) = cond (setsInput p t j e) (int (p .values) e) (settingOf p u t j e)
+
+-- 2. "Commands of tick t set their inputs."
+unfoldable pub settings : Plan → List ℤ → ℕ → List ℤ
+settings p u t = row (pos 0) 8 (p .m) (λ j. settingOf p u t j (p .commands))
+
+-- 5. "The lazy engine moves those due or reached, the eager engine all"
+unfoldable pub moves : Plan → Engine → List ℕ → ℕ → ℕ → Bool
+moves p Lazy d t i = isDue d t i || reached p d t i
+moves p Eager d t i = true
+
+-- "Events of an instant: due integrators and commanded inputs by ascending source number, 12 bytes each: tick, source, signed value."
+unfoldable pub eventBytes : ℕ → ℕ → ℤ → List ℕ
+eventBytes t source value = flat (t ∷ source ∷ wordOf value ∷ [])
+
+-- at tick t, with the due ticks d before it, and the outputs q and input values u after it
+unfoldable pub eventsAt : Plan → ℕ → List ℕ → List ℤ → List ℤ → List ℕ
+eventsAt p t d q u = joined (λ i. cond (changes p d t i) (eventBytes t i (valueWith p q u zero i)) []) (p .n + p .m)
+
+module _ (p : Plan) (r : Running) (t : ℕ) where
+  -- 1. "The due integrators (d = t) take q = x+s×(t−l)." The others keep theirs.
+  unfoldable pub outputs : List ℤ
+  outputs = row (pos 0) 32 (p .n) (λ i. cond (isDue (r .d) t i) (positionAt r t i) (int (r .q) i))
+
+  -- 3. and 5. the new slope, by the new outputs and inputs and the node values worked out from them
+  unfoldable pub slopeThen : ℕ → ℤ
+  slopeThen i = rateOf p outputs (settings p (r .inputs) t) i
+
+  -- 5. "x becomes x+s×(t−l) .. A due integrator gets x = q."
+  unfoldable pub xThen : ℕ → ℤ
+  xThen i = cond (isDue (r .d) t i) (int outputs i) (positionAt r t i)
+
+  -- 5. and the new due tick
+  unfoldable pub dueThen : ℕ → ℕ
+  dueThen i = dueOf p outputs i t (xThen i) (slopeThen i)
+
+  -- the instant at tick t, in which the integrators move that pass a test.
+  -- 6. "c = t; instants grows by 1; updates grows by the number of integrators moved, each counted once."
+  unfoldable pub takenAt : (ℕ → Bool) → Running
+  takenAt moved =
+      record {
+        x = row (pos 0) 32 (p .n) (λ i. cond (moved i) (xThen i) (int (r .x) i));
+        q = outputs;
+        s = row (pos 0) 32 (p .n) (λ i. cond (moved i) (slopeThen i) (int (r .s) i));
+        l = row 0 32 (p .n) (λ i. cond (moved i) t (nat (r .l) i));
+        d = row 0 32 (p .n) (λ i. cond (moved i) (dueThen i) (nat (r .d) i));
+        inputs = settings p (r .inputs) t;
+        clock = t;
+        next = nextCommand p t;
+        instants = r .instants + 1;
+        updates = r .updates + countOf moved (p .n);
+      }
+
+module _ (p : Plan) where
+  -- the tick of the next instant
+  unfoldable pub tickOf : Running → ℕ
+  tickOf r = nextTick p (r .d) (r .next)
+
+  unfoldable pub instant : Engine → Running → Running
+  instant engine r = takenAt p r (tickOf r) (moves p engine (r .d) (tickOf r))
+
+  unfoldable pub eventsOf : Running → List ℕ
+  eventsOf r = eventsAt p (tickOf r) (r .d) (outputs p r (tickOf r)) (settings p (r .inputs) (tickOf r))

@@ -1,0 +1,13 @@
+-- "The machine" of document 01, step by step; the plain machine; sound states; and the table of its worked examples.
+pub mod Values
+pub mod Due
+pub mod Next
+pub mod Start
+pub mod Reach
+pub mod Instant
+pub mod Status
+pub mod Runs
+pub mod Plain
+pub mod Sound
+pub mod SoundTest
+pub mod Examples

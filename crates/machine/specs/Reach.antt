@@ -1,0 +1,53 @@
+-- Steps 2 and 4: which inputs are commanded, what depends on what changes, and which integrators are reached.
+use mathlib.Core.Path.{_≡_}
+use mathlib.Core.Bool.{Bool, cond, not, _&&_, _||_}
+use mathlib.Core.List.{List}
+use Prim.Native.Nat.{ℕ, zero, suc, _+_, _-_, _<_}
+use lib.Dec.{ltb, eqb}
+use Rattle.plan.specs.Lists.{nat, some}
+use Rattle.plan.specs.declared.Plan.{Plan}
+
+-- "The due integrators (d = t)"
+unfoldable pub isDue : List ℕ → ℕ → ℕ → Bool
+isDue d t i = eqb (nat d i) t
+
+-- command e is one "of tick t" and sets input j
+unfoldable pub setsInput : Plan → ℕ → ℕ → ℕ → Bool
+setsInput p t j e = eqb (nat (p .ticks) e) t && eqb (nat (p .numbers) e) j
+
+unfoldable pub isCommanded : Plan → ℕ → ℕ → Bool
+isCommanded p t j = some (setsInput p t j) (p .commands)
+
+-- with the due ticks d, at tick t
+module _ (p : Plan) (d : List ℕ) (t : ℕ) where
+  -- source i is a due integrator or a commanded input
+  unfoldable pub changes : ℕ → Bool
+  changes i = cond (ltb i (p .n)) (isDue d t i) (ltb i (p .n + p .m) && isCommanded p t (i - p .n))
+
+  -- Source i is one, or a node that depends on one, where only the first j nodes are looked at: "dependence is followed down through
+  -- lower-numbered nodes". Kind 2 names nothing by B.
+  unfoldable pub dependsWith : ℕ → ℕ → Bool
+  dependsWith zero i = changes i
+  dependsWith (suc j) i =
+      cond (eqb i (p .n + p .m + j))
+      (dependsWith j (nat (p .lefts) j) || (not (eqb (nat (p .kinds) j) 2) && dependsWith j (nat (p .rights) j)))
+      (dependsWith j i)
+
+  -- link e is integrator i's own, and names a source that changes or depends on one that does
+  unfoldable pub reaches : ℕ → ℕ → Bool
+  reaches i e = eqb (nat (p .targets) e) i && dependsWith (p .k) (nat (p .sources) e)
+
+  -- "An integrator is reached if a link of its own names a due integrator, a commanded input, or a node that depends on one"
+  unfoldable pub reached : ℕ → Bool
+  reached i = some (reaches i) (p .links)
+
+  -- the same in document 01's words: a source that is a due integrator, a commanded input, or a node that depends on one
+  pub data Depends : ℕ → Type 0 where
+    due : {i : ℕ} → i < p .n → nat d i ≡ t → Depends i
+    commanded : {i : ℕ} (j e : ℕ) → i ≡ p .n + j → j < p .m → e < p .commands → nat (p .ticks) e ≡ t → nat (p .numbers) e ≡ j → Depends i
+    left : {i : ℕ} (j : ℕ) → i ≡ p .n + p .m + j → j < p .k → Depends (nat (p .lefts) j) → Depends i
+    right : {i : ℕ} (j : ℕ) → i ≡ p .n + p .m + j → j < p .k → (nat (p .kinds) j ≡ 2 → ⊥) → Depends (nat (p .rights) j) → Depends i
+
+  -- "a link of its own names" such a source
+  pub data Reached : ℕ → Type 0 where
+    link : {i : ℕ} (e : ℕ) → e < p .links → nat (p .targets) e ≡ i → Depends (nat (p .sources) e) → Reached i

@@ -1,0 +1,25 @@
+-- "A run with budget b takes b instants, or fewer if the status is first 1 or 2"; and "Position call".
+use mathlib.Core.Bool.{cond}
+use mathlib.Core.List.{List, [], _++_}
+use Prim.Native.Nat.{ℕ, zero, suc}
+use lib.IntN.{ℤ}
+use Rattle.plan.specs.declared.Plan.{Plan}
+use Rattle.machine.specs.Instant.{positionAt, instant, eventsOf}
+use Rattle.machine.specs.Status.{isPaused}
+use Rattle.machine.specs.declared.Running.{Running}
+use Rattle.machine.specs.declared.Engine.{Engine}
+
+module _ (p : Plan) (engine : Engine) where
+  -- the running figures after a run
+  unfoldable pub after : ℕ → Running → Running
+  after zero r = r
+  after (suc b) r = cond (isPaused p r) (after b (instant p engine r)) r
+
+  -- the bytes of its events
+  unfoldable pub events : ℕ → Running → List ℕ
+  events zero r = []
+  events (suc b) r = cond (isPaused p r) (eventsOf p r ++ events b (instant p engine r)) []
+
+-- "Position call: x+s×(c−l) for a numbered integrator."
+unfoldable pub positionOf : Running → ℕ → ℤ
+positionOf r i = positionAt r (r .clock) i

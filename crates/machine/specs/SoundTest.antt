@@ -1,0 +1,64 @@
+-- "A sound state" as a test, which the calls that take a state try first. The counts are tested before anything that they bound.
+use mathlib.Core.Bool.{Bool, _&&_, _||_}
+use mathlib.Core.List.{List}
+use Prim.Native.Nat.{ℕ, _*_}
+use lib.IntN.{ℤ, pos, _-ℤ_}
+use lib.Signed.{ltZ}
+use lib.Dec.{leb, ltb, eqb}
+use Rattle.integers.specs.Parts.{∣_∣}
+use Rattle.integers.specs.Range.{within}
+use Rattle.plan.specs.Format.{M}
+use Rattle.plan.specs.Lists.{nat, int, every}
+use Rattle.plan.specs.Tests.{countsKept}
+use Rattle.plan.specs.Refusals.{isClean, planFinding}
+use Rattle.plan.specs.declared.Plan.{Plan}
+use Rattle.machine.specs.Values.{rateOf}
+use Rattle.machine.specs.Due.{upperLevel, lowerLevel, dueOf}
+use Rattle.machine.specs.Next.{nextCommand}
+use Rattle.machine.specs.declared.Running.{Running}
+use Rattle.machine.specs.declared.State.{State}
+
+unfoldable pub unusedNat : ℕ → ℕ → List ℕ → Bool
+unusedNat w k xs = every (λ i. ltb i k || eqb (nat xs i) 0) w
+
+unfoldable pub unusedInt : ℕ → ℕ → List ℤ → Bool
+unusedInt w k xs = every (λ i. ltb i k || eqb ∣ int xs i ∣ 0) w
+
+unfoldable pub planUnused : Plan → Bool
+planUnused p =
+    unusedInt 32 (p .n) (p .starts) && unusedInt 32 (p .n) (p .quanta) && unusedInt 8 (p .m) (p .firsts)
+    && unusedNat 16 (p .k) (p .kinds) && unusedNat 16 (p .k) (p .lefts) && unusedNat 16 (p .k) (p .rights)
+    && unusedInt 16 (p .k) (p .lows) && unusedInt 16 (p .k) (p .highs)
+    && unusedNat 256 (p .links) (p .targets) && unusedNat 256 (p .links) (p .sources) && unusedInt 256 (p .links) (p .coefficients)
+    && unusedNat 64 (p .commands) (p .ticks) && unusedNat 64 (p .commands) (p .numbers) && unusedInt 64 (p .commands) (p .values)
+
+-- the plan of a state: its counts, its rules 4 to 9, its unused entries
+unfoldable pub planSound : Plan → Bool
+planSound p = countsKept p && isClean (planFinding p) && planUnused p
+
+module _ (p : Plan) (r : Running) where
+  unfoldable pub runningUnused : Bool
+  runningUnused =
+      unusedInt 32 (p .n) (r .x) && unusedInt 32 (p .n) (r .q) && unusedInt 32 (p .n) (r .s)
+      && unusedNat 32 (p .n) (r .l) && unusedNat 32 (p .n) (r .d) && unusedInt 8 (p .m) (r .inputs)
+
+  -- "|x−q| < D" is tested as x strictly between the levels, since x may be any 64-bit number
+  unfoldable pub integratorSound : ℕ → Bool
+  integratorSound i =
+      leb (nat (r .l) i) (r .clock) && ltb (r .clock) (nat (r .d) i)
+      && within M (int (r .q) i)
+      && ltZ (lowerLevel p (r .q) i) (int (r .x) i) && ltZ (int (r .x) i) (upperLevel p (r .q) i)
+      && eqb ∣ int (r .s) i -ℤ rateOf p (r .q) (r .inputs) i ∣ 0
+      && eqb (nat (r .d) i) (dueOf p (r .q) i (nat (r .l) i) (int (r .x) i) (int (r .s) i))
+
+  unfoldable pub runningSound : Bool
+  runningSound =
+      leb (r .clock) (p .horizon)
+      && every integratorSound (p .n)
+      && every (λ j. within M (int (r .inputs) j)) (p .m)
+      && eqb (r .next) (nextCommand p (r .clock))
+      && leb (r .instants) (r .clock) && leb (r .updates) (p .n * r .instants)
+      && runningUnused
+
+unfoldable pub isSound : State → Bool
+isSound st = planSound (st .plan) && runningSound (st .plan) (st .run)

@@ -1,0 +1,51 @@
+-- Node kinds, the values of sources, and "Rate".
+use mathlib.Core.Bool.{cond}
+use mathlib.Core.List.{List}
+use Prim.Native.Nat.{ℕ, zero, suc, _+_, _-_}
+use lib.IntN.{ℤ, pos, negℤ, _+ℤ_, _-ℤ_, _*ℤ_}
+use lib.Signed.{leZ}
+use lib.Dec.{ltb, eqb}
+use Rattle.integers.specs.Division.{floored}
+use Rattle.integers.specs.Range.{limited}
+use Rattle.plan.specs.Format.{M}
+use Rattle.plan.specs.Lists.{nat, int}
+use Rattle.plan.specs.declared.Plan.{Plan}
+
+-- "clipped to ±M"
+abbrev pub clipped : ℤ → ℤ
+clipped z = limited (negℤ (pos M)) (pos M) z
+
+-- "Node kinds, with a and b the values of A and B: 0 is a−b; 1 is floor(a×b / 65,536); both then clipped to ±M .. 2 is a limited to lo..hi
+-- .. 3 is hi if a ≥ b, else lo."
+unfoldable pub nodeOf : ℕ → ℤ → ℤ → ℤ → ℤ → ℤ
+nodeOf kind lo hi a b =
+    cond (eqb kind 0) (clipped (a -ℤ b))
+    (cond (eqb kind 1) (clipped (floored (a *ℤ b)))
+    (cond (eqb kind 2) (limited lo hi a)
+    (cond (leZ b a) hi lo)))
+
+-- with the outputs q and the input values u
+module _ (p : Plan) (q u : List ℤ) where
+  -- The value of source i once the first j nodes are worked out: "integrators 0 to n−1, inputs n to n+m−1, nodes from n+m"; "Integrators
+  -- give q, inputs their value, nodes their value." A node that is not worked out yet counts as 0.
+  unfoldable pub valueWith : ℕ → ℕ → ℤ
+  valueWith zero i = cond (ltb i (p .n)) (int q i) (cond (ltb i (p .n + p .m)) (int u (i - p .n)) (pos 0))
+  valueWith (suc j) i =
+      cond (eqb i (p .n + p .m + j))
+      (nodeOf (nat (p .kinds) j) (int (p .lows) j) (int (p .highs) j) (valueWith j (nat (p .lefts) j)) (valueWith j (nat (p .rights) j)))
+      (valueWith j i)
+
+  -- "Node values are worked out in node order."
+  unfoldable pub valueOf : ℕ → ℤ
+  valueOf i = valueWith (p .k) i
+
+  -- the sum of coefficient × source value over those of the first e links that are integrator i's
+  unfoldable pub sumOver : ℕ → ℕ → ℤ
+  sumOver i zero = pos 0
+  sumOver i (suc e) =
+      sumOver i e
+      +ℤ cond (eqb (nat (p .targets) e) i) (int (p .coefficients) e *ℤ valueOf (nat (p .sources) e)) (pos 0)
+
+  -- "s = floor(sum of coefficient × source value over its links / 65,536)"
+  unfoldable pub rateOf : ℕ → ℤ
+  rateOf i = floored (sumOver i (p .links))

@@ -1,0 +1,75 @@
+// The state of the machine of document 01: the plan, and the running figures.
+ghost use mathlib.Core.Path.{_≡_};
+ghost use lib.IntN.{pos};
+ghost use Rattle.plan.specs.Format.{M};
+ghost use Rattle.machine.specs.Due.{never};
+ghost use Rattle.machine.specs.Start.{idleState};
+use plan::Plan;
+
+// Per integrator position x, output q, slope s, last-moved tick l and due tick d, 0 in the unused entries; the input values; the
+// clock, the number of the next command, instants and updates.
+pub struct Running {
+    pub x: [i64; 32],
+    pub q: [i64; 32],
+    pub s: [i64; 32],
+    pub l: [u32; 32],
+    pub d: [u32; 32],
+    pub inputs: [i64; 8],
+    pub clock: u32,
+    pub next: usize,
+    pub instants: u64,
+    pub updates: u64,
+}
+
+pub struct State {
+    pub plan: Plan,
+    pub run: Running,
+}
+
+// The lazy engine moves the integrators that are due or reached, the eager engine all.
+pub enum Engine {
+    Lazy,
+    Eager,
+}
+
+impl State {
+    // the largest value, 2^30
+    pub const M: i64 = 1073741824;
+
+    // the due tick of an integrator that does not move: the largest u32, above every tick that can occur
+    pub const NEVER: u32 = 4294967295;
+
+    pub fn largest() -> i64
+        ensures { λ r. ⌜ r ≡ pos M ⌝ }
+    {
+        State::M
+    }
+
+    pub fn never() -> u32
+        ensures { λ r. ⌜ r ≡ never ⌝ }
+    {
+        State::NEVER
+    }
+
+    // One integrator that never moves: the start of the plan that `Plan::idle` gives.
+    pub fn idle() -> Self
+        ensures { λ r. ⌜ r ≡ idleState ⌝ }
+    {
+        let plan = Plan::idle();
+        let mut d = [0; 32];
+        d[0] = State::NEVER;
+        let run = Running {
+            x: [0; 32],
+            q: [0; 32],
+            s: [0; 32],
+            l: [0; 32],
+            d,
+            inputs: [0; 8],
+            clock: 0,
+            next: 0,
+            instants: 0,
+            updates: 0,
+        };
+        Self { plan, run }
+    }
+}
