@@ -1,0 +1,88 @@
+-- The limits of docs/LIMITS.md as statements: of an accepted file, and of a sound state, whether or not a run reaches it.
+use mathlib.Core.Path.{_≡_}
+use mathlib.Core.Logic.{_⊎_}
+use mathlib.Core.List.{List}
+use Prim.Native.Nat.{ℕ, _+_, _-_, _*_, _^_, _≤_, _<_}
+use lib.IntN.{ℤ, pos, _-ℤ_, _*ℤ_}
+use lib.Dec.{eqb}
+use lib.ListN.{length}
+use Rattle.integers.specs.Parts.{up, ∣_∣}
+use Rattle.bitset.specs.Mask.{countOf}
+use Rattle.plan.specs.Format.{M, offsetIn, lengthIn}
+use Rattle.plan.specs.Lists.{nat, int}
+use Rattle.plan.specs.declared.Plan.{Plan}
+use Rattle.machine.specs.Values.{valueOf, sumOver}
+use Rattle.machine.specs.Due.{never, upperLevel, lowerLevel, distance, ticksTo}
+use Rattle.machine.specs.Instant.{positionAt}
+use Rattle.machine.specs.Runs.{events, positionOf}
+use Rattle.machine.specs.declared.Running.{Running}
+use Rattle.machine.specs.declared.State.{State}
+use Rattle.machine.specs.declared.Engine.{Engine}
+use Rattle.simulator.specs.Calls.{loadOf, writeOf, roomOf, runOf, positionedOf}
+use Rattle.simulator.specs.declared.Ran.{Ran}
+
+-- of what a run answers
+pub record RunLimits (answer : Ran) : Type 0 where
+  pub number : answer .number ≤ 14
+  pub status : answer .status ≤ 2
+  pub integrator : answer .integrator ≤ 31
+  pub written : answer .written ≤ 491520
+
+-- of an accepted file
+pub record AcceptedLimits (file : List ℕ) : Type 0 where
+  pub shortest : 52 ≤ length file
+  pub longest : length file ≤ 4492
+
+-- of any file: its directory, whatever it says, and its answer
+pub record FileLimits (file : List ℕ) : Type 0 where
+  pub offset : (k : ℕ) → offsetIn file k < 2 ^ 32
+  pub size : (k : ℕ) → lengthIn file k < 2 ^ 32
+  pub end : (k : ℕ) → offsetIn file k + lengthIn file k < 2 ^ 33
+  pub number : loadOf file .number ≤ 9
+  pub entry : loadOf file .entry ≤ 255
+
+-- of what the other calls answer on any state
+pub record AnswerLimits (st : State) : Type 0 where
+  pub write : (buffer : List ℕ) → (writeOf st buffer .number ≤ 14) × (writeOf st buffer .length ≤ 4492)
+  pub position : (i : ℕ) → (positionedOf st i .number ≤ 14) × (∣ positionedOf st i .value ∣ < 2 ^ 31)
+  pub run : (engine : Engine) (budget : ℕ) (buffer : List ℕ) → RunLimits (runOf engine st budget buffer)
+
+module _ (p : Plan) (r : Running) where
+  -- x's distance to the level ahead, and the ticks to it
+  abbrev pub distanceOf : ℕ → ℤ
+  distanceOf i = distance (int (r .x) i) (upperLevel p (r .q) i) (lowerLevel p (r .q) i) (int (r .s) i)
+
+  abbrev pub ticksOf : ℕ → ℕ
+  ticksOf i = ticksTo (int (r .x) i) (upperLevel p (r .q) i) (lowerLevel p (r .q) i) (int (r .s) i)
+
+  -- of integrator i
+  pub record IntegratorLimits (i : ℕ) : Type 0 where
+    pub stored : ∣ int (r .x) i ∣ < 2 ^ 31
+    pub position : ∣ positionOf r i ∣ < 2 ^ 31
+    pub upper : ∣ upperLevel p (r .q) i ∣ ≤ 2 ^ 31
+    pub lower : ∣ lowerLevel p (r .q) i ∣ ≤ 2 ^ 31
+    pub own-links : countOf (λ e. eqb (nat (p .targets) e) i) (p .links) ≤ 56
+    pub sum : (e : ℕ) → e ≤ p .links → ∣ sumOver p (r .q) (r .inputs) i e ∣ ≤ 56 * 2 ^ 54
+    pub slope : ∣ int (r .s) i ∣ ≤ 56 * 2 ^ 38
+    pub nearest : 1 ≤ up (distanceOf i)
+    pub farthest : up (distanceOf i) < 2 ^ 31
+    pub soonest : 1 ≤ ticksOf i
+    pub latest : ticksOf i < 2 ^ 31
+    pub due : (nat (r .d) i ≡ never) ⊎ (nat (r .d) i ≤ 2000000000 + (2 ^ 31 - 1))
+    -- up to the due tick
+    pub elapsed : (t : ℕ) → r .clock ≤ t → t ≤ nat (r .d) i → ∣ int (r .s) i *ℤ pos (t - nat (r .l) i) ∣ < 2 ^ 32 + 2 ^ 44
+    pub value : nat (r .d) i < never → ∣ positionAt r (nat (r .d) i) i ∣ < 2 ^ 32 + 2 ^ 44
+
+  pub record StateLimits : Type 0 where
+    pub integrators : (i : ℕ) → i < p .n → IntegratorLimits i
+    -- of the value of every source, so of a node's operands; of their difference and product before the clip
+    pub values : (i : ℕ) → ∣ valueOf p (r .q) (r .inputs) i ∣ ≤ M
+    pub differences : (i j : ℕ) → ∣ valueOf p (r .q) (r .inputs) i -ℤ valueOf p (r .q) (r .inputs) j ∣ ≤ 2 ^ 31
+    pub products : (i j : ℕ) → ∣ valueOf p (r .q) (r .inputs) i *ℤ valueOf p (r .q) (r .inputs) j ∣ ≤ 2 ^ 60
+    pub terms : (e : ℕ) → e < p .links → ∣ int (p .coefficients) e *ℤ valueOf p (r .q) (r .inputs) (nat (p .sources) e) ∣ ≤ 2 ^ 54
+    pub next : r .next ≤ 64
+    pub instants : r .instants ≤ 2000000000
+    pub updates : r .updates ≤ 32 * 2000000000
+    -- the bytes of a run
+    pub bytes : (engine : Engine) (budget : ℕ) → length (events p engine budget r) ≤ roomOf p budget
+    pub room : (budget : ℕ) → budget ≤ 1024 → roomOf p budget ≤ 491520

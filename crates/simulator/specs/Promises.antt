@@ -1,0 +1,189 @@
+-- The promises, as statements. Each is a type: a proof of it is a term of exactly that type. Nothing is assumed here, and nothing proved.
+use mathlib.Core.Path.{_≡_}
+use mathlib.Core.Bool.{Bool, true, false, cond}
+use mathlib.Core.List.{List, [], _∷_, _++_}
+use Prim.Native.Nat.{ℕ, suc, _+_, _-_, _^_, _≤_, _<_}
+use lib.IntN.{ℤ, pos, negsuc}
+use lib.Signed.{_≤ℤ_}
+use lib.Dec.{ltb}
+use lib.ListN.{length, take, drop}
+use Rattle.words.specs.Word.{Bytes, word, signedWord}
+use Rattle.plan.specs.Lists.{nat, int}
+use Rattle.plan.specs.Format.{Shaped, part, offsetIn, lengthIn, planIn}
+use Rattle.plan.specs.Refusals.{accepted, sectionOf}
+use Rattle.plan.specs.Rules.{Rule, Holds, ruleEntries}
+use Rattle.plan.specs.Encoding.{fileLength, encode}
+use Rattle.plan.specs.Idle.{idlePlan}
+use Rattle.plan.specs.declared.Plan.{Plan}
+use Rattle.machine.specs.Due.{ticksTo, LeastReaching}
+use Rattle.machine.specs.Start.{startState, idleState}
+use Rattle.machine.specs.Instant.{eventBytes}
+use Rattle.machine.specs.Status.{statusOf, integratorOf}
+use Rattle.machine.specs.Plain.{Plain, plainAfter, plainEvents, plainStatus, plainIntegrator}
+use Rattle.machine.specs.Sound.{Sound}
+use Rattle.machine.specs.SoundTest.{isSound}
+use Rattle.machine.specs.declared.Running.{Running}
+use Rattle.machine.specs.declared.State.{State}
+use Rattle.machine.specs.declared.Engine.{Engine}
+use Rattle.machine.specs.declared.Engine.the-variants.{Lazy, Eager}
+use Rattle.simulator.specs.Calls.{over, loadOf, writeOf, bufferOfWrite, declineOf, runOf, bufferOfRun, positionedOf}
+use Rattle.simulator.specs.Lists.{Call, answerOf, bufferOf, afterCalls, budgetSum, joinedBytes, engineAt, cutAt, allBy, growth}
+use Rattle.simulator.specs.Lists.{growthUpTo, movedNow}
+use Rattle.simulator.specs.Limits.{AcceptedLimits, FileLimits, AnswerLimits, StateLimits}
+use Rattle.simulator.specs.declared.Positioned.{Positioned}
+
+-- ════ 1. "Every file of any length and content is loaded or refused by number and entry"
+
+-- what number and entry mean, by the rules as propositions
+pub record Answered (file : List ℕ) (number entry : ℕ) : Type 0 where
+  pub known : number ≤ 9
+  -- number 0: every entry keeps every rule, and the entry is 0
+  pub accepts : number ≡ 0 → ((k : ℕ) → Holds file k) × (entry ≡ 0)
+  -- any other: the rules of lower numbers hold; the entry is one of its rule's, those below it keep the rule, and it breaks it
+  pub earlier : (k : ℕ) → k < number → Holds file k
+  pub there : 0 < number → entry < nat (ruleEntries file) number
+  pub lowest : (e : ℕ) → e < entry → Rule file number e
+  pub broken : 0 < number → Rule file number entry → ⊥
+
+-- "Load accepts every file that meets none of 1 to 9", else the state is idle
+pub record LoadPromise (file : List ℕ) : Type 0 where
+  pub answered : Answered file (loadOf file .number) (loadOf file .entry)
+  pub started : loadOf file .number ≡ 0 → loadOf file .state ≡ startState (planIn file)
+  pub idle : (loadOf file .number ≡ 0 → ⊥) → loadOf file .state ≡ idleState
+
+abbrev pub EveryFile : Type 0
+EveryFile = (file : List ℕ) → Bytes file → LoadPromise file
+
+-- The section view: "that part of the caller's own file", by the directory, "or an empty part"
+pub record ViewPromise (file : List ℕ) (number : ℕ) : Type 0 where
+  pub shown : loadOf file .number ≡ 0 → number ≤ 4 → sectionOf file number ≡ part file (offsetIn file number) (lengthIn file number)
+  pub whole : loadOf file .number ≡ 0 → number ≤ 4 → length (sectionOf file number) ≡ lengthIn file number
+  pub refused : (loadOf file .number ≡ 0 → ⊥) → sectionOf file number ≡ []
+  pub above : 4 < number → sectionOf file number ≡ []
+
+abbrev pub EveryView : Type 0
+EveryView = (file : List ℕ) (number : ℕ) → Bytes file → ViewPromise file number
+
+-- ════ 2. "written and loaded plans come back equal"
+
+-- a file that load accepts is written back: its length and its bytes, and the buffer's later bytes kept
+pub record WrittenBack (file buffer : List ℕ) : Type 0 where
+  pub number : writeOf (loadOf file .state) buffer .number ≡ 0
+  pub size : writeOf (loadOf file .state) buffer .length ≡ length file
+  pub bytes : bufferOfWrite (loadOf file .state) buffer ≡ file ++ drop (length file) buffer
+
+abbrev pub LoadThenWrite : Type 0
+LoadThenWrite =
+    (file buffer : List ℕ) → Bytes file → loadOf file .number ≡ 0 → length file ≤ length buffer → WrittenBack file buffer
+
+-- what was written for a sound state is loaded as that plan's start. `Shaped` says that the plan is one that a struct can hold
+pub record LoadedBack (st : State) (buffer : List ℕ) : Type 0 where
+  pub number : loadOf (take (writeOf st buffer .length) (bufferOfWrite st buffer)) .number ≡ 0
+  pub entry : loadOf (take (writeOf st buffer .length) (bufferOfWrite st buffer)) .entry ≡ 0
+  pub state : loadOf (take (writeOf st buffer .length) (bufferOfWrite st buffer)) .state ≡ startState (st .plan)
+
+abbrev pub WriteThenLoad : Type 0
+WriteThenLoad = (st : State) (buffer : List ℕ) → Shaped (st .plan) → Sound st → writeOf st buffer .number ≡ 0 → LoadedBack st buffer
+
+-- the 12 bytes of an event read back to tick, source and value
+abbrev pub EventsRead : Type 0
+EventsRead =
+    (t source : ℕ) (value : ℤ) → t < 2 ^ 32 → source < 2 ^ 32 → negsuc (2 ^ 31 - 1) ≤ℤ value → value ≤ℤ pos (2 ^ 31 - 1)
+    → (length (eventBytes t source value) ≡ 12) × (word (eventBytes t source value) 0 ≡ t) × (word (eventBytes t source value) 4 ≡ source)
+    × (signedWord (eventBytes t source value) 8 ≡ value)
+
+-- ════ 3. Demand 3: "for every accepted plan and every list of run calls, lazy and eager in any mix, declined ones included, the outcome is that
+-- of the plain machine for the sum of the accepted budgets, and the update count is exact". "demand 3 is a single claim about the list".
+
+-- what a call of a list answers in itself
+pub record CallPromise (p : Plan) (st : State) (c : Call) : Type 0 where
+  -- "There a call is declined by 11 or 12 only", and by these exactly as they are named; never by 10
+  pub number : answerOf st c .number ≡ declineOf p (c .budget) (length (c .buffer))
+  -- "Each accepted call answers the status and integrator of the state it returns."
+  pub status : answerOf st c .number ≡ 0 → answerOf st c .status ≡ statusOf p (answerOf st c .state .run)
+  pub integrator : answerOf st c .number ≡ 0 → answerOf st c .integrator ≡ integratorOf p (answerOf st c .state .run)
+  -- "later bytes keep their value"
+  pub later : drop (answerOf st c .written) (bufferOf st c) ≡ drop (answerOf st c .written) (c .buffer)
+  -- "a refusal changes nothing that was lent"
+  pub declined : (answerOf st c .number ≡ 0 → ⊥) → (answerOf st c .state ≡ st) × (bufferOf st c ≡ c .buffer)
+
+-- "Plain machine and engines are compared on everything but l, the stored x and updates"
+pub record SameAsPlain (p : Plan) (st : State) (m : Plain) : Type 0 where
+  pub plan : st .plan ≡ p
+  pub q : st .run .q ≡ m .q
+  pub s : st .run .s ≡ m .s
+  pub d : st .run .d ≡ m .d
+  pub inputs : st .run .inputs ≡ m .inputs
+  pub clock : st .run .clock ≡ m .clock
+  pub next : st .run .next ≡ m .next
+  pub instants : st .run .instants ≡ m .instants
+  -- "that takes in status and its integrator by the rule above, the position call for every integrator"
+  pub status : statusOf p (st .run) ≡ plainStatus p m
+  pub integrator : integratorOf p (st .run) ≡ plainIntegrator p m
+  pub position : (i : ℕ) → i < p .n → positionedOf st i ≡ record { number = 0; value = int (m .x) i; state = st }
+  pub no-position : (i : ℕ) → p .n ≤ i → positionedOf st i ≡ record { number = 14; value = pos 0; state = st }
+
+-- instant i of a list, by the list cut behind it: the state after it is that list's end
+pub record InstantPromise (p : Plan) (st : State) (calls : List Call) (i : ℕ) : Type 0 where
+  pub reached : afterCalls st (cutAt st calls i) .run .instants ≡ i
+  -- "this is the number of integrators with l = c after it"
+  pub moved : movedNow p (afterCalls st (cutAt st calls i) .run) ≡ growth p (engineAt st calls i) (plainAfter p (i - 1))
+  pub grown : afterCalls st (cutAt st calls i) .run .updates ≡ growthUpTo p (engineAt st calls) i
+
+-- the claim about a list, from the loaded state
+pub record ListPromise (p : Plan) (st : State) (calls : List Call) : Type 0 where
+  pub each : (earlier : List Call) (c : Call) (later : List Call) → calls ≡ earlier ++ (c ∷ later) → CallPromise p (afterCalls st earlier) c
+  pub state : SameAsPlain p (afterCalls st calls) (plainAfter p (budgetSum st calls))
+  -- "and the bytes that accepted calls answer as written, joined in call order"
+  pub bytes : joinedBytes st calls ≡ plainEvents p (budgetSum st calls)
+  pub instants : (i : ℕ) → 1 ≤ i → i ≤ plainAfter p (budgetSum st calls) .instants → InstantPromise p st calls i
+  pub updates : afterCalls st calls .run .updates ≡ growthUpTo p (engineAt st calls) (plainAfter p (budgetSum st calls) .instants)
+  -- lists with an equal sum end alike: as the same plain machine, by the same bytes
+  pub alike : (others : List Call) → budgetSum st others ≡ budgetSum st calls
+      → SameAsPlain p (afterCalls st others) (plainAfter p (budgetSum st calls)) × (joinedBytes st others ≡ joinedBytes st calls)
+  -- the same list made all lazy, or all eager, has the same sum, and bounds the updates
+  pub same-sum : (engine : Engine) → budgetSum st (allBy engine calls) ≡ budgetSum st calls
+  pub fewest : afterCalls st (allBy Lazy calls) .run .updates ≤ afterCalls st calls .run .updates
+  pub most : afterCalls st calls .run .updates ≤ afterCalls st (allBy Eager calls) .run .updates
+
+abbrev pub Demand3 : Type 0
+Demand3 = (file : List ℕ) → Bytes file → loadOf file .number ≡ 0 → (calls : List Call) → ListPromise (planIn file) (loadOf file .state) calls
+
+-- ════ 4. "Loading and runs leave sound states."
+
+-- the test that the calls try is the clauses of "A sound state"
+abbrev pub SoundMeans : Type 0
+SoundMeans = (st : State) → (isSound st ≡ true → Sound st) × (Sound st → isSound st ≡ true)
+
+abbrev pub LoadSound : Type 0
+LoadSound = (file : List ℕ) → Bytes file → Sound (loadOf file .state)
+
+abbrev pub RunSound : Type 0
+RunSound = (engine : Engine) (st : State) (budget : ℕ) (buffer : List ℕ) → Sound st → Sound (runOf engine st budget buffer .state)
+
+-- "idle is the start of one integrator (start 0, quantum 1), nothing else, horizon 1"; its file has 52 bytes
+abbrev pub IdleLoaded : Type 0
+IdleLoaded =
+    (length (encode idlePlan) ≡ 52) × (loadOf (encode idlePlan) ≡ record { number = 0; entry = 0; state = idleState }) × Sound idleState
+
+-- declined calls leave state and buffer as they were, and every other figure is 0
+pub record DeclinedPromise (st : State) (buffer : List ℕ) : Type 0 where
+  pub write : (writeOf st buffer .number ≡ 0 → ⊥) → (writeOf st buffer .length ≡ 0) × (writeOf st buffer .state ≡ st) × (bufferOfWrite st buffer ≡ buffer)
+  pub run : (engine : Engine) (budget : ℕ) → (runOf engine st budget buffer .number ≡ 0 → ⊥)
+      → (runOf engine st budget buffer .status ≡ 0) × (runOf engine st budget buffer .integrator ≡ 0) × (runOf engine st budget buffer .written ≡ 0)
+      × (runOf engine st budget buffer .state ≡ st) × (bufferOfRun engine st budget buffer ≡ buffer)
+  pub position : (i : ℕ) → (positionedOf st i .number ≡ 0 → ⊥) → (positionedOf st i .value ≡ pos 0) × (positionedOf st i .state ≡ st)
+
+abbrev pub Declined : Type 0
+Declined = (st : State) (buffer : List ℕ) → DeclinedPromise st buffer
+
+-- ════ 5. Due: "the least T ≥ 1", for both directions and every x
+abbrev pub DueLeast : Type 0
+DueLeast = (x upper lower s : ℤ) → (s ≡ pos 0 → ⊥) → LeastReaching x upper lower s (ticksTo x upper lower s)
+
+-- ════ 6. The limits, from soundness alone
+pub record LimitPromise : Type 0 where
+  pub accepted-files : (file : List ℕ) → Bytes file → loadOf file .number ≡ 0 → AcceptedLimits file
+  pub files : (file : List ℕ) → Bytes file → FileLimits file
+  pub states : (st : State) → Sound st → StateLimits (st .plan) (st .run)
+  pub answers : (st : State) → AnswerLimits st
