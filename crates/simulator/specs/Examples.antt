@@ -124,6 +124,7 @@ examples =
     ∷ case Engine (engineAt loaded mixed 2) Eager
     ∷ case Engine (engineAt loaded mixed 3) Lazy
     ∷ case ℕ (growthUpTo cupPlan (engineAt loaded mixed) 2) 4
+    ∷ case ℕ (growthUpTo cupPlan (engineAt loaded (allBy Lazy mixed)) 2) 3
     ∷ case ℕ (afterCalls loaded (cutAt loaded mixed 1) .run .instants) 1
     ∷ case ℕ (afterCalls loaded (cutAt loaded mixed 2) .run .instants) 2
     ∷ case ℕ (movedNow cupPlan (afterCalls loaded (cutAt loaded mixed 2) .run)) 2
@@ -151,4 +152,4 @@ unfolding examples ceilDiv limited within countOf numberAt bytesOf signedOf unsi
 examples-right =
     refl & refl & refl & refl & refl & refl & refl & refl & refl & refl & refl & refl & refl & refl & refl & refl & refl & refl & refl & refl &
     refl & refl & refl & refl & refl & refl & refl & refl & refl & refl & refl & refl & refl & refl & refl & refl & refl & refl & refl & refl &
-    refl & refl & refl & refl & end
+    refl & refl & refl & refl & refl & end
