@@ -1,0 +1,177 @@
+//! The public calls on raw states, declines 10 to 14 included.
+
+use crate::engine::run::run;
+use crate::engine::{Engine, Rules, State, Wrong};
+use crate::file::{encode, read, section};
+use crate::limits::{BUDGET_MAX, EVENT_BYTES};
+use crate::raw::RawState;
+use crate::sound::accept;
+
+/// The state is not sound.
+pub const UNSOUND: u32 = 10;
+/// A run's budget is above 1,024.
+pub const BUDGET_ABOVE: u32 = 11;
+/// A run's buffer is too short for its budget.
+pub const SHORT_RUN_BUFFER: u32 = 12;
+/// The plan writer's buffer is shorter than the file.
+pub const SHORT_FILE_BUFFER: u32 = 13;
+/// There is no such integrator.
+pub const NO_SUCH_INTEGRATOR: u32 = 14;
+
+/// What load answers.
+#[derive(Clone, Debug, PartialEq, Eq)]
+pub struct Loaded {
+    /// 0 or the refusal.
+    pub number: u32,
+    /// The lowest faulty entry, 0 for refusals 1 to 4.
+    pub entry: usize,
+    /// The start state, or the idle state.
+    pub state: RawState,
+}
+
+/// What the plan writer answers.
+#[derive(Clone, Debug, PartialEq, Eq)]
+pub struct Written {
+    /// 0 or the decline.
+    pub number: u32,
+    /// Bytes of the file.
+    pub length: usize,
+    /// The state handed in.
+    pub state: RawState,
+}
+
+/// What a run answers.
+#[derive(Clone, Debug, PartialEq, Eq)]
+pub struct Ran {
+    /// 0 or the decline.
+    pub number: u32,
+    /// The status of the returned state.
+    pub status: u32,
+    /// The integrator of status 2.
+    pub integrator: usize,
+    /// Bytes written.
+    pub written: usize,
+    /// The state after the run.
+    pub state: RawState,
+}
+
+/// What the position call answers.
+#[derive(Clone, Debug, PartialEq, Eq)]
+pub struct Positioned {
+    /// 0 or the decline.
+    pub number: u32,
+    /// x + s × (c − l).
+    pub value: i64,
+    /// The state handed in.
+    pub state: RawState,
+}
+
+/// The calls of any simulator, so that the comparisons serve this one and others alike.
+pub trait Simulator {
+    /// Load.
+    fn load(&self, file: &[u8]) -> Loaded;
+    /// The section view.
+    fn section<'f>(&self, file: &'f [u8], number: usize) -> &'f [u8];
+    /// The plan writer.
+    fn write(&self, state: &RawState, buffer: &mut [u8]) -> Written;
+    /// The lazy or the eager run.
+    fn run(&self, engine: Engine, state: &RawState, budget: u64, buffer: &mut [u8]) -> Ran;
+    /// The position call.
+    fn position(&self, state: &RawState, integrator: usize) -> Positioned;
+}
+
+/// This package's simulator, with one rule exchanged on request.
+#[derive(Clone, Copy, Debug, Default)]
+pub struct Checker {
+    /// The exchanged rule of the runs.
+    pub wrong: Wrong,
+}
+
+impl Simulator for Checker {
+    fn load(&self, file: &[u8]) -> Loaded {
+        match read(file) {
+            Ok(plan) => Loaded {
+                number: 0,
+                entry: 0,
+                state: RawState::from(&State::start(plan)),
+            },
+            Err(refusal) => Loaded {
+                number: refusal.number(),
+                entry: refusal.entry,
+                state: RawState::idle(),
+            },
+        }
+    }
+
+    fn section<'f>(&self, file: &'f [u8], number: usize) -> &'f [u8] {
+        section(file, number)
+    }
+
+    fn write(&self, state: &RawState, buffer: &mut [u8]) -> Written {
+        let answer = |number, length| Written {
+            number,
+            length,
+            state: state.clone(),
+        };
+        let Some(sound) = accept(state) else {
+            return answer(UNSOUND, 0);
+        };
+        let file = encode(&sound.plan);
+        if buffer.len() < file.len() {
+            return answer(SHORT_FILE_BUFFER, 0);
+        }
+        buffer[..file.len()].copy_from_slice(&file);
+        answer(0, file.len())
+    }
+
+    fn run(&self, engine: Engine, state: &RawState, budget: u64, buffer: &mut [u8]) -> Ran {
+        let declined = |number| Ran {
+            number,
+            status: 0,
+            integrator: 0,
+            written: 0,
+            state: state.clone(),
+        };
+        let Some(mut running) = accept(state) else {
+            return declined(UNSOUND);
+        };
+        if budget > BUDGET_MAX {
+            return declined(BUDGET_ABOVE);
+        }
+        if buffer.len() < run_bytes(&running, budget) {
+            return declined(SHORT_RUN_BUFFER);
+        }
+        let rules: Rules = self.wrong.rules();
+        let outcome = run(&mut running, engine, budget, buffer, &rules);
+        Ran {
+            number: 0,
+            status: outcome.status.number(),
+            integrator: outcome.status.integrator(),
+            written: outcome.written,
+            state: RawState::from(&running),
+        }
+    }
+
+    fn position(&self, state: &RawState, integrator: usize) -> Positioned {
+        let answer = |number, value| Positioned {
+            number,
+            value,
+            state: state.clone(),
+        };
+        let Some(sound) = accept(state) else {
+            return answer(UNSOUND, 0);
+        };
+        match sound.cells.get(integrator) {
+            None => answer(NO_SUCH_INTEGRATOR, 0),
+            Some(cell) => {
+                let position = cell.position_at(sound.clock);
+                answer(0, i64::try_from(position).expect("between the levels"))
+            }
+        }
+    }
+}
+
+/// The bytes that a run's buffer must have: "budget×(n+m)×12". The budget is at most 1,024 here.
+fn run_bytes(state: &State, budget: u64) -> usize {
+    budget as usize * state.plan.events_per_instant() * EVENT_BYTES
+}

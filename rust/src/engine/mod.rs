@@ -1,0 +1,24 @@
+//! The lazy and the eager engine.
+//!
+//! They keep the state that document 01 names and share no code with the plain machine. What an
+//! instant does is written once; the rules that a known error would replace are reached through
+//! the table [`Rules`], so that a test can exchange one of them and see the comparison fail.
+
+pub mod instant;
+pub mod rules;
+pub mod run;
+pub mod state;
+pub mod wrong;
+
+pub use rules::Rules;
+pub use state::{Cell, State};
+pub use wrong::Wrong;
+
+/// Which integrators an instant moves.
+#[derive(Clone, Copy, Debug, PartialEq, Eq)]
+pub enum Engine {
+    /// Those due or reached.
+    Lazy,
+    /// All.
+    Eager,
+}

@@ -1,0 +1,147 @@
+//! Reading a plan file and viewing its sections.
+
+use super::cause::{Cause, Refusal};
+use super::rules;
+use crate::limits::{Section, HEADER_BYTES, WORD_BYTES};
+use crate::plan::{Command, Integrator, Link, Node, Plan};
+
+/// The five sections of a file, each a part of the file itself.
+pub type Parts<'f> = [&'f [u8]; 5];
+
+/// The plan of a file, or the first of the refusals 1 to 9 that it meets.
+pub fn read(file: &[u8]) -> Result<Plan, Refusal> {
+    let parts = split(file)?;
+    check_counts(&parts)?;
+    let plan = decode(file, &parts);
+    rules::check(&plan)?;
+    Ok(plan)
+}
+
+/// The section view: a part of the caller's own file, "or an empty part if the file would be
+/// refused or the number is above 4".
+pub fn section(file: &[u8], number: usize) -> &[u8] {
+    match read(file).and_then(|_| split(file)) {
+        Ok(parts) if number < parts.len() => parts[number],
+        _ => &file[..0],
+    }
+}
+
+/// Refusals 1 and 2. Offset and length are added as u64, where two words cannot wrap.
+pub fn split(file: &[u8]) -> Result<Parts<'_>, Refusal> {
+    if file.len() < HEADER_BYTES {
+        return Err(Refusal::whole(Cause::ShortFile));
+    }
+    let pairs = pairs(file);
+    check_offsets(&pairs, file.len() as u64)?;
+    // All ends are at most the file's length now, so they fit a usize.
+    Ok(pairs.map(|(offset, length)| &file[offset as usize..(offset + length) as usize]))
+}
+
+fn pairs(file: &[u8]) -> [(u64, u64); 5] {
+    std::array::from_fn(|number| {
+        let at = WORD_BYTES + number * 2 * WORD_BYTES;
+        (
+            u64::from(word(file, at)),
+            u64::from(word(file, at + WORD_BYTES)),
+        )
+    })
+}
+
+fn check_offsets(pairs: &[(u64, u64); 5], file_length: u64) -> Result<(), Refusal> {
+    let mut expected = HEADER_BYTES as u64;
+    for (number, &(offset, length)) in pairs.iter().enumerate() {
+        if offset != expected {
+            let first = number == 0;
+            return Err(Refusal::whole(if first {
+                Cause::FirstOffset
+            } else {
+                Cause::NextOffset
+            }));
+        }
+        expected = offset + length;
+    }
+    if expected != file_length {
+        return Err(Refusal::whole(Cause::FileEnd));
+    }
+    Ok(())
+}
+
+/// Refusal 3, for all sections before the horizon is looked at.
+fn check_counts(parts: &Parts) -> Result<(), Refusal> {
+    for (section, part) in Section::ALL.into_iter().zip(parts) {
+        let count = part.len() / section.entry_bytes();
+        if part.len() % section.entry_bytes() != 0 {
+            return Err(Refusal::whole(Cause::PartOfEntry));
+        }
+        if count < section.least() {
+            return Err(Refusal::whole(Cause::TooFewEntries));
+        }
+        if count > section.most() {
+            return Err(Refusal::whole(Cause::TooManyEntries));
+        }
+    }
+    Ok(())
+}
+
+/// Words to fields, with no test of their values.
+fn decode(file: &[u8], parts: &Parts) -> Plan {
+    let entries = |section: Section| parts[section as usize].chunks_exact(section.entry_bytes());
+    Plan {
+        horizon: word(file, 0),
+        integrators: entries(Section::Integrators).map(integrator).collect(),
+        inputs: entries(Section::Inputs)
+            .map(|entry| signed(entry, 0))
+            .collect(),
+        nodes: entries(Section::Nodes).map(node).collect(),
+        links: entries(Section::Links).map(link).collect(),
+        commands: entries(Section::Commands).map(command).collect(),
+    }
+}
+
+fn integrator(entry: &[u8]) -> Integrator {
+    Integrator {
+        start: signed(entry, 0),
+        quantum: i64::from(word(entry, 4)),
+    }
+}
+
+fn node(entry: &[u8]) -> Node {
+    Node {
+        kind: index(entry, 0),
+        a: index(entry, 4),
+        b: index(entry, 8),
+        low: signed(entry, 12),
+        high: signed(entry, 16),
+    }
+}
+
+fn link(entry: &[u8]) -> Link {
+    Link {
+        target: index(entry, 0),
+        source: index(entry, 4),
+        coefficient: signed(entry, 8),
+    }
+}
+
+fn command(entry: &[u8]) -> Command {
+    Command {
+        tick: word(entry, 0),
+        input: index(entry, 4),
+        value: signed(entry, 8),
+    }
+}
+
+fn word(bytes: &[u8], at: usize) -> u32 {
+    let mut four = [0; WORD_BYTES];
+    four.copy_from_slice(&bytes[at..at + WORD_BYTES]);
+    u32::from_le_bytes(four)
+}
+
+fn signed(bytes: &[u8], at: usize) -> i64 {
+    // Two's complement: the same four bytes as i32.
+    i64::from(word(bytes, at) as i32)
+}
+
+fn index(bytes: &[u8], at: usize) -> usize {
+    word(bytes, at) as usize
+}

@@ -1,0 +1,264 @@
+//! States that break one clause of soundness and keep all others.
+
+use super::plant::in_plan;
+use super::rng::Rng;
+use super::states::{due_tick, first_later_command, moved_to_clock, settle};
+use crate::file::{Cause, Refusal};
+use crate::limits::{GRAINS, M, NEVER};
+use crate::plan::Plan;
+use crate::raw::{RawPlan, RawState};
+use crate::sound::Clause;
+
+/// The clause to break.
+#[derive(Clone, Copy, Debug, PartialEq, Eq)]
+pub enum Breakage {
+    /// A count outside its limits.
+    Counts,
+    /// A plan that breaks one of the rules 4 to 9.
+    Plan,
+    /// An unused entry of the plan that is not 0.
+    UnusedInPlan,
+    /// An unused entry of the running part that is not 0.
+    UnusedInRun,
+    /// c > horizon.
+    ClockAboveHorizon,
+    /// l > c.
+    MovedAfterClock,
+    /// d ≤ c.
+    DueNotAhead,
+    /// |q| > M.
+    OutputBeyond,
+    /// |x − q| ≥ D.
+    PositionOutsideLevels,
+    /// s off Rate, with d as Due asks for that s.
+    Slope,
+    /// d off Due.
+    Due,
+    /// An input beyond ±M.
+    InputBeyond,
+    /// Another next command.
+    NextCommand,
+    /// instants > c.
+    InstantsAboveClock,
+    /// updates > n × instants.
+    UpdatesAboveMoves,
+}
+
+/// A broken state and the clause it breaks.
+pub type Broken = (RawState, Clause);
+
+impl Breakage {
+    /// Every clause.
+    pub const ALL: [Breakage; 15] = [
+        Breakage::Counts,
+        Breakage::Plan,
+        Breakage::UnusedInPlan,
+        Breakage::UnusedInRun,
+        Breakage::ClockAboveHorizon,
+        Breakage::MovedAfterClock,
+        Breakage::DueNotAhead,
+        Breakage::OutputBeyond,
+        Breakage::PositionOutsideLevels,
+        Breakage::Slope,
+        Breakage::Due,
+        Breakage::InputBeyond,
+        Breakage::NextCommand,
+        Breakage::InstantsAboveClock,
+        Breakage::UpdatesAboveMoves,
+    ];
+
+    /// A sound state with this clause broken and no other; `None` if there is no such change.
+    pub fn apply(self, rng: &mut Rng, sound: &RawState) -> Option<Broken> {
+        let plan = sound.plan.to_plan().expect("the state is sound");
+        let cup = rng.below(plan.integrators.len());
+        let mut state = sound.clone();
+        match self {
+            Breakage::Counts => Some(break_count(rng, state)),
+            Breakage::Plan => break_plan(rng, state, plan),
+            Breakage::UnusedInPlan => {
+                spoil_plan(rng, &mut state.plan).then_some((state, Clause::UnusedInPlan))
+            }
+            Breakage::UnusedInRun => {
+                spoil_run(rng, &mut state).then_some((state, Clause::UnusedInRun))
+            }
+            Breakage::ClockAboveHorizon => pass_horizon(state, &plan),
+            Breakage::MovedAfterClock => Some(move_after_clock(state, cup)),
+            Breakage::DueNotAhead => advance_to_due(state, &plan),
+            Breakage::OutputBeyond => Some(output_beyond(rng, state, cup)),
+            Breakage::PositionOutsideLevels => Some(position_outside(rng, state, cup)),
+            Breakage::Slope => Some(change_slope(rng, state, cup)),
+            Breakage::Due => change_due(rng, state, cup),
+            Breakage::InputBeyond => input_beyond(rng, state),
+            Breakage::NextCommand => Some(change_next(rng, state)),
+            Breakage::InstantsAboveClock => {
+                state.run.instants = rng.pick(&[u64::from(state.run.clock) + 1, u64::MAX]);
+                Some((state, Clause::InstantsAboveClock))
+            }
+            Breakage::UpdatesAboveMoves => {
+                let most = state.run.instants * state.plan.n as u64;
+                state.run.updates = rng.pick(&[most + 1, u64::MAX]);
+                Some((state, Clause::UpdatesAboveMoves))
+            }
+        }
+    }
+}
+
+/// A sound state with one number of the running part set to a wild one; it may still be sound.
+pub fn with_wild_number(rng: &mut Rng, sound: &RawState) -> RawState {
+    let mut state = sound.clone();
+    let run = &mut state.run;
+    let value = rng.pick(&[i64::MIN, i64::MAX, -1, M + 1, 1 << 32]);
+    let place = rng.below(run.x.len());
+    let input = rng.below(run.inputs.len());
+    match rng.below(10) {
+        0 => run.x[place] = value,
+        1 => run.q[place] = value,
+        2 => run.s[place] = value,
+        3 => run.inputs[input] = value,
+        4 => run.l[place] = value as u32,
+        5 => run.d[place] = value as u32,
+        6 => run.clock = value as u32,
+        7 => run.next = value as usize,
+        8 => run.instants = value as u64,
+        _ => run.updates = value as u64,
+    }
+    state
+}
+
+fn break_count(rng: &mut Rng, mut state: RawState) -> Broken {
+    let plan = &mut state.plan;
+    let wild = [1 << 32, usize::MAX - 1, usize::MAX];
+    match rng.below(6) {
+        0 => plan.n = 0,
+        1 => plan.n = rng.pick(&[33, wild[0], wild[1], wild[2]]),
+        2 => plan.m = rng.pick(&[9, wild[0], wild[1], wild[2]]),
+        3 => plan.k = rng.pick(&[17, wild[0], wild[1], wild[2]]),
+        4 => plan.links = rng.pick(&[257, wild[0], wild[1], wild[2]]),
+        _ => plan.commands = rng.pick(&[65, wild[0], wild[1], wild[2]]),
+    }
+    (state, Clause::Counts)
+}
+
+fn break_plan(rng: &mut Rng, mut state: RawState, mut plan: Plan) -> Option<Broken> {
+    let of_entries: Vec<Cause> = Cause::ALL.into_iter().filter(|c| c.number() > 3).collect();
+    let cause = rng.pick(&of_entries);
+    let entry = in_plan(rng, &mut plan, cause)?;
+    state.plan = RawPlan::from(&plan);
+    Some((state, Clause::Plan(Refusal { cause, entry })))
+}
+
+/// Sets an unused entry to 1; false if there is none.
+fn spoil<T: From<u8>>(rng: &mut Rng, entries: &mut [T], used: usize) -> bool {
+    let unused = &mut entries[used..];
+    if unused.is_empty() {
+        return false;
+    }
+    unused[rng.below(unused.len())] = T::from(1);
+    true
+}
+
+fn spoil_plan(rng: &mut Rng, plan: &mut RawPlan) -> bool {
+    match rng.below(14) {
+        0 => spoil(rng, &mut plan.starts, plan.n),
+        1 => spoil(rng, &mut plan.quanta, plan.n),
+        2 => spoil(rng, &mut plan.firsts, plan.m),
+        3 => spoil(rng, &mut plan.kinds, plan.k),
+        4 => spoil(rng, &mut plan.lefts, plan.k),
+        5 => spoil(rng, &mut plan.rights, plan.k),
+        6 => spoil(rng, &mut plan.lows, plan.k),
+        7 => spoil(rng, &mut plan.highs, plan.k),
+        8 => spoil(rng, &mut plan.targets, plan.links),
+        9 => spoil(rng, &mut plan.sources, plan.links),
+        10 => spoil(rng, &mut plan.coefficients, plan.links),
+        11 => spoil(rng, &mut plan.ticks, plan.commands),
+        12 => spoil(rng, &mut plan.numbers, plan.commands),
+        _ => spoil(rng, &mut plan.values, plan.commands),
+    }
+}
+
+fn spoil_run(rng: &mut Rng, state: &mut RawState) -> bool {
+    let (run, n) = (&mut state.run, state.plan.n);
+    match rng.below(6) {
+        0 => spoil(rng, &mut run.x, n),
+        1 => spoil(rng, &mut run.q, n),
+        2 => spoil(rng, &mut run.s, n),
+        3 => spoil(rng, &mut run.l, n),
+        4 => spoil(rng, &mut run.d, n),
+        _ => spoil(rng, &mut run.inputs, state.plan.m),
+    }
+}
+
+/// Possible only if no integrator is due up to the tick after the horizon.
+fn pass_horizon(mut state: RawState, plan: &Plan) -> Option<Broken> {
+    state.run.clock = plan.horizon + 1;
+    state.run.next = plan.commands.len();
+    let dues = &state.run.d[..state.plan.n];
+    let all_later = dues.iter().all(|&d| d > state.run.clock);
+    all_later.then_some((state, Clause::ClockAboveHorizon))
+}
+
+fn move_after_clock(mut state: RawState, cup: usize) -> Broken {
+    state.run.l[cup] = state.run.clock + 1;
+    state.run.d[cup] = due_tick(&state.plan, &state.run, cup);
+    (state, Clause::MovedAfterClock(cup))
+}
+
+/// Possible only if a single integrator is due next, and up to the horizon.
+fn advance_to_due(mut state: RawState, plan: &Plan) -> Option<Broken> {
+    let dues = &state.run.d[..state.plan.n];
+    let tick = dues.iter().copied().min().unwrap_or(NEVER);
+    let due: Vec<usize> = (0..dues.len()).filter(|&cup| dues[cup] == tick).collect();
+    state.run.clock = tick;
+    state.run.next = first_later_command(plan, tick);
+    let possible = tick <= plan.horizon && due.len() == 1;
+    possible.then(|| (state, Clause::DueNotAhead(due[0])))
+}
+
+fn output_beyond(rng: &mut Rng, state: RawState, cup: usize) -> Broken {
+    let mut state = moved_to_clock(&state);
+    state.run.q[cup] = rng.pick(&[M + 1, -M - 1]);
+    state.run.x[cup] = state.run.q[cup];
+    settle(&mut state);
+    (state, Clause::OutputBeyond(cup))
+}
+
+fn position_outside(rng: &mut Rng, state: RawState, cup: usize) -> Broken {
+    let mut state = moved_to_clock(&state);
+    let offset = state.plan.quanta[cup] + rng.pick(&[0, 1, 1_000]);
+    state.run.x[cup] = state.run.q[cup] + rng.pick(&[offset, -offset]);
+    state.run.d[cup] = due_tick(&state.plan, &state.run, cup);
+    (state, Clause::PositionOutsideLevels(cup))
+}
+
+fn change_slope(rng: &mut Rng, state: RawState, cup: usize) -> Broken {
+    let mut state = moved_to_clock(&state);
+    state.run.s[cup] += rng.pick(&[1, -1, GRAINS]);
+    state.run.d[cup] = due_tick(&state.plan, &state.run, cup);
+    (state, Clause::Slope(cup))
+}
+
+/// Possible only with another due tick that still lies after the clock.
+fn change_due(rng: &mut Rng, mut state: RawState, cup: usize) -> Option<Broken> {
+    let right = state.run.d[cup];
+    let wrong = rng.pick(&[right.wrapping_add(1), right - 1, NEVER]);
+    state.run.d[cup] = wrong;
+    let possible = wrong != right && wrong > state.run.clock;
+    possible.then_some((state, Clause::Due(cup)))
+}
+
+fn input_beyond(rng: &mut Rng, state: RawState) -> Option<Broken> {
+    if state.plan.m == 0 {
+        return None;
+    }
+    let input = rng.below(state.plan.m);
+    let mut state = moved_to_clock(&state);
+    state.run.inputs[input] = rng.pick(&[M + 1, -M - 1]);
+    settle(&mut state);
+    Some((state, Clause::InputBeyond(input)))
+}
+
+fn change_next(rng: &mut Rng, mut state: RawState) -> Broken {
+    let right = state.run.next;
+    state.run.next = rng.pick(&[right + 1, right.wrapping_sub(1), 65, usize::MAX]);
+    (state, Clause::NextCommand)
+}

@@ -1,0 +1,273 @@
+//! Damage to plan files. What a damaged file is refused by, if at all, is not known beforehand;
+//! such files are for comparing two readers and for the promises that hold for every file.
+
+use super::plant::offset_place;
+use super::rng::Rng;
+use crate::file::layout::assemble;
+use crate::file::read::split;
+use crate::limits::{
+    Section, COEFFICIENT_BOUND, COMMANDS_MAX, GRAINS, HEADER_BYTES, HORIZON_MAX, INPUTS_MAX,
+    INTEGRATORS_MAX, LINKS_MAX, M, NODES_MAX, WORD_BYTES,
+};
+
+/// A way of damaging a file.
+#[derive(Clone, Copy, Debug, PartialEq, Eq)]
+pub enum Damage {
+    /// One to three bits turned.
+    FlipBits,
+    /// Bytes cut off at the end.
+    Cut,
+    /// Bytes added at the end.
+    Lengthen,
+    /// A word of the file replaced by a number at or next to some limit.
+    BoundaryWord,
+    /// The same for a word after the header.
+    BoundaryField,
+    /// A word after the header that is a little higher or lower.
+    NudgeField,
+    /// Two entries of a section exchanged.
+    SwapEntries,
+    /// An entry doubled, the pairs set right.
+    DuplicateEntry,
+    /// An entry taken out, the pairs set right.
+    DropEntry,
+    /// An offset changed.
+    MoveOffset,
+    /// A length changed.
+    MoveLength,
+    /// The border of two sections moved, which keeps the offset rule.
+    MoveBorder,
+    /// A section with a part of an entry more, the pairs set right.
+    OddLength,
+    /// A section with one entry too many, the pairs set right.
+    CountAboveLimit,
+    /// A section emptied, the pairs set right.
+    EmptySection,
+    /// A horizon outside its limits, or a low one below the commands' ticks.
+    Horizon,
+    /// Random bytes.
+    Noise,
+}
+
+impl Damage {
+    /// Every way.
+    pub const ALL: [Damage; 17] = [
+        Damage::FlipBits,
+        Damage::Cut,
+        Damage::Lengthen,
+        Damage::BoundaryWord,
+        Damage::BoundaryField,
+        Damage::NudgeField,
+        Damage::SwapEntries,
+        Damage::DuplicateEntry,
+        Damage::DropEntry,
+        Damage::MoveOffset,
+        Damage::MoveLength,
+        Damage::MoveBorder,
+        Damage::OddLength,
+        Damage::CountAboveLimit,
+        Damage::EmptySection,
+        Damage::Horizon,
+        Damage::Noise,
+    ];
+
+    /// The damaged file. A file may be damaged again; where its header no longer leads to
+    /// sections, ways that need them turn bits instead.
+    pub fn apply(self, rng: &mut Rng, file: &[u8]) -> Vec<u8> {
+        match self {
+            Damage::FlipBits => flip_bits(rng, file),
+            Damage::Cut => file[..rng.below(file.len() + 1)].to_vec(),
+            Damage::Lengthen => lengthen(rng, file),
+            Damage::BoundaryWord => replace_word(rng, file, 0, boundary_word),
+            Damage::BoundaryField => replace_word(rng, file, HEADER_BYTES, boundary_word),
+            Damage::NudgeField => replace_word(rng, file, HEADER_BYTES, nudged_word),
+            Damage::MoveOffset => replace_pair_word(rng, file, 0),
+            Damage::MoveLength => replace_pair_word(rng, file, WORD_BYTES),
+            Damage::MoveBorder => move_border(rng, file),
+            Damage::Horizon => change_horizon(rng, file),
+            Damage::Noise => noise(rng, file.len()),
+            _ => self.rebuild(rng, file),
+        }
+    }
+
+    /// Changes one section's bytes and puts the file together anew.
+    fn rebuild(self, rng: &mut Rng, file: &[u8]) -> Vec<u8> {
+        let Ok(parts) = split(file) else {
+            return flip_bits(rng, file);
+        };
+        let mut sections = parts.map(<[u8]>::to_vec);
+        let section = rng.pick(&Section::ALL);
+        let bytes = &mut sections[section as usize];
+        let size = section.entry_bytes();
+        match self {
+            Damage::SwapEntries => swap_entries(rng, bytes, size),
+            Damage::DuplicateEntry => duplicate_entry(rng, bytes, size),
+            Damage::DropEntry => drop_entry(rng, bytes, size),
+            Damage::OddLength => bytes.extend(noise(rng, size - 1)),
+            Damage::CountAboveLimit => bytes.resize((section.most() + 1) * size, 0),
+            _ => bytes.clear(),
+        }
+        assemble(word_at(file, 0), &sections)
+    }
+}
+
+/// Ways that leave the header as it is or set it right, so that refusals 5 to 9 are met too.
+const WITHIN_SECTIONS: [Damage; 6] = [
+    Damage::BoundaryField,
+    Damage::BoundaryField,
+    Damage::NudgeField,
+    Damage::SwapEntries,
+    Damage::DuplicateEntry,
+    Damage::DropEntry,
+];
+
+/// A file damaged in one to three ways, half of the time within its sections only.
+pub fn damaged(rng: &mut Rng, file: &[u8]) -> Vec<u8> {
+    let ways: &[Damage] = match rng.once_in(2) {
+        true => &WITHIN_SECTIONS,
+        false => &Damage::ALL,
+    };
+    let mut result = file.to_vec();
+    for _ in 0..rng.below(3) + 1 {
+        result = rng.pick(ways).apply(rng, &result);
+    }
+    result
+}
+
+/// Numbers that document 01 has for limits, and the ends of a word.
+const BOUNDS: [i64; 15] = [
+    0,
+    2,
+    INPUTS_MAX as i64,
+    NODES_MAX as i64,
+    INTEGRATORS_MAX as i64,
+    HEADER_BYTES as i64,
+    COMMANDS_MAX as i64,
+    LINKS_MAX as i64,
+    GRAINS,
+    COEFFICIENT_BOUND,
+    M,
+    M,
+    HORIZON_MAX as i64,
+    1 << 31,
+    1 << 32,
+];
+
+/// A bound or a neighbour of one, with either sign.
+fn boundary_word(rng: &mut Rng, _former: u32) -> u32 {
+    let number = rng.pick(&BOUNDS) + rng.within(-1, 1);
+    (number * rng.pick(&[1, -1])) as u32
+}
+
+fn nudged_word(rng: &mut Rng, former: u32) -> u32 {
+    former.wrapping_add(rng.pick(&[1, u32::MAX, 4, 8, 12, 1 << 31]))
+}
+
+fn word_at(file: &[u8], place: usize) -> u32 {
+    u32::from_le_bytes([0, 1, 2, 3].map(|byte| file[place + byte]))
+}
+
+fn set_word(file: &mut [u8], place: usize, word: u32) {
+    file[place..place + WORD_BYTES].copy_from_slice(&word.to_le_bytes());
+}
+
+fn flip_bits(rng: &mut Rng, file: &[u8]) -> Vec<u8> {
+    let mut damaged = file.to_vec();
+    for _ in 0..rng.below(3) + 1 {
+        if !damaged.is_empty() {
+            let place = rng.below(damaged.len());
+            damaged[place] ^= 1 << rng.below(8);
+        }
+    }
+    damaged
+}
+
+fn lengthen(rng: &mut Rng, file: &[u8]) -> Vec<u8> {
+    let more = rng.below(40) + 1;
+    [file, &noise(rng, more)].concat()
+}
+
+fn noise(rng: &mut Rng, most: usize) -> Vec<u8> {
+    let length = rng.below(most + 1);
+    (0..length).map(|_| rng.bits() as u8).collect()
+}
+
+/// Replaces any aligned word from a place on.
+fn replace_word(
+    rng: &mut Rng,
+    file: &[u8],
+    from: usize,
+    word: fn(&mut Rng, u32) -> u32,
+) -> Vec<u8> {
+    let mut damaged = file.to_vec();
+    let words = file.len().saturating_sub(from) / WORD_BYTES;
+    if words > 0 {
+        let place = from + rng.below(words) * WORD_BYTES;
+        let replaced = word(rng, word_at(file, place));
+        set_word(&mut damaged, place, replaced);
+    }
+    damaged
+}
+
+/// Replaces the offset (`part` 0) or the length (`part` 4) of a section.
+fn replace_pair_word(rng: &mut Rng, file: &[u8], part: usize) -> Vec<u8> {
+    let mut damaged = file.to_vec();
+    let place = offset_place(rng.below(5)) + part;
+    if place + WORD_BYTES <= file.len() {
+        let former = word_at(file, place);
+        let change = rng.pick(&[nudged_word, boundary_word]);
+        let moved = change(rng, former);
+        set_word(&mut damaged, place, moved);
+    }
+    damaged
+}
+
+/// Takes bytes from one section's end to the next section's front, or the other way round.
+fn move_border(rng: &mut Rng, file: &[u8]) -> Vec<u8> {
+    let Ok(parts) = split(file) else {
+        return flip_bits(rng, file);
+    };
+    let first = rng.below(4);
+    let joined = [parts[first], parts[first + 1]].concat();
+    let border = rng.below(joined.len() / WORD_BYTES + 1) * WORD_BYTES;
+    let mut sections = parts.map(<[u8]>::to_vec);
+    sections[first] = joined[..border].to_vec();
+    sections[first + 1] = joined[border..].to_vec();
+    assemble(word_at(file, 0), &sections)
+}
+
+fn change_horizon(rng: &mut Rng, file: &[u8]) -> Vec<u8> {
+    let mut damaged = file.to_vec();
+    if file.len() >= WORD_BYTES {
+        let horizon = rng.pick(&[0, 1, 5, HORIZON_MAX, HORIZON_MAX + 1, 1 << 31, u32::MAX]);
+        set_word(&mut damaged, 0, horizon);
+    }
+    damaged
+}
+
+fn swap_entries(rng: &mut Rng, bytes: &mut [u8], size: usize) {
+    let count = bytes.len() / size;
+    if count >= 2 {
+        let low = rng.below(count - 1);
+        let high = low + 1 + rng.below(count - 1 - low);
+        let (front, back) = bytes.split_at_mut(high * size);
+        front[low * size..(low + 1) * size].swap_with_slice(&mut back[..size]);
+    }
+}
+
+fn duplicate_entry(rng: &mut Rng, bytes: &mut Vec<u8>, size: usize) {
+    let count = bytes.len() / size;
+    if count >= 1 {
+        let entry = rng.below(count);
+        let copy = bytes[entry * size..(entry + 1) * size].to_vec();
+        bytes.splice(entry * size..entry * size, copy);
+    }
+}
+
+fn drop_entry(rng: &mut Rng, bytes: &mut Vec<u8>, size: usize) {
+    let count = bytes.len() / size;
+    if count >= 1 {
+        let entry = rng.below(count);
+        bytes.drain(entry * size..(entry + 1) * size);
+    }
+}

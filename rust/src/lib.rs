@@ -1,0 +1,30 @@
+//! A second simulator of cup plans, written from document 01 and sharing nothing with the first.
+//!
+//! The layers, each using only those above it:
+//!
+//! - [`limits`], [`status`], [`plan`]: the figures, the three statuses and the plan as plain data;
+//! - [`file`]: the plan file, its refusals 1 to 9, the section view and the encoding;
+//! - [`plain`]: the plain machine, naive on purpose, with an observer of what a lazy engine moves;
+//! - [`engine`]: the lazy and the eager engine, which share no code with the plain machine;
+//! - [`raw`], [`sound`], [`calls`]: the state as a struct of arrays, its soundness, the public calls;
+//! - [`listing`]: the listing program as a function;
+//! - [`generate`]: seeded plans, lists of run calls, states filled by hand and damaged files;
+//! - [`compare`]: any simulator's calls compared with the plain machine;
+//! - [`samples`]: the plans kept in the folder `plans`.
+
+#![forbid(unsafe_code)]
+#![warn(missing_docs)]
+
+pub mod calls;
+pub mod compare;
+pub mod engine;
+pub mod file;
+pub mod generate;
+pub mod limits;
+pub mod listing;
+pub mod plain;
+pub mod plan;
+pub mod raw;
+pub mod samples;
+pub mod sound;
+pub mod status;

@@ -1,0 +1,31 @@
+//! The three statuses, as words that the plain machine and the engines have in common.
+
+/// What a state says about its next instant.
+#[derive(Clone, Copy, Debug, PartialEq, Eq)]
+pub enum Status {
+    /// The next instant can be taken.
+    Paused,
+    /// There is no next instant up to the horizon.
+    Finished,
+    /// The next instant is barred; the lowest integrator whose new output is beyond ±M.
+    Range(usize),
+}
+
+impl Status {
+    /// The status as a number: 0, 1 or 2.
+    pub fn number(self) -> u32 {
+        match self {
+            Status::Paused => 0,
+            Status::Finished => 1,
+            Status::Range(_) => 2,
+        }
+    }
+
+    /// The integrator answered with it, "0 unless range".
+    pub fn integrator(self) -> usize {
+        match self {
+            Status::Range(integrator) => integrator,
+            _ => 0,
+        }
+    }
+}

@@ -1,0 +1,157 @@
+//! States that break one clause of soundness each: every call declines by 10.
+
+mod common;
+
+use common::{loaded, CHECKER, ENGINES, MARK};
+use cup_check::calls::Simulator;
+use cup_check::generate::breakage::with_wild_number;
+use cup_check::generate::states::sound_state;
+use cup_check::generate::{plans, Breakage, Rng};
+use cup_check::limits::NEVER;
+use cup_check::plan::Plan;
+use cup_check::raw::{RawPlan, RawState};
+use cup_check::samples::document_cup;
+use cup_check::sound::{broken_clauses, is_sound, Clause};
+
+/// Asserts that exactly this clause is broken and that every call declines by 10.
+fn assert_breaks(state: &RawState, clause: Clause) {
+    assert_eq!(broken_clauses(state), [clause]);
+    assert_declined(state);
+}
+
+/// Asserts that every call declines by 10 and changes nothing.
+fn assert_declined(state: &RawState) {
+    let mut buffer = [MARK; 5_000];
+    for engine in ENGINES {
+        let ran = CHECKER.run(engine, state, 1, &mut buffer);
+        assert_eq!((ran.number, ran.status), (10, 0));
+        assert_eq!((ran.integrator, ran.written), (0, 0));
+        assert_eq!(&ran.state, state);
+    }
+    let position = CHECKER.position(state, 0);
+    assert_eq!((position.number, position.value), (10, 0));
+    assert_eq!(&position.state, state);
+    let written = CHECKER.write(state, &mut buffer);
+    assert_eq!((written.number, written.length), (10, 0));
+    assert_eq!(&written.state, state);
+    assert_eq!(buffer, [MARK; 5_000]);
+}
+
+#[test]
+fn every_clause_broken_alone_in_random_states() {
+    for breakage in Breakage::ALL {
+        let mut broken = 0;
+        for seed in 0..600 {
+            let mut rng = Rng::new(seed);
+            let plan = plans::any(&mut rng);
+            let sound = sound_state(&mut rng, &plan);
+            if let Some((state, clause)) = breakage.apply(&mut rng, &sound) {
+                assert_breaks(&state, clause);
+                broken += 1;
+            }
+        }
+        println!("{breakage:?}: {broken} states");
+        assert!(broken >= 30, "{breakage:?}: {broken}");
+    }
+}
+
+#[test]
+fn wild_numbers_anywhere_are_answered() {
+    let mut sound = 0;
+    for seed in 0..4_000 {
+        let mut rng = Rng::new(seed);
+        let plan = plans::any(&mut rng);
+        let state = sound_state(&mut rng, &plan);
+        let wild = with_wild_number(&mut rng, &state);
+        if is_sound(&wild) {
+            assert_eq!(CHECKER.position(&wild, 0).number, 0);
+            sound += 1;
+        } else {
+            assert_declined(&wild);
+        }
+    }
+    println!("{sound} of 4000 still sound");
+}
+
+#[test]
+fn every_unused_entry_has_to_be_0() {
+    let state = loaded(&document_cup());
+    let in_plan: [fn(&mut RawPlan); 14] = [
+        |plan| plan.starts[31] = 1,
+        |plan| plan.quanta[2] = 1,
+        |plan| plan.firsts[1] = -1,
+        |plan| plan.kinds[0] = 1,
+        |plan| plan.lefts[15] = 1,
+        |plan| plan.rights[0] = 1,
+        |plan| plan.lows[3] = -1,
+        |plan| plan.highs[0] = 1,
+        |plan| plan.targets[2] = 1,
+        |plan| plan.sources[255] = 1,
+        |plan| plan.coefficients[2] = 1,
+        |plan| plan.ticks[63] = 1,
+        |plan| plan.numbers[1] = 1,
+        |plan| plan.values[1] = 1,
+    ];
+    for change in in_plan {
+        let mut broken = state.clone();
+        change(&mut broken.plan);
+        assert_breaks(&broken, Clause::UnusedInPlan);
+    }
+    let in_run: [fn(&mut RawState); 6] = [
+        |state| state.run.x[2] = 1,
+        |state| state.run.q[31] = 1,
+        |state| state.run.s[2] = -1,
+        |state| state.run.l[2] = 1,
+        |state| state.run.d[2] = NEVER,
+        |state| state.run.inputs[1] = 1,
+    ];
+    for change in in_run {
+        let mut broken = state.clone();
+        change(&mut broken);
+        assert_breaks(&broken, Clause::UnusedInRun);
+    }
+}
+
+#[test]
+fn numbers_wider_than_a_file_holds_break_the_plans_rules() {
+    let lawful = Plan::new(9).integrator(0, 1).input(0).limit(0, 0, 0);
+    let state = loaded(&lawful.link(0, 1, 1).command(5, 0, 0));
+    // 2^32 more is the same word in a file, but not the same number in a state.
+    type Change = fn(&mut RawPlan);
+    let changes: [(Change, u32); 13] = [
+        (|plan| plan.starts[0] = i64::MIN, 5),
+        (|plan| plan.quanta[0] = -1, 5),
+        (|plan| plan.quanta[0] = i64::MIN, 5),
+        (|plan| plan.firsts[0] = i64::MAX, 6),
+        (|plan| plan.kinds[0] += 1 << 32, 7),
+        (|plan| plan.lefts[0] += 1 << 32, 7),
+        (|plan| plan.rights[0] += 1 << 32, 7),
+        (|plan| plan.lows[0] = i64::MIN, 7),
+        (|plan| plan.targets[0] += 1 << 32, 8),
+        (|plan| plan.sources[0] += 1 << 32, 8),
+        (|plan| plan.coefficients[0] = i64::MIN, 8),
+        (|plan| plan.numbers[0] += 1 << 32, 9),
+        (|plan| plan.values[0] = i64::MIN, 9),
+    ];
+    for (change, number) in changes {
+        let mut broken = state.clone();
+        change(&mut broken.plan);
+        let clauses = broken_clauses(&broken);
+        assert!(matches!(clauses[..], [Clause::Plan(refusal)] if refusal.number() == number));
+        assert_declined(&broken);
+    }
+}
+
+#[test]
+fn the_limits_of_each_clause_are_sound() {
+    let mut state = loaded(&Plan::new(7).integrator(0, 10));
+    state.run.clock = 7;
+    state.run.instants = 7;
+    state.run.updates = 7;
+    for (x, q) in [(9, 0), (-9, 0), (0, 9), (20, 11)] {
+        (state.run.x[0], state.run.q[0]) = (x, q);
+        assert!(is_sound(&state));
+    }
+    state.run.x[0] = 21;
+    assert_breaks(&state, Clause::PositionOutsideLevels(0));
+}

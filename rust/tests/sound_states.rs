@@ -1,0 +1,78 @@
+//! States filled by hand that are sound, though no run reaches them.
+
+mod common;
+
+use common::{events, loaded, rng_of, run, CHECKER, ENGINES};
+use cup_check::compare::{continued_list, Met};
+use cup_check::engine::Engine;
+use cup_check::generate::states::{between_instants, settle, sound_state};
+use cup_check::generate::{run_list, Family, Rng};
+use cup_check::limits::{GRAINS, HORIZON_MAX, M};
+use cup_check::plan::Plan;
+use cup_check::raw::RawState;
+use cup_check::samples::document_cup;
+use cup_check::sound::{broken_clauses, is_sound};
+
+/// Random lists from hand-filled states of each family; panics at the first difference.
+fn compare_continued(lists: u64, fill: impl Fn(&mut Rng, &Plan) -> RawState) -> Met {
+    let mut met = Met::default();
+    for family in Family::ALL {
+        for seed in 0..lists {
+            let mut rng = rng_of(family, seed);
+            let plan = family.plan(&mut rng);
+            let state = fill(&mut rng, &plan);
+            assert_eq!(broken_clauses(&state), [], "{family:?} seed {seed}");
+            let list = run_list(&mut rng, plan.events_per_instant());
+            continued_list(&CHECKER, &plan, &state, &list, &mut met)
+                .unwrap_or_else(|difference| panic!("{family:?} seed {seed}: {difference}"));
+        }
+    }
+    met
+}
+
+#[test]
+fn any_sound_state_runs_right() {
+    let met = compare_continued(120, sound_state);
+    println!("{met:#?}");
+    assert!(met.statuses.iter().all(|&count| count >= 300));
+    assert!(met.instants >= 100_000);
+    assert!(met.far_due_ticks >= 100);
+}
+
+#[test]
+fn a_clock_between_instants_runs_right() {
+    let met = compare_continued(60, |rng, plan| {
+        let budget = rng.below(40) as u64;
+        let engine = rng.pick(&ENGINES);
+        let (ran, _) = run(engine, &loaded(plan), budget);
+        between_instants(rng, &ran.state)
+    });
+    println!("{met:#?}");
+    assert!(met.statuses.iter().all(|&count| count >= 100));
+    assert!(met.instants >= 50_000, "{}", met.instants);
+}
+
+#[test]
+fn no_instants_with_a_clock_above_0_and_inputs_that_no_command_set() {
+    let mut state = loaded(&document_cup());
+    state.run.clock = 2;
+    state.run.inputs[0] = 4;
+    settle(&mut state);
+    assert!(is_sound(&state));
+    let (ran, bytes) = run(Engine::Lazy, &state, 2);
+    assert_eq!(events(&bytes), [(3, 0, 12), (6, 0, 24), (6, 2, -3)]);
+    assert_eq!((ran.state.run.clock, ran.state.run.instants), (6, 2));
+}
+
+#[test]
+fn the_latest_due_tick_of_a_sound_state() {
+    let plan = Plan::new(HORIZON_MAX).integrator(0, M).input(1);
+    let mut state = loaded(&plan.link(0, 1, GRAINS));
+    state.run.clock = HORIZON_MAX;
+    state.run.l[0] = HORIZON_MAX;
+    state.run.x[0] = 1 - M;
+    settle(&mut state);
+    assert_eq!(state.run.d[0], HORIZON_MAX + 0x7fff_ffff);
+    assert!(is_sound(&state));
+    assert_eq!(run(Engine::Lazy, &state, 1).0.status, 1);
+}
