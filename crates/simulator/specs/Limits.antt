@@ -13,7 +13,7 @@ use Rattle.plan.specs.Lists.{nat, int}
 use Rattle.plan.specs.declared.Plan.{Plan}
 use Rattle.machine.specs.Values.{valueOf, sumOver}
 use Rattle.machine.specs.Due.{never, upperLevel, lowerLevel, distance, ticksTo}
-use Rattle.machine.specs.Instant.{positionAt}
+use Rattle.machine.specs.Instant.{positionAt, eventsOf}
 use Rattle.machine.specs.Runs.{events, positionOf}
 use Rattle.machine.specs.declared.Running.{Running}
 use Rattle.machine.specs.declared.State.{State}
@@ -75,6 +75,8 @@ module _ (p : Plan) (r : Running) where
 
   pub record StateLimits : Type 0 where
     pub integrators : (i : ℕ) → i < p .n → IntegratorLimits i
+    pub sources : p .n + p .m + p .k ≤ 56
+    pub operands : (j : ℕ) → j < p .k → (nat (p .lefts) j ≤ 54) × (nat (p .rights) j ≤ 54)
     -- of the value of every source, so of a node's operands; of their difference and product before the clip
     pub values : (i : ℕ) → ∣ valueOf p (r .q) (r .inputs) i ∣ ≤ M
     pub differences : (i j : ℕ) → ∣ valueOf p (r .q) (r .inputs) i -ℤ valueOf p (r .q) (r .inputs) j ∣ ≤ 2 ^ 31
@@ -83,6 +85,8 @@ module _ (p : Plan) (r : Running) where
     pub next : r .next ≤ 64
     pub instants : r .instants ≤ 2000000000
     pub updates : r .updates ≤ 32 * 2000000000
-    -- the bytes of a run
+    -- the bytes of an instant's events, of a run's, and of the listing program's runs
+    pub instant : length (eventsOf p r) ≤ 480
     pub bytes : (engine : Engine) (budget : ℕ) → length (events p engine budget r) ≤ roomOf p budget
     pub room : (budget : ℕ) → budget ≤ 1024 → roomOf p budget ≤ 491520
+    pub listing : roomOf p 64 ≤ 30720
