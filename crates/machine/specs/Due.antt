@@ -37,15 +37,15 @@ dueTick l x upper lower s = cond (eqb ∣ s ∣ 0) never (l + ticksTo x upper lo
 unfoldable pub dueOf : Plan → List ℤ → ℕ → ℕ → ℤ → ℤ → ℕ
 dueOf p q i l x s = dueTick l x (upperLevel p q i) (lowerLevel p q i) s
 
--- in document 01's words: moving for T ticks reaches the level ahead
-pub record Reaches (x upper lower s : ℤ) (T : ℕ) : Type 0 where
+-- in document 01's words: after T ticks x is at or past the level ahead
+pub record AtLevel (x upper lower s : ℤ) (T : ℕ) : Type 0 where
   -- "For s > 0, .. x+s×T ≥ q+D"
   pub rising : pos 0 <ℤ s → upper ≤ℤ (x +ℤ s *ℤ pos T)
   -- "for s < 0 .. x+s×T ≤ q−D"
   pub falling : s <ℤ pos 0 → (x +ℤ s *ℤ pos T) ≤ℤ lower
 
 -- "the least T ≥ 1"
-pub record LeastReaching (x upper lower s : ℤ) (T : ℕ) : Type 0 where
+pub record LeastTicks (x upper lower s : ℤ) (T : ℕ) : Type 0 where
   pub positive : 1 ≤ T
-  pub reaches : Reaches x upper lower s T
-  pub least : (T′ : ℕ) → 1 ≤ T′ → Reaches x upper lower s T′ → T ≤ T′
+  pub there : AtLevel x upper lower s T
+  pub least : (T′ : ℕ) → 1 ≤ T′ → AtLevel x upper lower s T′ → T ≤ T′

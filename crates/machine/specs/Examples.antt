@@ -25,7 +25,7 @@ use Rattle.machine.specs.Values.{nodeOf, valueWith, valueOf, sumOver, ra
 use Rattle.machine.specs.Due.{upperLevel, lowerLevel, distance, ticksTo, dueTick, dueOf}
 use Rattle.machine.specs.Next.{nextCommand, commandTick, leastDue, nextTick}
 use Rattle.machine.specs.Start.{startSlope, startDue, startOf, startState, idleState}
-use Rattle.machine.specs.Reach.{isDue, setsInput, isCommanded, changes, dependsWith, reaches, reached}
+use Rattle.machine.specs.Reach.{isDue, setsInput, isCommanded, changes, dependsWith, linkReaches, reached}
 use Rattle.machine.specs.Instant.{positionAt, settingOf, settings, moves, eventBytes, eventsAt, outputs, slopeThen, xThen, dueThen}
 use Rattle.machine.specs.Instant.{takenAt, tickOf, instant, eventsOf}
 use Rattle.machine.specs.Status.{bars, barring, statusAt, integratorAt, statusOf, integratorOf, isPaused}
@@ -39,7 +39,7 @@ use Rattle.machine.specs.declared.State.{State}
 use Rattle.machine.specs.declared.Engine.{Engine}
 use Rattle.machine.specs.declared.Engine.the-variants.{Lazy, Eager}
 
--- M, and what lies just beyond it
+-- M and −M
 abbrev m : ℤ
 m = pos 1073741824
 
@@ -89,6 +89,21 @@ rangeFile =
 abbrev commandsFile : List ℕ
 commandsFile = fileOf 10 (0 ∷ 1 ∷ []) (1 ∷ 2 ∷ []) [] [] (2 ∷ 0 ∷ 7 ∷ 2 ∷ 1 ∷ wordOf (negsuc 7) ∷ 10 ∷ 1 ∷ wordOf (negsuc 7) ∷ [])
 
+-- integrator 0 is due at tick 4, when a command sets its input too; its link to integrator 1 has a coefficient below 0
+abbrev meetFile : List ℕ
+meetFile =
+    fileOf 10 (0 ∷ 10 ∷ 0 ∷ 1000 ∷ []) (3 ∷ []) [] (0 ∷ 2 ∷ 65536 ∷ 1 ∷ 0 ∷ wordOf (negsuc 65535) ∷ []) (4 ∷ 0 ∷ 5 ∷ [])
+
+-- a product and a comparison whose B is integrator 0; the comparison's A is commanded at tick 5
+abbrev operandsFile : List ℕ
+operandsFile =
+    fileOf 10 (0 ∷ 10 ∷ 0 ∷ 1000 ∷ 0 ∷ 1000 ∷ []) (3 ∷ 5 ∷ []) (1 ∷ 3 ∷ 0 ∷ 0 ∷ 0 ∷ 3 ∷ 4 ∷ 0 ∷ wordOf (negsuc 6) ∷ 9 ∷ [])
+    (0 ∷ 3 ∷ 65536 ∷ 1 ∷ 5 ∷ 65536 ∷ 2 ∷ 6 ∷ 65536 ∷ []) (5 ∷ 1 ∷ 20 ∷ [])
+
+-- integrator 0 is due at tick 1; integrator 1 is then beyond M, and not due
+abbrev beyondFile : List ℕ
+beyondFile = fileOf 10 (0 ∷ 5 ∷ 1073741824 ∷ 1000 ∷ []) (5 ∷ []) [] (0 ∷ 2 ∷ 65536 ∷ 1 ∷ 2 ∷ 65536 ∷ []) []
+
 -- ---- what the cases say of them
 abbrev lazily : Plan → ℕ → Running
 lazily p b = after p Lazy b (startOf p)
@@ -117,6 +132,67 @@ figures x0 x1 s0 s1 l0 l1 d0 d1 clock next instants updates = record {
 
 abbrev sound : Running → Bool
 sound r = isSound (record { plan = cup; run = r })
+
+-- the cup after its first instant, with other positions and outputs
+abbrev placed : List ℤ → List ℤ → Running
+placed x q = record {
+  x = x;
+  q = q;
+  s = pos 3 ∷ pos 12 ∷ replicate 30 (pos 0);
+  l = 4 ∷ 4 ∷ replicate 30 0;
+  d = 8 ∷ 88 ∷ replicate 30 0;
+  inputs = pos 3 ∷ replicate 7 (pos 0);
+  clock = 4;
+  next = 0;
+  instants = 1;
+  updates = 2;
+}
+
+-- and with another horizon, another count of inputs and other starts in its plan
+abbrev planned : ℕ → ℕ → List ℤ → State
+planned horizon inputs starts = record {
+  plan = record {
+    horizon = horizon;
+    n = 2;
+    m = inputs;
+    k = 0;
+    links = 2;
+    commands = 1;
+    starts = starts;
+    quanta = pos 10 ∷ pos 1000 ∷ replicate 30 (pos 0);
+    firsts = pos 3 ∷ replicate 7 (pos 0);
+    kinds = replicate 16 0;
+    lefts = replicate 16 0;
+    rights = replicate 16 0;
+    lows = replicate 16 (pos 0);
+    highs = replicate 16 (pos 0);
+    targets = 0 ∷ 1 ∷ replicate 254 0;
+    sources = 2 ∷ 0 ∷ replicate 254 0;
+    coefficients = pos 65536 ∷ pos 65536 ∷ replicate 254 (pos 0);
+    ticks = 6 ∷ replicate 63 0;
+    numbers = replicate 64 0;
+    values = negsuc 2 ∷ replicate 63 (pos 0);
+  };
+  run = placed (pos 12 ∷ replicate 31 (pos 0)) (pos 12 ∷ replicate 31 (pos 0));
+}
+
+-- the start of the plan of two inputs that feed nothing, with another value of the first
+abbrev input : ℤ → State
+input value = record {
+  plan = planIn commandsFile;
+  run = record {
+    x = replicate 32 (pos 0);
+    q = replicate 32 (pos 0);
+    s = replicate 32 (pos 0);
+    l = replicate 32 0;
+    d = 4294967295 ∷ replicate 31 0;
+    inputs = value ∷ pos 2 ∷ replicate 6 (pos 0);
+    clock = 0;
+    next = 0;
+    instants = 0;
+    updates = 0;
+  };
+}
 
 pub examples : List Case
 examples =
@@ -230,6 +306,26 @@ examples =
     ∷ case ℕ (lazily (planIn commandsFile) 64 .next) 3
     ∷ case ℕ (lazily (planIn commandsFile) 64 .updates) 0
     ∷ case ℕ (eagerly (planIn commandsFile) 64 .updates) 2
+    -- due and commanded at one tick: events by ascending source, a coefficient below 0, both new values in the slopes, each level by its
+    -- own quantum
+    ∷ case Bool (accepted meetFile) true
+    ∷ case (List ℕ) (events (planIn meetFile) Lazy 1 (startOf (planIn meetFile)))
+    (4 ∷ 0 ∷ 0 ∷ 0 ∷ 0 ∷ 0 ∷ 0 ∷ 0 ∷ 12 ∷ 0 ∷ 0 ∷ 0 ∷ 4 ∷ 0 ∷ 0 ∷ 0 ∷ 2 ∷ 0 ∷ 0 ∷ 0 ∷ 5 ∷ 0 ∷ 0 ∷ 0 ∷ [])
+    ∷ case (List ℤ) (lazily (planIn meetFile) 1 .s) (pos 5 ∷ negsuc 11 ∷ replicate 30 (pos 0))
+    ∷ case (List ℕ) (lazily (planIn meetFile) 1 .d) (6 ∷ 88 ∷ replicate 30 0)
+    ∷ case (List ℤ) (plainAfter (planIn meetFile) 1 .inputs) (pos 5 ∷ replicate 7 (pos 0))
+    ∷ case ℕ (lazily (planIn meetFile) 1 .updates) 2
+    -- a product and a comparison depend on their B; a comparison on a commanded A
+    ∷ case Bool (accepted operandsFile) true
+    ∷ case ℕ (lazily (planIn operandsFile) 1 .updates) 3
+    ∷ case ℕ (lazily (planIn operandsFile) 2 .updates) 4
+    ∷ case (List ℤ) (lazily (planIn operandsFile) 1 .s) (pos 3 ∷ pos 0 ∷ negsuc 6 ∷ replicate 29 (pos 0))
+    ∷ case (List ℤ) (lazily (planIn operandsFile) 2 .s) (pos 3 ∷ pos 0 ∷ pos 9 ∷ replicate 29 (pos 0))
+    -- an integrator beyond M that is not due bars nothing
+    ∷ case Bool (accepted beyondFile) true
+    ∷ case ℕ (statusOf (planIn beyondFile) (startOf (planIn beyondFile))) 0
+    ∷ case ℕ (lazily (planIn beyondFile) 1 .instants) 1
+    ∷ case ℤ (positionOf (lazily (planIn beyondFile) 1) 1) (pos 1073741829)
     -- idle: its due tick is never, it is finished, and its unused entries are 0
     ∷ case ℕ (nat (idleState .run .d) 0) 4294967295
     ∷ case ℕ (nat (idleState .run .d) 1) 0
@@ -254,6 +350,17 @@ examples =
     ∷ case Bool (sound (figures (pos 12) (pos 0) (pos 3) (pos 12) 4 4 8 88 4 1 1 2)) false
     ∷ case Bool (sound (figures (pos 12) (pos 0) (pos 3) (pos 12) 4 4 8 88 4 0 5 2)) false
     ∷ case Bool (sound (figures (pos 12) (pos 0) (pos 3) (pos 12) 4 4 8 88 4 0 1 3)) false
+    -- |q| ≤ M and inputs within ±M, at the limit and above; an unused entry of the running figures and of the plan; a rule of the plan; a
+    -- count outside its limits
+    ∷ case Bool (sound (placed (pos 12 ∷ m ∷ replicate 30 (pos 0)) (pos 12 ∷ m ∷ replicate 30 (pos 0)))) true
+    ∷ case Bool (sound (placed (pos 12 ∷ pos 1073741825 ∷ replicate 30 (pos 0)) (pos 12 ∷ pos 1073741825 ∷ replicate 30 (pos 0)))) false
+    ∷ case Bool (isSound (input minus-m)) true
+    ∷ case Bool (isSound (input (pos 1073741825))) false
+    ∷ case Bool (sound (placed (pos 12 ∷ pos 0 ∷ pos 1 ∷ replicate 29 (pos 0)) (pos 12 ∷ replicate 31 (pos 0)))) false
+    ∷ case Bool (isSound (planned 10 1 (replicate 32 (pos 0)))) true
+    ∷ case Bool (isSound (planned 10 1 (pos 0 ∷ pos 0 ∷ pos 1 ∷ replicate 29 (pos 0)))) false
+    ∷ case Bool (isSound (planned 2000000001 1 (replicate 32 (pos 0)))) false
+    ∷ case Bool (isSound (planned 10 9 (replicate 32 (pos 0)))) false
     ∷ []
 
 -- every example is right: each pair of values is equal by computation
@@ -265,7 +372,7 @@ unfolding examples ceilDiv limited within countOf numberAt bytesOf signedOf unsi
     commandsFinding planFinding findingOf accepted lengthOf offsetOf headerWords integratorWords inputWords nodeWords linkWords
     commandWords fileWords encode nodeOf valueWith valueOf sumOver rateOf upperLevel lowerLevel distance ticksTo dueTick dueOf
     nextCommand commandTick leastDue nextTick startSlope startDue startOf startState idleState isDue setsInput isCommanded changes
-    dependsWith reaches reached positionAt settingOf settings moves eventBytes eventsAt outputs slopeThen xThen dueThen takenAt
+    dependsWith linkReaches reached positionAt settingOf settings moves eventBytes eventsAt outputs slopeThen xThen dueThen takenAt
     tickOf instant eventsOf bars barring statusAt integratorAt statusOf integratorOf isPaused after events positionOf settled
     plainStart plainTick plainPosition plainOutputs plainInstant plainEventsOf plainStatus plainIntegrator lazyCount plainFrom
     plainEventsFrom plainAfter plainEvents unusedNat unusedInt planUnused planSound runningUnused integratorSound runningSound
@@ -276,4 +383,5 @@ examples-right =
     refl & refl & refl & refl & refl & refl & refl & refl & refl & refl & refl & refl & refl & refl & refl & refl & refl & refl & refl & refl &
     refl & refl & refl & refl & refl & refl & refl & refl & refl & refl & refl & refl & refl & refl & refl & refl & refl & refl & refl & refl &
     refl & refl & refl & refl & refl & refl & refl & refl & refl & refl & refl & refl & refl & refl & refl & refl & refl & refl & refl & refl &
-    refl & refl & refl & refl & refl & refl & refl & refl & refl & refl & refl & refl & refl & refl & refl & refl & end
+    refl & refl & refl & refl & refl & refl & refl & refl & refl & refl & refl & refl & refl & refl & refl & refl & refl & refl & refl & refl &
+    refl & refl & refl & refl & refl & refl & refl & refl & refl & refl & refl & refl & refl & refl & refl & refl & refl & refl & refl & refl & end

@@ -1,6 +1,6 @@
 -- "The plain machine is these rules with every integrator moved at each instant and no update count." It keeps no l, since every position
 -- is at the clock, and is fed the plan and a budget sum.
-use mathlib.Core.Bool.{Bool, cond}
+use mathlib.Core.Bool.{cond, _||_}
 use mathlib.Core.List.{List, [], _++_}
 use Prim.Native.Nat.{ℕ, zero, suc, _+_, _-_}
 use lib.IntN.{ℤ, pos, _+ℤ_, _*ℤ_}
@@ -11,10 +11,9 @@ use Rattle.plan.specs.declared.Plan.{Plan}
 use Rattle.machine.specs.Values.{rateOf}
 use Rattle.machine.specs.Due.{dueOf}
 use Rattle.machine.specs.Next.{nextCommand, nextTick}
-use Rattle.machine.specs.Reach.{isDue}
-use Rattle.machine.specs.Instant.{settings, eventsAt, moves}
+use Rattle.machine.specs.Reach.{isDue, reached}
+use Rattle.machine.specs.Instant.{settings, eventsAt}
 use Rattle.machine.specs.Status.{statusAt, integratorAt}
-use Rattle.machine.specs.declared.Engine.the-variants.{Lazy}
 
 -- positions at the clock, outputs, slopes and due ticks; input values; clock, next command and instants
 pub record Plain : Type 0 where
@@ -72,9 +71,9 @@ module _ (p : Plan) where
   unfoldable pub plainIntegrator : Plain → ℕ
   plainIntegrator m = integratorAt p (m .d) (plainTick m) (plainPosition m)
 
-  -- "the number that step 5 moves for the lazy engine, with the plain machine's due ticks"
+  -- "the number that step 5 moves for the lazy engine, with the plain machine's due ticks": those due or reached
   unfoldable pub lazyCount : Plain → ℕ
-  lazyCount m = countOf (moves p Lazy (m .d) (plainTick m)) (p .n)
+  lazyCount m = countOf (λ i. isDue (m .d) (plainTick m) i || reached p (m .d) (plainTick m) i) (p .n)
 
   -- "From Start it takes B instants, or fewer if its status is first 1 or 2."
   unfoldable pub plainFrom : ℕ → Plain → Plain

@@ -34,12 +34,12 @@ module _ (p : Plan) (d : List ℕ) (t : ℕ) where
       (dependsWith j i)
 
   -- link e is integrator i's own, and names a source that changes or depends on one that does
-  unfoldable pub reaches : ℕ → ℕ → Bool
-  reaches i e = eqb (nat (p .targets) e) i && dependsWith (p .k) (nat (p .sources) e)
+  unfoldable pub linkReaches : ℕ → ℕ → Bool
+  linkReaches i e = eqb (nat (p .targets) e) i && dependsWith (p .k) (nat (p .sources) e)
 
   -- "An integrator is reached if a link of its own names a due integrator, a commanded input, or a node that depends on one"
   unfoldable pub reached : ℕ → Bool
-  reached i = some (reaches i) (p .links)
+  reached i = some (linkReaches i) (p .links)
 
   -- the same in document 01's words: a source that is a due integrator, a commanded input, or a node that depends on one
   pub data Depends : ℕ → Type 0 where

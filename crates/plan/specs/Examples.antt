@@ -1,9 +1,11 @@
 -- Worked examples of the format, with one theorem over their table: "A cup in full" decoded, encoded and taken apart, and a file for each
 -- refusal and for the limits that are easily missed.
 use mathlib.Core.Path.{_≡_, refl}
+use mathlib.Core.Bool.{Bool, true}
 use mathlib.Core.List.{List, [], _∷_, _++_}
 use Prim.Native.Nat.{ℕ}
-use lib.ListN.{take, drop, replicate}
+use lib.IntN.{ℤ, pos, negsuc}
+use lib.ListN.{length, take, drop, replicate}
 use Rattle.integers.specs.Range.{within}
 use Rattle.words.specs.Word.{numberAt, bytesOf, signedOf, unsignedOf, flat}
 use Rattle.plan.specs.Lists.{table, row, joined, every}
@@ -55,6 +57,39 @@ links words = fileOf 10 (0 ∷ 1 ∷ 0 ∷ 1 ∷ []) [] [] words []
 abbrev commands : List ℕ → List ℕ
 commands words = fileOf 10 (0 ∷ 1 ∷ []) (3 ∷ []) [] [] words
 
+-- every section at its largest count; what its entries say does not matter to their counts
+abbrev fullFile : List ℕ
+fullFile = fileOf 10 (replicate 64 1) (replicate 8 0) (replicate 80 0) (replicate 768 0) (replicate 192 0)
+
+-- starts, first values and limits below 0, a node of kind 3 and one of kind 2 over it, a link that names a node
+abbrev valveFile : List ℕ
+valveFile =
+    fileOf 500 (minus1 ∷ 7 ∷ 5 ∷ 8 ∷ []) (minusM ∷ []) (3 ∷ 0 ∷ 1 ∷ minus1 ∷ 4 ∷ 2 ∷ 3 ∷ 0 ∷ minusM ∷ 9 ∷ []) (1 ∷ 4 ∷ minusC ∷ []) []
+
+abbrev valvePlan : Plan
+valvePlan = record {
+  horizon = 500;
+  n = 2;
+  m = 1;
+  k = 2;
+  links = 1;
+  commands = 0;
+  starts = negsuc 0 ∷ pos 5 ∷ replicate 30 (pos 0);
+  quanta = pos 7 ∷ pos 8 ∷ replicate 30 (pos 0);
+  firsts = negsuc 1073741823 ∷ replicate 7 (pos 0);
+  kinds = 3 ∷ 2 ∷ replicate 14 0;
+  lefts = 0 ∷ 3 ∷ replicate 14 0;
+  rights = 1 ∷ replicate 15 0;
+  lows = negsuc 0 ∷ negsuc 1073741823 ∷ replicate 14 (pos 0);
+  highs = pos 4 ∷ pos 9 ∷ replicate 14 (pos 0);
+  targets = 1 ∷ replicate 255 0;
+  sources = 4 ∷ replicate 255 0;
+  coefficients = negsuc 16777215 ∷ replicate 255 (pos 0);
+  ticks = replicate 64 0;
+  numbers = replicate 64 0;
+  values = replicate 64 (pos 0);
+}
+
 pub examples : List Case
 examples =
     -- [P1] "A cup in full": decoded, encoded, and its sections; and the 52 bytes of the idle plan
@@ -70,16 +105,28 @@ examples =
     ∷ case (List ℕ) (sectionOf cupFile 5) []
     ∷ case Plan (planIn (encode idlePlan)) idlePlan
     ∷ case ℕ (fileLength idlePlan) 52
-    -- 1 to 4: the file is too short, has a byte too many, a gap, no or too many integrators, half an entry, a horizon outside its limits
+    -- a plan with nodes and numbers below 0, decoded and encoded; the counts and the length of the longest file
+    ∷ finds valveFile Clean
+    ∷ case Plan (planIn valveFile) valvePlan
+    ∷ case (List ℕ) (encode valvePlan) valveFile
+    ∷ case Bool (sizesKept fullFile) true
+    ∷ case ℕ (length fullFile) 4492
+    -- 1 to 4: the file is too short, has a byte too many, a gap, an offset that is no sum; no integrators, one entry too many of each section,
+    -- half an entry; a horizon outside its limits; 2 before 3 before 4
     ∷ finds [] Short
     ∷ finds (take 43 cupFile) Short
     ∷ finds (cupFile ++ (0 ∷ [])) Offsets
     ∷ finds (take 99 cupFile) Offsets
     ∷ finds (flat (10 ∷ 48 ∷ 8 ∷ 56 ∷ 0 ∷ 56 ∷ 0 ∷ 56 ∷ 0 ∷ 56 ∷ 0 ∷ 0 ∷ 0 ∷ 1 ∷ [])) Offsets
+    ∷ finds (flat (10 ∷ 44 ∷ 8 ∷ 52 ∷ 0 ∷ 53 ∷ 0 ∷ 52 ∷ 0 ∷ 52 ∷ 0 ∷ 0 ∷ 1 ∷ [])) Offsets
+    ∷ finds (fileOf 10 [] [] [] [] [] ++ (0 ∷ [])) Offsets
     ∷ finds (fileOf 10 [] [] [] [] []) Sizes
     ∷ finds (fileOf 10 (replicate 66 1) [] [] [] []) Sizes
     ∷ finds (fileOf 10 (0 ∷ 1 ∷ 0 ∷ []) [] [] [] []) Sizes
     ∷ finds (fileOf 10 (0 ∷ 1 ∷ []) (replicate 9 0) [] [] []) Sizes
+    ∷ finds (fileOf 10 (0 ∷ 1 ∷ []) [] (replicate 85 0) [] []) Sizes
+    ∷ finds (fileOf 10 (0 ∷ 1 ∷ []) [] [] (replicate 771 0) []) Sizes
+    ∷ finds (fileOf 10 (0 ∷ 1 ∷ []) [] [] [] (replicate 195 0)) Sizes
     ∷ finds (fileOf 0 (0 ∷ 1 ∷ 0 ∷ []) [] [] [] []) Sizes
     ∷ finds (fileOf 0 (0 ∷ 0 ∷ []) [] [] [] []) Horizon
     ∷ finds (fileOf 2000000001 (0 ∷ 1 ∷ []) [] [] [] []) Horizon
@@ -90,6 +137,7 @@ examples =
     ∷ finds (integrator 1073741825 1) (Integrator 0)
     ∷ finds (integrator belowM 1) (Integrator 0)
     ∷ finds (integrator 0 0) (Integrator 0)
+    ∷ finds (fileOf 10 (0 ∷ 1 ∷ belowM ∷ 1 ∷ []) [] [] [] []) (Integrator 1)
     ∷ finds (integrator 0 minus1) (Integrator 0)
     ∷ finds (integrator 0 1073741825) (Integrator 0)
     ∷ finds (fileOf 10 (0 ∷ 1 ∷ 0 ∷ 0 ∷ 0 ∷ 0 ∷ []) (belowM ∷ []) [] [] []) (Integrator 1)
@@ -102,6 +150,8 @@ examples =
     ∷ finds (node (3 ∷ 0 ∷ 1 ∷ 1073741824 ∷ minusM ∷ [])) Clean
     ∷ finds (node (4 ∷ 0 ∷ 0 ∷ 0 ∷ 0 ∷ [])) (Node 0)
     ∷ finds (node (0 ∷ 2 ∷ 0 ∷ 0 ∷ 0 ∷ [])) (Node 0)
+    ∷ finds (node (2 ∷ 2 ∷ 0 ∷ 0 ∷ 0 ∷ [])) (Node 0)
+    ∷ finds (node (3 ∷ 2 ∷ 0 ∷ 0 ∷ 0 ∷ [])) (Node 0)
     ∷ finds (node (1 ∷ 0 ∷ 2 ∷ 0 ∷ 0 ∷ [])) (Node 0)
     ∷ finds (node (3 ∷ 0 ∷ 2 ∷ 0 ∷ 0 ∷ [])) (Node 0)
     ∷ finds (node (0 ∷ 0 ∷ 1 ∷ 1 ∷ 0 ∷ [])) (Node 0)
@@ -153,4 +203,5 @@ examples-right =
     refl & refl & refl & refl & refl & refl & refl & refl & refl & refl & refl & refl & refl & refl & refl & refl & refl & refl & refl & refl &
     refl & refl & refl & refl & refl & refl & refl & refl & refl & refl & refl & refl & refl & refl & refl & refl & refl & refl & refl & refl &
     refl & refl & refl & refl & refl & refl & refl & refl & refl & refl & refl & refl & refl & refl & refl & refl & refl & refl & refl & refl &
-    refl & refl & refl & refl & refl & refl & refl & refl & refl & refl & refl & refl & refl & refl & refl & refl & end
+    refl & refl & refl & refl & refl & refl & refl & refl & refl & refl & refl & refl & refl & refl & refl & refl & refl & refl & refl & refl &
+    refl & refl & refl & refl & refl & refl & refl & refl & refl & end

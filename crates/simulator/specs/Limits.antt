@@ -4,14 +4,15 @@ use mathlib.Core.Logic.{_⊎_}
 use mathlib.Core.List.{List}
 use Prim.Native.Nat.{ℕ, _+_, _-_, _*_, _^_, _≤_, _<_}
 use lib.IntN.{ℤ, pos, _-ℤ_, _*ℤ_}
+use lib.Signed.{_≤ℤ_, _<ℤ_}
 use lib.Dec.{eqb}
 use lib.ListN.{length}
-use Rattle.integers.specs.Parts.{up, ∣_∣}
+use Rattle.integers.specs.Parts.{∣_∣}
 use Rattle.bitset.specs.Mask.{countOf}
 use Rattle.plan.specs.Format.{M, offsetIn, lengthIn}
 use Rattle.plan.specs.Lists.{nat, int}
 use Rattle.plan.specs.declared.Plan.{Plan}
-use Rattle.machine.specs.Values.{valueOf, sumOver}
+use Rattle.machine.specs.Values.{valueOf, sumOver, rateOf}
 use Rattle.machine.specs.Due.{never, upperLevel, lowerLevel, distance, ticksTo}
 use Rattle.machine.specs.Instant.{positionAt, eventsOf}
 use Rattle.machine.specs.Runs.{events, positionOf}
@@ -47,41 +48,46 @@ pub record AnswerLimits (st : State) : Type 0 where
   pub position : (i : ℕ) → (positionedOf st i .number ≤ 14) × (∣ positionedOf st i .value ∣ < 2 ^ 31)
   pub run : (engine : Engine) (budget : ℕ) (buffer : List ℕ) → RunLimits (runOf engine st budget buffer)
 
+-- of what a rate is made of, with outputs q and input values u within ±M, for a plan that keeps its rules
+pub record RateLimits (p : Plan) (q u : List ℤ) : Type 0 where
+  pub sources : p .n + p .m + p .k ≤ 56
+  pub operands : (j : ℕ) → j < p .k → (nat (p .lefts) j ≤ 54) × (nat (p .rights) j ≤ 54)
+  -- the value of every source, so of a node's operands; their difference and product before the clip
+  pub values : (i : ℕ) → ∣ valueOf p q u i ∣ ≤ M
+  pub differences : (i j : ℕ) → ∣ valueOf p q u i -ℤ valueOf p q u j ∣ ≤ 2 ^ 31
+  pub products : (i j : ℕ) → ∣ valueOf p q u i *ℤ valueOf p q u j ∣ ≤ 2 ^ 60
+  -- the links of an integrator, what each adds, and the sum so far
+  pub own-links : (i : ℕ) → countOf (λ e. eqb (nat (p .targets) e) i) (p .links) ≤ 56
+  pub terms : (e : ℕ) → e < p .links → ∣ int (p .coefficients) e *ℤ valueOf p q u (nat (p .sources) e) ∣ ≤ 2 ^ 54
+  pub sums : (i e : ℕ) → e ≤ p .links → ∣ sumOver p q u i e ∣ ≤ 56 * 2 ^ 54
+  pub rate : (i : ℕ) → ∣ rateOf p q u i ∣ ≤ 56 * 2 ^ 38
+
+-- of integrator i's levels, its distance to the level ahead and the ticks to it, for x strictly between the levels
+module _ (p : Plan) (q : List ℤ) (i : ℕ) (x s : ℤ) where
+  pub record LevelLimits : Type 0 where
+    pub upper : ∣ upperLevel p q i ∣ ≤ 2 ^ 31
+    pub lower : ∣ lowerLevel p q i ∣ ≤ 2 ^ 31
+    pub stored : ∣ x ∣ < 2 ^ 31
+    pub nearest : pos 1 ≤ℤ distance x (upperLevel p q i) (lowerLevel p q i) s
+    pub farthest : distance x (upperLevel p q i) (lowerLevel p q i) s <ℤ pos (2 ^ 31)
+    pub soonest : 1 ≤ ticksTo x (upperLevel p q i) (lowerLevel p q i) s
+    pub latest : ticksTo x (upperLevel p q i) (lowerLevel p q i) s < 2 ^ 31
+
+-- of a sound state
 module _ (p : Plan) (r : Running) where
-  -- x's distance to the level ahead, and the ticks to it
-  abbrev pub distanceOf : ℕ → ℤ
-  distanceOf i = distance (int (r .x) i) (upperLevel p (r .q) i) (lowerLevel p (r .q) i) (int (r .s) i)
-
-  abbrev pub ticksOf : ℕ → ℕ
-  ticksOf i = ticksTo (int (r .x) i) (upperLevel p (r .q) i) (lowerLevel p (r .q) i) (int (r .s) i)
-
   -- of integrator i
   pub record IntegratorLimits (i : ℕ) : Type 0 where
-    pub stored : ∣ int (r .x) i ∣ < 2 ^ 31
+    pub levels : LevelLimits p (r .q) i (int (r .x) i) (int (r .s) i)
     pub position : ∣ positionOf r i ∣ < 2 ^ 31
-    pub upper : ∣ upperLevel p (r .q) i ∣ ≤ 2 ^ 31
-    pub lower : ∣ lowerLevel p (r .q) i ∣ ≤ 2 ^ 31
-    pub own-links : countOf (λ e. eqb (nat (p .targets) e) i) (p .links) ≤ 56
-    pub sum : (e : ℕ) → e ≤ p .links → ∣ sumOver p (r .q) (r .inputs) i e ∣ ≤ 56 * 2 ^ 54
     pub slope : ∣ int (r .s) i ∣ ≤ 56 * 2 ^ 38
-    pub nearest : 1 ≤ up (distanceOf i)
-    pub farthest : up (distanceOf i) < 2 ^ 31
-    pub soonest : 1 ≤ ticksOf i
-    pub latest : ticksOf i < 2 ^ 31
     pub due : (nat (r .d) i ≡ never) ⊎ (nat (r .d) i ≤ 2000000000 + (2 ^ 31 - 1))
     -- up to the due tick
     pub elapsed : (t : ℕ) → r .clock ≤ t → t ≤ nat (r .d) i → ∣ int (r .s) i *ℤ pos (t - nat (r .l) i) ∣ < 2 ^ 32 + 2 ^ 44
     pub value : nat (r .d) i < never → ∣ positionAt r (nat (r .d) i) i ∣ < 2 ^ 32 + 2 ^ 44
 
   pub record StateLimits : Type 0 where
+    pub rates : RateLimits p (r .q) (r .inputs)
     pub integrators : (i : ℕ) → i < p .n → IntegratorLimits i
-    pub sources : p .n + p .m + p .k ≤ 56
-    pub operands : (j : ℕ) → j < p .k → (nat (p .lefts) j ≤ 54) × (nat (p .rights) j ≤ 54)
-    -- of the value of every source, so of a node's operands; of their difference and product before the clip
-    pub values : (i : ℕ) → ∣ valueOf p (r .q) (r .inputs) i ∣ ≤ M
-    pub differences : (i j : ℕ) → ∣ valueOf p (r .q) (r .inputs) i -ℤ valueOf p (r .q) (r .inputs) j ∣ ≤ 2 ^ 31
-    pub products : (i j : ℕ) → ∣ valueOf p (r .q) (r .inputs) i *ℤ valueOf p (r .q) (r .inputs) j ∣ ≤ 2 ^ 60
-    pub terms : (e : ℕ) → e < p .links → ∣ int (p .coefficients) e *ℤ valueOf p (r .q) (r .inputs) (nat (p .sources) e) ∣ ≤ 2 ^ 54
     pub next : r .next ≤ 64
     pub instants : r .instants ≤ 2000000000
     pub updates : r .updates ≤ 32 * 2000000000

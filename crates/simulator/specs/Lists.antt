@@ -61,6 +61,13 @@ cutAt st (c ∷ cs) i =
     cond (leb i (fedBy st c)) (record { engine = c .engine; budget = i; buffer = c .buffer } ∷ [])
     (c ∷ cutAt (answerOf st c .state) cs (i - fedBy st c))
 
+-- the list behind instant i: what is left of that call's budget, and the later calls
+unfoldable pub restAt : State → List Call → ℕ → List Call
+restAt st [] i = []
+restAt st (c ∷ cs) i =
+    cond (leb i (fedBy st c)) (record { engine = c .engine; budget = fedBy st c - i; buffer = c .buffer } ∷ cs)
+    (restAt (answerOf st c .state) cs (i - fedBy st c))
+
 -- the same list with every call made by one engine
 unfoldable pub allBy : Engine → List Call → List Call
 allBy engine [] = []

@@ -2,22 +2,25 @@
 use mathlib.Core.Path.{_≡_}
 use mathlib.Core.Bool.{Bool, true, false, cond}
 use mathlib.Core.List.{List, [], _∷_, _++_}
-use Prim.Native.Nat.{ℕ, suc, _+_, _-_, _^_, _≤_, _<_}
-use lib.IntN.{ℤ, pos, negsuc}
-use lib.Signed.{_≤ℤ_}
+use Prim.Native.Nat.{ℕ, _+_, _-_, _*_, _≤_, _<_}
+use lib.IntN.{ℤ, pos, _+ℤ_, _-ℤ_}
+use lib.Signed.{_<ℤ_}
 use lib.Dec.{ltb}
 use lib.ListN.{length, take, drop}
+use Rattle.integers.specs.Parts.{∣_∣}
+use Rattle.bitset.specs.Mask.{countOf}
 use Rattle.words.specs.Word.{Bytes, word, signedWord}
 use Rattle.plan.specs.Lists.{nat, int}
-use Rattle.plan.specs.Format.{Shaped, part, offsetIn, lengthIn, planIn}
+use Rattle.plan.specs.Format.{M, Shaped, part, offsetIn, lengthIn, planIn}
 use Rattle.plan.specs.Refusals.{accepted, sectionOf}
-use Rattle.plan.specs.Rules.{Rule, Holds, ruleEntries}
+use Rattle.plan.specs.Rules.{IntegratorRule, PlanRules, Rule, Holds, ruleEntries}
 use Rattle.plan.specs.Encoding.{fileLength, encode}
 use Rattle.plan.specs.Idle.{idlePlan}
 use Rattle.plan.specs.declared.Plan.{Plan}
-use Rattle.machine.specs.Due.{ticksTo, LeastReaching}
+use Rattle.machine.specs.Due.{never, upperLevel, lowerLevel, dueOf, LeastTicks}
 use Rattle.machine.specs.Start.{startState, idleState}
-use Rattle.machine.specs.Instant.{eventBytes}
+use Rattle.machine.specs.Reach.{changes, reached, Reached}
+use Rattle.machine.specs.Instant.{positionAt, tickOf, eventsOf}
 use Rattle.machine.specs.Status.{statusOf, integratorOf}
 use Rattle.machine.specs.Plain.{Plain, plainAfter, plainEvents, plainStatus, plainIntegrator}
 use Rattle.machine.specs.Sound.{Sound}
@@ -26,13 +29,13 @@ use Rattle.machine.specs.declared.Running.{Running}
 use Rattle.machine.specs.declared.State.{State}
 use Rattle.machine.specs.declared.Engine.{Engine}
 use Rattle.machine.specs.declared.Engine.the-variants.{Lazy, Eager}
-use Rattle.simulator.specs.Calls.{over, loadOf, writeOf, bufferOfWrite, declineOf, runOf, bufferOfRun, positionedOf}
-use Rattle.simulator.specs.Lists.{Call, answerOf, bufferOf, afterCalls, budgetSum, joinedBytes, engineAt, cutAt, allBy, growth}
-use Rattle.simulator.specs.Lists.{growthUpTo, movedNow}
-use Rattle.simulator.specs.Limits.{AcceptedLimits, FileLimits, AnswerLimits, StateLimits}
+use Rattle.simulator.specs.Calls.{loadOf, writeOf, bufferOfWrite, runOf, bufferOfRun, positionedOf}
+use Rattle.simulator.specs.Lists.{Call, answerOf, bufferOf, afterCalls, budgetSum, joinedBytes, engineAt, cutAt, restAt, allBy}
+use Rattle.simulator.specs.Lists.{growth, growthUpTo, movedNow}
+use Rattle.simulator.specs.Limits.{AcceptedLimits, FileLimits, AnswerLimits, RateLimits, LevelLimits, StateLimits}
 use Rattle.simulator.specs.declared.Positioned.{Positioned}
 
--- ════ 1. "Every file of any length and content is loaded or refused by number and entry"
+-- ════ 1. Demand 1, files: every file of any length and content is loaded, or refused by number and entry
 
 -- what number and entry mean, by the rules as propositions
 pub record Answered (file : List ℕ) (number entry : ℕ) : Type 0 where
@@ -64,12 +67,13 @@ pub record ViewPromise (file : List ℕ) (number : ℕ) : Type 0 where
 abbrev pub EveryView : Type 0
 EveryView = (file : List ℕ) (number : ℕ) → Bytes file → ViewPromise file number
 
--- ════ 2. "written and loaded plans come back equal"
+-- ════ 2. Demand 2: written and loaded plans come back equal; events are those of document 01's machine
 
 -- a file that load accepts is written back: its length and its bytes, and the buffer's later bytes kept
 pub record WrittenBack (file buffer : List ℕ) : Type 0 where
   pub number : writeOf (loadOf file .state) buffer .number ≡ 0
   pub size : writeOf (loadOf file .state) buffer .length ≡ length file
+  pub state : writeOf (loadOf file .state) buffer .state ≡ loadOf file .state
   pub bytes : bufferOfWrite (loadOf file .state) buffer ≡ file ++ drop (length file) buffer
 
 abbrev pub LoadThenWrite : Type 0
@@ -85,26 +89,44 @@ pub record LoadedBack (st : State) (buffer : List ℕ) : Type 0 where
 abbrev pub WriteThenLoad : Type 0
 WriteThenLoad = (st : State) (buffer : List ℕ) → Shaped (st .plan) → Sound st → writeOf st buffer .number ≡ 0 → LoadedBack st buffer
 
--- the 12 bytes of an event read back to tick, source and value
-abbrev pub EventsRead : Type 0
-EventsRead =
-    (t source : ℕ) (value : ℤ) → t < 2 ^ 32 → source < 2 ^ 32 → negsuc (2 ^ 31 - 1) ≤ℤ value → value ≤ℤ pos (2 ^ 31 - 1)
-    → (length (eventBytes t source value) ≡ 12) × (word (eventBytes t source value) 0 ≡ t) × (word (eventBytes t source value) 4 ≡ source)
-    × (signedWord (eventBytes t source value) 8 ≡ value)
+-- 12 bytes from `at` on read back as an event's tick, source and value
+pub record EventAt (bytes : List ℕ) (at t source : ℕ) (value : ℤ) : Type 0 where
+  pub tick : word bytes at ≡ t
+  pub number : word bytes (at + 4) ≡ source
+  pub signed : signedWord bytes (at + 8) ≡ value
 
--- ════ 3. Demand 3: "for every accepted plan and every list of run calls, lazy and eager in any mix, declined ones included, the outcome is that
--- of the plain machine for the sum of the accepted budgets, and the update count is exact". "demand 3 is a single claim about the list".
+-- "Events of an instant: due integrators and commanded inputs by ascending source number, 12 bytes each: tick, source, signed value": an
+-- event stands behind those of the lower sources that have one, and there are no others
+pub record EventsPromise (p : Plan) (r : Running) : Type 0 where
+  pub due : (i : ℕ) → i < p .n → nat (r .d) i ≡ tickOf p r
+      → EventAt (eventsOf p r) (12 * countOf (changes p (r .d) (tickOf p r)) i) (tickOf p r) i (positionAt r (tickOf p r) i)
+  pub commanded : (j e : ℕ) → j < p .m → e < p .commands → nat (p .ticks) e ≡ tickOf p r → nat (p .numbers) e ≡ j
+      → EventAt (eventsOf p r) (12 * countOf (changes p (r .d) (tickOf p r)) (p .n + j)) (tickOf p r) (p .n + j) (int (p .values) e)
+  pub no-other : length (eventsOf p r) ≡ 12 * countOf (changes p (r .d) (tickOf p r)) (p .n + p .m)
+
+abbrev pub EventsRead : Type 0
+EventsRead = (st : State) → Sound st → statusOf (st .plan) (st .run) ≡ 0 → EventsPromise (st .plan) (st .run)
+
+-- step 4: the test of what is reached is the relation in document 01's words
+abbrev pub ReachMeans : Type 0
+ReachMeans =
+    (p : Plan) (d : List ℕ) (t i : ℕ) → PlanRules p → (reached p d t i ≡ true → Reached p d t i) × (Reached p d t i → reached p d t i ≡ true)
+
+-- ════ 3. Demand 3, "a single claim about the list": for every accepted file and every list of run calls, lazy and eager in any mix, declined
+-- ones included, the outcome is that of the plain machine for the sum of the accepted budgets, and the update count is exact
 
 -- what a call of a list answers in itself
 pub record CallPromise (p : Plan) (st : State) (c : Call) : Type 0 where
   -- "There a call is declined by 11 or 12 only", and by these exactly as they are named; never by 10
-  pub number : answerOf st c .number ≡ declineOf p (c .budget) (length (c .buffer))
+  pub above : 1024 < c .budget → answerOf st c .number ≡ 11
+  pub short : c .budget ≤ 1024 → length (c .buffer) < c .budget * (p .n + p .m) * 12 → answerOf st c .number ≡ 12
+  pub accepted : c .budget ≤ 1024 → c .budget * (p .n + p .m) * 12 ≤ length (c .buffer) → answerOf st c .number ≡ 0
   -- "Each accepted call answers the status and integrator of the state it returns."
   pub status : answerOf st c .number ≡ 0 → answerOf st c .status ≡ statusOf p (answerOf st c .state .run)
   pub integrator : answerOf st c .number ≡ 0 → answerOf st c .integrator ≡ integratorOf p (answerOf st c .state .run)
   -- "later bytes keep their value"
   pub later : drop (answerOf st c .written) (bufferOf st c) ≡ drop (answerOf st c .written) (c .buffer)
-  -- "a refusal changes nothing that was lent"
+  -- a refusal changes nothing that was lent
   pub declined : (answerOf st c .number ≡ 0 → ⊥) → (answerOf st c .state ≡ st) × (bufferOf st c ≡ c .buffer)
 
 -- "Plain machine and engines are compared on everything but l, the stored x and updates"
@@ -123,9 +145,10 @@ pub record SameAsPlain (p : Plan) (st : State) (m : Plain) : Type 0 where
   pub position : (i : ℕ) → i < p .n → positionedOf st i ≡ record { number = 0; value = int (m .x) i; state = st }
   pub no-position : (i : ℕ) → p .n ≤ i → positionedOf st i ≡ record { number = 14; value = pos 0; state = st }
 
--- instant i of a list, by the list cut behind it: the state after it is that list's end
+-- instant i of a list, by the list cut behind it: the state after it is that list's end, and the rest of the list goes on from there
 pub record InstantPromise (p : Plan) (st : State) (calls : List Call) (i : ℕ) : Type 0 where
-  pub reached : afterCalls st (cutAt st calls i) .run .instants ≡ i
+  pub taken : afterCalls st (cutAt st calls i) .run .instants ≡ i
+  pub resumed : afterCalls (afterCalls st (cutAt st calls i)) (restAt st calls i) ≡ afterCalls st calls
   -- "this is the number of integrators with l = c after it"
   pub moved : movedNow p (afterCalls st (cutAt st calls i) .run) ≡ growth p (engineAt st calls i) (plainAfter p (i - 1))
   pub grown : afterCalls st (cutAt st calls i) .run .updates ≡ growthUpTo p (engineAt st calls) i
@@ -166,6 +189,24 @@ abbrev pub IdleLoaded : Type 0
 IdleLoaded =
     (length (encode idlePlan) ≡ 52) × (loadOf (encode idlePlan) ≡ record { number = 0; entry = 0; state = idleState }) × Sound idleState
 
+-- "When a call declines", 10 to 14: each number exactly where it is named, tried in order
+pub record NumberPromise (st : State) (buffer : List ℕ) : Type 0 where
+  pub write-unsound : (Sound st → ⊥) → writeOf st buffer .number ≡ 10
+  pub write-short : Sound st → length buffer < length (encode (st .plan)) → writeOf st buffer .number ≡ 13
+  pub write-accepted : Sound st → length (encode (st .plan)) ≤ length buffer → writeOf st buffer .number ≡ 0
+  pub run-unsound : (engine : Engine) (budget : ℕ) → (Sound st → ⊥) → runOf engine st budget buffer .number ≡ 10
+  pub run-above : (engine : Engine) (budget : ℕ) → Sound st → 1024 < budget → runOf engine st budget buffer .number ≡ 11
+  pub run-short : (engine : Engine) (budget : ℕ) → Sound st → budget ≤ 1024 → length buffer < budget * (st .plan .n + st .plan .m) * 12
+      → runOf engine st budget buffer .number ≡ 12
+  pub run-accepted : (engine : Engine) (budget : ℕ) → Sound st → budget ≤ 1024 → budget * (st .plan .n + st .plan .m) * 12 ≤ length buffer
+      → runOf engine st budget buffer .number ≡ 0
+  pub position-unsound : (i : ℕ) → (Sound st → ⊥) → positionedOf st i .number ≡ 10
+  pub position-above : (i : ℕ) → Sound st → st .plan .n ≤ i → positionedOf st i .number ≡ 14
+  pub position-accepted : (i : ℕ) → Sound st → i < st .plan .n → positionedOf st i .number ≡ 0
+
+abbrev pub EveryNumber : Type 0
+EveryNumber = (st : State) (buffer : List ℕ) → NumberPromise st buffer
+
 -- declined calls leave state and buffer as they were, and every other figure is 0
 pub record DeclinedPromise (st : State) (buffer : List ℕ) : Type 0 where
   pub write : (writeOf st buffer .number ≡ 0 → ⊥) → (writeOf st buffer .length ≡ 0) × (writeOf st buffer .state ≡ st) × (bufferOfWrite st buffer ≡ buffer)
@@ -177,13 +218,22 @@ pub record DeclinedPromise (st : State) (buffer : List ℕ) : Type 0 where
 abbrev pub Declined : Type 0
 Declined = (st : State) (buffer : List ℕ) → DeclinedPromise st buffer
 
--- ════ 5. Due: "the least T ≥ 1", for both directions and every x
-abbrev pub DueLeast : Type 0
-DueLeast = (x upper lower s : ℤ) → (s ≡ pos 0 → ⊥) → LeastReaching x upper lower s (ticksTo x upper lower s)
+-- ════ 5. Due: "d−l is the least T ≥ 1", for both directions and every x, by the levels q+D and q−D; "for s = 0 d is never"
+pub record DuePromise (p : Plan) (q : List ℤ) (i l : ℕ) (x s : ℤ) : Type 0 where
+  pub still : s ≡ pos 0 → dueOf p q i l x s ≡ never
+  pub moving : (s ≡ pos 0 → ⊥)
+      → LeastTicks x (int q i +ℤ int (p .quanta) i) (int q i -ℤ int (p .quanta) i) s (dueOf p q i l x s - l)
 
--- ════ 6. The limits, from soundness alone
+abbrev pub DueLeast : Type 0
+DueLeast = (p : Plan) (q : List ℤ) (i l : ℕ) (x s : ℤ) → DuePromise p q i l x s
+
+-- ════ 6. The limits, each from the least that it needs, and of states from soundness alone
 pub record LimitPromise : Type 0 where
   pub accepted-files : (file : List ℕ) → Bytes file → loadOf file .number ≡ 0 → AcceptedLimits file
   pub files : (file : List ℕ) → Bytes file → FileLimits file
+  pub rates : (p : Plan) (q u : List ℤ) → PlanRules p → ((i : ℕ) → i < p .n → ∣ int q i ∣ ≤ M) → ((j : ℕ) → j < p .m → ∣ int u j ∣ ≤ M)
+      → RateLimits p q u
+  pub levels : (p : Plan) (q : List ℤ) (i : ℕ) (x s : ℤ) → IntegratorRule p i → ∣ int q i ∣ ≤ M → lowerLevel p q i <ℤ x → x <ℤ upperLevel p q i
+      → LevelLimits p q i x s
   pub states : (st : State) → Sound st → StateLimits (st .plan) (st .run)
   pub answers : (st : State) → AnswerLimits st
