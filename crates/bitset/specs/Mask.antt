@@ -36,7 +36,7 @@ union a b = bitOr a b
 unfoldable pub withBit : ℕ → ℕ → ℕ
 withBit m i = union m (2 ^ i)
 
--- the lowest i in m, a mask of w bits: how many zeros stand below the lowest set bit
+-- the lowest i in m, a mask of w bits: how many zeros stand below the lowest set bit; w where m is empty
 abbrev pub lowestOf : ℕ → ℕ → ℕ
 lowestOf w m = trailingZeros w m
 

@@ -31,9 +31,8 @@ pub fn with(m: u32, i: usize) -> u32
     m | (1 << i)
 }
 
-// The lowest of m.
+// The lowest of m, or 32 where m is empty.
 pub fn lowest(m: u32) -> usize
-    requires { ⌜ 0 < m ⌝ }
     ensures { λ r. ⌜ r ≡ lowestOf 32 m ⌝ }
 {
     u32::trailing_zeros(m) as usize

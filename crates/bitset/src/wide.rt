@@ -21,7 +21,6 @@ pub fn with64(m: u64, i: usize) -> u64
 
 // `lowest` for 64 bits.
 pub fn lowest64(m: u64) -> usize
-    requires { ⌜ 0 < m ⌝ }
     ensures { λ r. ⌜ r ≡ lowestOf 64 m ⌝ }
 {
     u64::trailing_zeros(m) as usize

@@ -1,8 +1,8 @@
 // The public calls of the cup simulator: what each answers.
 use machine::State;
 
-// Number 0 is acceptance; else it is one of document 01's refusals, every other figure is 0, and the state is the one that was handed
-// in, for `load` the idle one.
+// Number 0 is acceptance; else it is one of document 01's refusals. A refused load gives the lowest faulty entry, and the idle state. Every
+// other refused call gives 0 for its other figures, and the state that was handed in.
 pub struct Loaded {
     pub number: usize,
     pub entry: usize,
