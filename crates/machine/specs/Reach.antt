@@ -41,10 +41,14 @@ module _ (p : Plan) (d : List ℕ) (t : ℕ) where
   unfoldable pub reached : ℕ → Bool
   reached i = some (linkReaches i) (p .links)
 
-  -- the same in document 01's words: a source that is a due integrator, a commanded input, or a node that depends on one
+  -- The same in document 01's words. A source changes that is "a due integrator, a commanded input":
+  pub data Changed : ℕ → Type 0 where
+    due : {i : ℕ} → i < p .n → nat d i ≡ t → Changed i
+    commanded : {i : ℕ} (j e : ℕ) → i ≡ p .n + j → j < p .m → e < p .commands → nat (p .ticks) e ≡ t → nat (p .numbers) e ≡ j → Changed i
+
+  -- "or a node that depends on one", by A, or by B where its kind uses it
   pub data Depends : ℕ → Type 0 where
-    due : {i : ℕ} → i < p .n → nat d i ≡ t → Depends i
-    commanded : {i : ℕ} (j e : ℕ) → i ≡ p .n + j → j < p .m → e < p .commands → nat (p .ticks) e ≡ t → nat (p .numbers) e ≡ j → Depends i
+    itself : {i : ℕ} → Changed i → Depends i
     left : {i : ℕ} (j : ℕ) → i ≡ p .n + p .m + j → j < p .k → Depends (nat (p .lefts) j) → Depends i
     right : {i : ℕ} (j : ℕ) → i ≡ p .n + p .m + j → j < p .k → (nat (p .kinds) j ≡ 2 → ⊥) → Depends (nat (p .rights) j) → Depends i
 

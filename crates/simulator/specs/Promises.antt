@@ -19,7 +19,7 @@ use Rattle.plan.specs.Idle.{idlePlan}
 use Rattle.plan.specs.declared.Plan.{Plan}
 use Rattle.machine.specs.Due.{never, upperLevel, lowerLevel, dueOf, LeastTicks}
 use Rattle.machine.specs.Start.{startState, idleState}
-use Rattle.machine.specs.Reach.{changes, reached, Reached}
+use Rattle.machine.specs.Reach.{changes, Changed, reached, Reached}
 use Rattle.machine.specs.Instant.{positionAt, tickOf, eventsOf}
 use Rattle.machine.specs.Status.{statusOf, integratorOf}
 use Rattle.machine.specs.Plain.{Plain, plainAfter, plainEvents, plainStatus, plainIntegrator}
@@ -107,10 +107,13 @@ pub record EventsPromise (p : Plan) (r : Running) : Type 0 where
 abbrev pub EventsRead : Type 0
 EventsRead = (st : State) → Sound st → statusOf (st .plan) (st .run) ≡ 0 → EventsPromise (st .plan) (st .run)
 
--- step 4: the test of what is reached is the relation in document 01's words
+-- which sources change, and step 4: the tests are the relations in document 01's words
+pub record ReachPromise (p : Plan) (d : List ℕ) (t i : ℕ) : Type 0 where
+  pub change : (changes p d t i ≡ true → Changed p d t i) × (Changed p d t i → changes p d t i ≡ true)
+  pub reach : (reached p d t i ≡ true → Reached p d t i) × (Reached p d t i → reached p d t i ≡ true)
+
 abbrev pub ReachMeans : Type 0
-ReachMeans =
-    (p : Plan) (d : List ℕ) (t i : ℕ) → PlanRules p → (reached p d t i ≡ true → Reached p d t i) × (Reached p d t i → reached p d t i ≡ true)
+ReachMeans = (p : Plan) (d : List ℕ) (t i : ℕ) → PlanRules p → ReachPromise p d t i
 
 -- ════ 3. Demand 3, "a single claim about the list": for every accepted file and every list of run calls, lazy and eager in any mix, declined
 -- ones included, the outcome is that of the plain machine for the sum of the accepted budgets, and the update count is exact
