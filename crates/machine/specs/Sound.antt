@@ -15,38 +15,38 @@ use Rattle.machine.specs.Next.{nextCommand}
 use Rattle.machine.specs.declared.Running.{Running}
 use Rattle.machine.specs.declared.State.{State}
 
--- the entries from k on of an array of w are 0
-abbrev pub UnusedNat : ℕ → ℕ → List ℕ → Type 0
-UnusedNat w k xs = (i : ℕ) → k ≤ i → i < w → nat xs i ≡ 0
+-- the entries of an array from k on are 0
+abbrev pub UnusedNat : ℕ → List ℕ → Type 0
+UnusedNat k xs = (i : ℕ) → k ≤ i → nat xs i ≡ 0
 
-abbrev pub UnusedInt : ℕ → ℕ → List ℤ → Type 0
-UnusedInt w k xs = (i : ℕ) → k ≤ i → i < w → int xs i ≡ pos 0
+abbrev pub UnusedInt : ℕ → List ℤ → Type 0
+UnusedInt k xs = (i : ℕ) → k ≤ i → int xs i ≡ pos 0
 
 -- "unused entries are 0": those of the plan
 pub record PlanUnused (p : Plan) : Type 0 where
-  pub starts : UnusedInt 32 (p .n) (p .starts)
-  pub quanta : UnusedInt 32 (p .n) (p .quanta)
-  pub firsts : UnusedInt 8 (p .m) (p .firsts)
-  pub kinds : UnusedNat 16 (p .k) (p .kinds)
-  pub lefts : UnusedNat 16 (p .k) (p .lefts)
-  pub rights : UnusedNat 16 (p .k) (p .rights)
-  pub lows : UnusedInt 16 (p .k) (p .lows)
-  pub highs : UnusedInt 16 (p .k) (p .highs)
-  pub targets : UnusedNat 256 (p .links) (p .targets)
-  pub sources : UnusedNat 256 (p .links) (p .sources)
-  pub coefficients : UnusedInt 256 (p .links) (p .coefficients)
-  pub ticks : UnusedNat 64 (p .commands) (p .ticks)
-  pub numbers : UnusedNat 64 (p .commands) (p .numbers)
-  pub values : UnusedInt 64 (p .commands) (p .values)
+  pub starts : UnusedInt (p .n) (p .starts)
+  pub quanta : UnusedInt (p .n) (p .quanta)
+  pub firsts : UnusedInt (p .m) (p .firsts)
+  pub kinds : UnusedNat (p .k) (p .kinds)
+  pub lefts : UnusedNat (p .k) (p .lefts)
+  pub rights : UnusedNat (p .k) (p .rights)
+  pub lows : UnusedInt (p .k) (p .lows)
+  pub highs : UnusedInt (p .k) (p .highs)
+  pub targets : UnusedNat (p .links) (p .targets)
+  pub sources : UnusedNat (p .links) (p .sources)
+  pub coefficients : UnusedInt (p .links) (p .coefficients)
+  pub ticks : UnusedNat (p .commands) (p .ticks)
+  pub numbers : UnusedNat (p .commands) (p .numbers)
+  pub values : UnusedInt (p .commands) (p .values)
 
 -- and those of the running figures
 pub record RunningUnused (p : Plan) (r : Running) : Type 0 where
-  pub x : UnusedInt 32 (p .n) (r .x)
-  pub q : UnusedInt 32 (p .n) (r .q)
-  pub s : UnusedInt 32 (p .n) (r .s)
-  pub l : UnusedNat 32 (p .n) (r .l)
-  pub d : UnusedNat 32 (p .n) (r .d)
-  pub inputs : UnusedInt 8 (p .m) (r .inputs)
+  pub x : UnusedInt (p .n) (r .x)
+  pub q : UnusedInt (p .n) (r .q)
+  pub s : UnusedInt (p .n) (r .s)
+  pub l : UnusedNat (p .n) (r .l)
+  pub d : UnusedNat (p .n) (r .d)
+  pub inputs : UnusedInt (p .m) (r .inputs)
 
 -- what is asked of integrator i
 pub record SoundIntegrator (p : Plan) (r : Running) (i : ℕ) : Type 0 where

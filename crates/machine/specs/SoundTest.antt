@@ -1,14 +1,15 @@
 -- "A sound state" as a test, which the calls that take a state try first. The counts are tested before anything that they bound.
-use mathlib.Core.Bool.{Bool, _&&_, _||_}
+use mathlib.Core.Bool.{Bool, _&&_}
 use mathlib.Core.List.{List}
 use Prim.Native.Nat.{ℕ, _*_}
 use lib.IntN.{ℤ, pos, _-ℤ_}
 use lib.Signed.{ltZ}
 use lib.Dec.{leb, ltb, eqb}
+use lib.ListN.{drop}
 use Rattle.integers.specs.Parts.{∣_∣}
 use Rattle.integers.specs.Range.{within}
 use Rattle.plan.specs.Format.{M}
-use Rattle.plan.specs.Lists.{nat, int, every}
+use Rattle.plan.specs.Lists.{nat, int, every, all}
 use Rattle.plan.specs.Tests.{countsKept}
 use Rattle.plan.specs.Refusals.{isClean, planFinding}
 use Rattle.plan.specs.declared.Plan.{Plan}
@@ -18,19 +19,20 @@ use Rattle.machine.specs.Next.{nextCommand}
 use Rattle.machine.specs.declared.Running.{Running}
 use Rattle.machine.specs.declared.State.{State}
 
-unfoldable pub unusedNat : ℕ → ℕ → List ℕ → Bool
-unusedNat w k xs = every (λ i. ltb i k || eqb (nat xs i) 0) w
+-- "unused entries are 0": those of an array from k on
+unfoldable pub unusedNat : ℕ → List ℕ → Bool
+unusedNat k xs = all (λ x. eqb x 0) (drop k xs)
 
-unfoldable pub unusedInt : ℕ → ℕ → List ℤ → Bool
-unusedInt w k xs = every (λ i. ltb i k || eqb ∣ int xs i ∣ 0) w
+unfoldable pub unusedInt : ℕ → List ℤ → Bool
+unusedInt k xs = all (λ z. eqb ∣ z ∣ 0) (drop k xs)
 
 unfoldable pub planUnused : Plan → Bool
 planUnused p =
-    unusedInt 32 (p .n) (p .starts) && unusedInt 32 (p .n) (p .quanta) && unusedInt 8 (p .m) (p .firsts)
-    && unusedNat 16 (p .k) (p .kinds) && unusedNat 16 (p .k) (p .lefts) && unusedNat 16 (p .k) (p .rights)
-    && unusedInt 16 (p .k) (p .lows) && unusedInt 16 (p .k) (p .highs)
-    && unusedNat 256 (p .links) (p .targets) && unusedNat 256 (p .links) (p .sources) && unusedInt 256 (p .links) (p .coefficients)
-    && unusedNat 64 (p .commands) (p .ticks) && unusedNat 64 (p .commands) (p .numbers) && unusedInt 64 (p .commands) (p .values)
+    unusedInt (p .n) (p .starts) && unusedInt (p .n) (p .quanta) && unusedInt (p .m) (p .firsts)
+    && unusedNat (p .k) (p .kinds) && unusedNat (p .k) (p .lefts) && unusedNat (p .k) (p .rights)
+    && unusedInt (p .k) (p .lows) && unusedInt (p .k) (p .highs)
+    && unusedNat (p .links) (p .targets) && unusedNat (p .links) (p .sources) && unusedInt (p .links) (p .coefficients)
+    && unusedNat (p .commands) (p .ticks) && unusedNat (p .commands) (p .numbers) && unusedInt (p .commands) (p .values)
 
 -- the plan of a state: its counts, its rules 4 to 9, its unused entries
 unfoldable pub planSound : Plan → Bool
@@ -39,8 +41,8 @@ planSound p = countsKept p && isClean (planFinding p) && planUnused p
 module _ (p : Plan) (r : Running) where
   unfoldable pub runningUnused : Bool
   runningUnused =
-      unusedInt 32 (p .n) (r .x) && unusedInt 32 (p .n) (r .q) && unusedInt 32 (p .n) (r .s)
-      && unusedNat 32 (p .n) (r .l) && unusedNat 32 (p .n) (r .d) && unusedInt 8 (p .m) (r .inputs)
+      unusedInt (p .n) (r .x) && unusedInt (p .n) (r .q) && unusedInt (p .n) (r .s)
+      && unusedNat (p .n) (r .l) && unusedNat (p .n) (r .d) && unusedInt (p .m) (r .inputs)
 
   -- "|x−q| < D" is tested as x strictly between the levels, since x may be any 64-bit number
   unfoldable pub integratorSound : ℕ → Bool

@@ -10,7 +10,7 @@ use Rattle.integers.specs.Division.{ceilDiv}
 use Rattle.integers.specs.Range.{limited, within}
 use Rattle.bitset.specs.Mask.{countOf}
 use Rattle.words.specs.Word.{numberAt, bytesOf, signedOf, unsignedOf, flat}
-use Rattle.plan.specs.Lists.{nat, int, table, row, joined, every, some, firstFrom}
+use Rattle.plan.specs.Lists.{nat, int, table, row, joined, every, some, all, firstFrom}
 use Rattle.plan.specs.Format.{horizonIn, offsetIn, lengthIn, startIn, countIn, part, sectionIn, columnIn, planIn}
 use Rattle.plan.specs.Tests.{longEnough, offsetsKept, countKept, sizesKept, horizonKept, counts, countsKept, integratorKept, inputKept}
 use Rattle.plan.specs.Tests.{kindKept, ascends, nodeKept, linkLimits, linkOrdered, commandLimits, commandOrdered}
@@ -175,7 +175,7 @@ examples =
 
 -- every example is right: each pair of values is equal by computation
 pub examples-right : AllRight examples
-unfolding examples ceilDiv limited within countOf numberAt bytesOf signedOf unsignedOf flat table row joined every some firstFrom
+unfolding examples ceilDiv limited within countOf numberAt bytesOf signedOf unsignedOf flat table row joined every some all firstFrom
     horizonIn offsetIn lengthIn startIn countIn part sectionIn columnIn planIn longEnough offsetsKept countKept sizesKept
     horizonKept counts countsKept integratorKept inputKept kindKept ascends nodeKept linkLimits linkOrdered commandLimits
     commandOrdered numberOf entryOf isClean orElse firstFinding horizonFinding integratorsFinding inputsFinding nodesFinding
