@@ -2,8 +2,9 @@
 //!
 //! The layers, each using only those above it:
 //!
-//! - [`limits`], [`status`], [`plan`]: the figures, the three statuses and the plan as plain data;
-//! - [`file`]: the plan file, its refusals 1 to 9, the section view and the encoding;
+//! - [`limits`], [`words`], [`status`], [`plan`]: the figures, the words of files and events, the three
+//!   statuses and the plan as plain data;
+//! - [`mod@file`]: the plan file, its refusals 1 to 9, the section view and the encoding;
 //! - [`plain`]: the plain machine, naive on purpose, with an observer of what a lazy engine moves;
 //! - [`engine`]: the lazy and the eager engine, which share no code with the plain machine;
 //! - [`raw`], [`sound`], [`calls`]: the state as a struct of arrays, its soundness, the public calls;
@@ -28,3 +29,4 @@ pub mod raw;
 pub mod samples;
 pub mod sound;
 pub mod status;
+pub mod words;

@@ -1,41 +1,53 @@
 //! The listing program as a function from bytes to text.
 
-use crate::calls::{Checker, Loaded, Ran, Simulator};
+use crate::calls::{Checker, Ran, Simulator};
 use crate::engine::Engine;
-use crate::limits::{EVENT_BYTES, LISTING_BUDGET, LISTING_BYTES};
+use crate::limits::{EVENT_BYTES, LISTING_BUDGET, LISTING_BYTES, WORD_BYTES};
+use crate::raw::RawState;
+use crate::words::{signed_at, word_at};
+use std::io::{self, Write};
 
-/// What the program prints for its standard input, of which it reads 4,493 bytes at most.
+/// What the program prints for its standard input.
 pub fn listing(input: &[u8]) -> String {
+    let mut text = Vec::new();
+    write_listing(input, &mut text).expect("a vector takes all bytes");
+    String::from_utf8(text).expect("the listing is text")
+}
+
+/// Prints the listing of the first 4,493 bytes of the input, with a write for each run: a plan may have
+/// more events than fit the memory.
+pub fn write_listing(input: &[u8], output: &mut impl Write) -> io::Result<()> {
     let file = &input[..input.len().min(LISTING_BYTES)];
     let loaded = Checker::default().load(file);
-    if loaded.number != 0 {
-        return format!("refused {} {}\n", loaded.number, loaded.entry);
+    match loaded.number {
+        0 => write_runs(loaded.state, output),
+        number => {
+            let refused = format!("refused {number} {}\n", loaded.entry);
+            output.write_all(refused.as_bytes())
+        }
     }
-    listing_of_runs(loaded)
 }
 
 /// Runs lazily "with budget 64 until status 1 or 2".
-fn listing_of_runs(loaded: Loaded) -> String {
-    let mut state = loaded.state;
+fn write_runs(mut state: RawState, output: &mut impl Write) -> io::Result<()> {
     let events = LISTING_BUDGET as usize * (state.plan.n + state.plan.m);
     let mut buffer = vec![0; events * EVENT_BYTES];
-    let mut text = String::new();
     loop {
         let ran = Checker::default().run(Engine::Lazy, &state, LISTING_BUDGET, &mut buffer);
         assert_eq!(ran.number, 0, "a declined run would be repeated for ever");
-        for event in buffer[..ran.written].chunks_exact(EVENT_BYTES) {
-            text += &event_line(event);
-        }
+        let events = buffer[..ran.written].chunks_exact(EVENT_BYTES);
+        let lines: String = events.map(event_line).collect();
+        output.write_all(lines.as_bytes())?;
         if ran.status != 0 {
-            return text + &end_line(&ran);
+            return output.write_all(end_line(&ran).as_bytes());
         }
         state = ran.state;
     }
 }
 
 fn event_line(event: &[u8]) -> String {
-    let word = |at: usize| u32::from_le_bytes([0, 1, 2, 3].map(|byte| event[at + byte]));
-    format!("{} {} {}\n", word(0), word(4), word(8) as i32)
+    let (tick, source) = (word_at(event, 0), word_at(event, WORD_BYTES));
+    format!("{tick} {source} {}\n", signed_at(event, 2 * WORD_BYTES))
 }
 
 fn end_line(ran: &Ran) -> String {

@@ -2,15 +2,13 @@
 
 mod common;
 
-use common::{loaded, CHECKER, ENGINES, MARK};
+use common::{loaded, spoiled_cups, CHECKER, ENGINES, MARK};
 use cup_check::calls::Simulator;
 use cup_check::generate::breakage::with_wild_number;
 use cup_check::generate::states::sound_state;
 use cup_check::generate::{plans, Breakage, Rng};
-use cup_check::limits::NEVER;
 use cup_check::plan::Plan;
 use cup_check::raw::{RawPlan, RawState};
-use cup_check::samples::document_cup;
 use cup_check::sound::{broken_clauses, is_sound, Clause};
 
 /// Asserts that exactly this clause is broken and that every call declines by 10.
@@ -71,44 +69,13 @@ fn wild_numbers_anywhere_are_answered() {
         }
     }
     println!("{sound} of 4000 still sound");
+    assert!((100..3_900).contains(&sound), "{sound}");
 }
 
 #[test]
 fn every_unused_entry_has_to_be_0() {
-    let state = loaded(&document_cup());
-    let in_plan: [fn(&mut RawPlan); 14] = [
-        |plan| plan.starts[31] = 1,
-        |plan| plan.quanta[2] = 1,
-        |plan| plan.firsts[1] = -1,
-        |plan| plan.kinds[0] = 1,
-        |plan| plan.lefts[15] = 1,
-        |plan| plan.rights[0] = 1,
-        |plan| plan.lows[3] = -1,
-        |plan| plan.highs[0] = 1,
-        |plan| plan.targets[2] = 1,
-        |plan| plan.sources[255] = 1,
-        |plan| plan.coefficients[2] = 1,
-        |plan| plan.ticks[63] = 1,
-        |plan| plan.numbers[1] = 1,
-        |plan| plan.values[1] = 1,
-    ];
-    for change in in_plan {
-        let mut broken = state.clone();
-        change(&mut broken.plan);
-        assert_breaks(&broken, Clause::UnusedInPlan);
-    }
-    let in_run: [fn(&mut RawState); 6] = [
-        |state| state.run.x[2] = 1,
-        |state| state.run.q[31] = 1,
-        |state| state.run.s[2] = -1,
-        |state| state.run.l[2] = 1,
-        |state| state.run.d[2] = NEVER,
-        |state| state.run.inputs[1] = 1,
-    ];
-    for change in in_run {
-        let mut broken = state.clone();
-        change(&mut broken);
-        assert_breaks(&broken, Clause::UnusedInRun);
+    for (state, clause) in spoiled_cups() {
+        assert_breaks(&state, clause);
     }
 }
 

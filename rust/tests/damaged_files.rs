@@ -11,6 +11,7 @@ use cup_check::generate::damage::damaged;
 use cup_check::generate::{plans, Damage, Rng};
 use cup_check::limits::{Section, FILE_BYTES_MAX};
 use cup_check::raw::RawState;
+use cup_check::words::word_at;
 use std::collections::BTreeMap;
 
 /// Checks a file and answers why it was refused, if it was.
@@ -52,8 +53,7 @@ fn assert_is_lowest(file: &[u8], answered: Refusal) {
         let section = Section::ALL[place];
         sections[place].truncate(entries * section.entry_bytes());
         sections[place + 1..].iter_mut().for_each(Vec::clear);
-        let horizon = u32::from_le_bytes([file[0], file[1], file[2], file[3]]);
-        refusal(&assemble(horizon, &sections))
+        refusal(&assemble(word_at(file, 0), &sections))
     };
     let expected = (answered.number(), answered.entry);
     assert_eq!(cut_to(answered.entry + 1), expected);

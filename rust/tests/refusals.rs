@@ -2,39 +2,18 @@
 
 mod common;
 
-use common::{loaded, refusal, refusal_of_plan, CHECKER};
+use common::{every_section, loaded, refusal, refusal_of_plan, CHECKER};
 use cup_check::calls::Simulator;
 use cup_check::file::layout::{assemble, section_bytes};
 use cup_check::file::{encode, read, Cause};
 use cup_check::generate::plant::{in_file, in_plan, planted};
 use cup_check::generate::{plans, Rng};
-use cup_check::limits::{Section, COEFFICIENT_BOUND, HORIZON_MAX, M};
+use cup_check::limits::{Section, HORIZON_MAX, M};
 use cup_check::plan::Plan;
 use cup_check::raw::RawState;
 use cup_check::samples::document_cup;
 
-/// A lawful plan in which every section has entries and every node kind occurs.
-fn every_section() -> Plan {
-    Plan::new(100)
-        .integrator(-M, 1)
-        .integrator(M, M)
-        .input(-M)
-        .input(M)
-        .difference(0, 3)
-        .product(4, 4)
-        .limit(5, -M, M)
-        .threshold(6, 0, M, -M)
-        .link(0, 0, -COEFFICIENT_BOUND)
-        .link(0, 7, COEFFICIENT_BOUND)
-        .link(1, 1, 1)
-        .link(1, 2, -1)
-        .command(1, 0, -M)
-        .command(1, 1, M)
-        .command(50, 0, 0)
-        .command(100, 1, 0)
-}
-
-/// The answer for this plan after a change.
+/// The answer for the plan with every section after a change.
 fn changed(change: impl Fn(&mut Plan)) -> (u32, usize) {
     let mut plan = every_section();
     change(&mut plan);
@@ -119,15 +98,18 @@ const ENTRY_CAUSES: [Cause; 15] = [
 
 #[test]
 fn a_fault_of_the_file_goes_before_a_fault_of_an_entry() {
+    let mut both = 0;
     for seed in 0..1_000 {
         let mut rng = Rng::new(seed);
         let mut plan = plans::any(&mut rng);
         let entry_cause = rng.pick(&ENTRY_CAUSES);
-        in_plan(&mut rng, &mut plan, entry_cause);
+        both += usize::from(in_plan(&mut rng, &mut plan, entry_cause).is_some());
         let cause = Cause::ALL[rng.below(7)];
         let file = in_file(&mut rng, &plan, cause);
         assert_eq!(refusal(&file), (cause.number(), 0), "seed {seed}");
     }
+    println!("{both} of 1000 files have a fault of an entry as well");
+    assert!(both >= 800, "{both}");
 }
 
 #[test]

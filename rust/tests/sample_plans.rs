@@ -5,10 +5,12 @@ mod common;
 use common::{listing_by_plain, refusal};
 use cup_check::file::{encode, read};
 use cup_check::generate::{Family, Rng};
-use cup_check::listing::listing;
+use cup_check::limits::LISTING_BUDGET;
+use cup_check::listing::{listing, write_listing};
+use cup_check::plain::Plain;
 use cup_check::samples;
 use std::fs;
-use std::io::Write;
+use std::io::{self, Write};
 use std::path::{Path, PathBuf};
 use std::process::{Command, Stdio};
 
@@ -108,6 +110,41 @@ fn the_program_prints_the_listing() {
         assert_eq!(printed(&kept(name, "plan")).as_bytes(), kept(name, "txt"));
     }
     assert_eq!(printed(b""), "refused 1 0\n");
+}
+
+/// Takes a number of writes, then fails.
+struct Full {
+    left: usize,
+    taken: Vec<u8>,
+}
+
+impl Write for Full {
+    fn write(&mut self, bytes: &[u8]) -> io::Result<usize> {
+        let left = self.left.checked_sub(1);
+        self.left = left.ok_or(io::ErrorKind::BrokenPipe)?;
+        self.taken.write(bytes)
+    }
+
+    fn flush(&mut self) -> io::Result<()> {
+        Ok(())
+    }
+}
+
+#[test]
+fn the_listing_is_written_run_by_run() {
+    let file = kept("chain", "plan");
+    let mut output = Full {
+        left: 1,
+        taken: Vec::new(),
+    };
+    let written = write_listing(&file, &mut output);
+    assert!(written.is_err());
+    let plan = read(&file).expect("it is lawful");
+    let mut first_run = Plain::start(&plan);
+    first_run.run(u128::from(LISTING_BUDGET));
+    let lines = output.taken.iter().filter(|&&byte| byte == b'\n').count();
+    assert_eq!(lines, first_run.events.len());
+    assert!(kept("chain", "txt").starts_with(&output.taken));
 }
 
 #[test]

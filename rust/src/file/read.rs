@@ -4,6 +4,7 @@ use super::cause::{Cause, Refusal};
 use super::rules;
 use crate::limits::{Section, HEADER_BYTES, WORD_BYTES};
 use crate::plan::{Command, Integrator, Link, Node, Plan};
+use crate::words::{signed_at, word_at};
 
 /// The five sections of a file, each a part of the file itself.
 pub type Parts<'f> = [&'f [u8]; 5];
@@ -41,8 +42,8 @@ fn pairs(file: &[u8]) -> [(u64, u64); 5] {
     std::array::from_fn(|number| {
         let at = WORD_BYTES + number * 2 * WORD_BYTES;
         (
-            u64::from(word(file, at)),
-            u64::from(word(file, at + WORD_BYTES)),
+            u64::from(word_at(file, at)),
+            u64::from(word_at(file, at + WORD_BYTES)),
         )
     })
 }
@@ -87,7 +88,7 @@ fn check_counts(parts: &Parts) -> Result<(), Refusal> {
 fn decode(file: &[u8], parts: &Parts) -> Plan {
     let entries = |section: Section| parts[section as usize].chunks_exact(section.entry_bytes());
     Plan {
-        horizon: word(file, 0),
+        horizon: word_at(file, 0),
         integrators: entries(Section::Integrators).map(integrator).collect(),
         inputs: entries(Section::Inputs)
             .map(|entry| signed(entry, 0))
@@ -101,7 +102,7 @@ fn decode(file: &[u8], parts: &Parts) -> Plan {
 fn integrator(entry: &[u8]) -> Integrator {
     Integrator {
         start: signed(entry, 0),
-        quantum: i64::from(word(entry, 4)),
+        quantum: i64::from(word_at(entry, 4)),
     }
 }
 
@@ -125,23 +126,16 @@ fn link(entry: &[u8]) -> Link {
 
 fn command(entry: &[u8]) -> Command {
     Command {
-        tick: word(entry, 0),
+        tick: word_at(entry, 0),
         input: index(entry, 4),
         value: signed(entry, 8),
     }
 }
 
-fn word(bytes: &[u8], at: usize) -> u32 {
-    let mut four = [0; WORD_BYTES];
-    four.copy_from_slice(&bytes[at..at + WORD_BYTES]);
-    u32::from_le_bytes(four)
-}
-
 fn signed(bytes: &[u8], at: usize) -> i64 {
-    // Two's complement: the same four bytes as i32.
-    i64::from(word(bytes, at) as i32)
+    i64::from(signed_at(bytes, at))
 }
 
 fn index(bytes: &[u8], at: usize) -> usize {
-    word(bytes, at) as usize
+    word_at(bytes, at) as usize
 }

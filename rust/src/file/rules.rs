@@ -15,10 +15,14 @@ pub fn check(plan: &Plan) -> Result<(), Refusal> {
         node(entry, plan.node_source(number))
     })?;
     lowest_fault(&plan.links, |number, entry| {
-        link(entry, plan).or_else(|| link_order(&plan.links, number))
+        let key = |link: &Link| (link.target, link.source);
+        let causes = [Cause::LinkRepeats, Cause::LinkDescends];
+        link(entry, plan).or_else(|| out_of_order(&plan.links, number, key, causes))
     })?;
     lowest_fault(&plan.commands, |number, entry| {
-        command(entry, plan).or_else(|| command_order(&plan.commands, number))
+        let key = |command: &Command| (command.tick, command.input);
+        let causes = [Cause::CommandRepeats, Cause::CommandDescends];
+        command(entry, plan).or_else(|| out_of_order(&plan.commands, number, key, causes))
     })
 }
 
@@ -110,17 +114,6 @@ fn link(entry: &Link, plan: &Plan) -> Option<Cause> {
     }
 }
 
-/// "An order fault is the later entry's": an entry is compared with the one before it.
-fn link_order(links: &[Link], number: usize) -> Option<Cause> {
-    let key = |link: &Link| (link.target, link.source);
-    let before = links.get(number.checked_sub(1)?)?;
-    match key(before).cmp(&key(&links[number])) {
-        Ordering::Less => None,
-        Ordering::Equal => Some(Cause::LinkRepeats),
-        Ordering::Greater => Some(Cause::LinkDescends),
-    }
-}
-
 fn command(entry: &Command, plan: &Plan) -> Option<Cause> {
     if entry.tick == 0 {
         Some(Cause::TickZero)
@@ -135,12 +128,17 @@ fn command(entry: &Command, plan: &Plan) -> Option<Cause> {
     }
 }
 
-fn command_order(commands: &[Command], number: usize) -> Option<Cause> {
-    let key = |command: &Command| (command.tick, command.input);
-    let before = commands.get(number.checked_sub(1)?)?;
-    match key(before).cmp(&key(&commands[number])) {
+/// "An order fault is the later entry's": an entry is compared with the one before it.
+fn out_of_order<T, K: Ord>(
+    entries: &[T],
+    number: usize,
+    key: impl Fn(&T) -> K,
+    [repeats, descends]: [Cause; 2],
+) -> Option<Cause> {
+    let before = entries.get(number.checked_sub(1)?)?;
+    match key(before).cmp(&key(&entries[number])) {
         Ordering::Less => None,
-        Ordering::Equal => Some(Cause::CommandRepeats),
-        Ordering::Greater => Some(Cause::CommandDescends),
+        Ordering::Equal => Some(repeats),
+        Ordering::Greater => Some(descends),
     }
 }

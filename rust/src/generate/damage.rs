@@ -9,6 +9,7 @@ use crate::limits::{
     Section, COEFFICIENT_BOUND, COMMANDS_MAX, GRAINS, HEADER_BYTES, HORIZON_MAX, INPUTS_MAX,
     INTEGRATORS_MAX, LINKS_MAX, M, NODES_MAX, WORD_BYTES,
 };
+use crate::words::{set_word, word_at};
 
 /// A way of damaging a file.
 #[derive(Clone, Copy, Debug, PartialEq, Eq)]
@@ -161,14 +162,6 @@ fn boundary_word(rng: &mut Rng, _former: u32) -> u32 {
 
 fn nudged_word(rng: &mut Rng, former: u32) -> u32 {
     former.wrapping_add(rng.pick(&[1, u32::MAX, 4, 8, 12, 1 << 31]))
-}
-
-fn word_at(file: &[u8], place: usize) -> u32 {
-    u32::from_le_bytes([0, 1, 2, 3].map(|byte| file[place + byte]))
-}
-
-fn set_word(file: &mut [u8], place: usize, word: u32) {
-    file[place..place + WORD_BYTES].copy_from_slice(&word.to_le_bytes());
 }
 
 fn flip_bits(rng: &mut Rng, file: &[u8]) -> Vec<u8> {

@@ -5,6 +5,7 @@ use crate::file::layout::{assemble, section_bytes};
 use crate::file::{encode, Cause, Refusal};
 use crate::limits::{Section, COEFFICIENT_BOUND, HEADER_BYTES, HORIZON_MAX, M, WORD_BYTES};
 use crate::plan::{Plan, DIFFERENCE, LIMIT, PRODUCT, THRESHOLD};
+use crate::words::{set_word, word_at};
 
 /// The largest word, as an index, a kind or an unsigned number.
 const WORD_MAX: i64 = u32::MAX as i64;
@@ -182,9 +183,8 @@ fn move_word(rng: &mut Rng, file: &mut [u8], place: usize) {
         1 => u32::MAX - 3,
         _ => rng.within(1, WORD_MAX) as u32,
     };
-    let word = &mut file[place..place + WORD_BYTES];
-    let former = u32::from_le_bytes([word[0], word[1], word[2], word[3]]);
-    word.copy_from_slice(&former.wrapping_add(change).to_le_bytes());
+    let moved = word_at(file, place).wrapping_add(change);
+    set_word(file, place, moved);
 }
 
 /// Makes the last section end before or after the file's end.

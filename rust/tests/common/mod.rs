@@ -1,7 +1,11 @@
 //! What several test files need.
 
 // Each test file is a program of its own and uses a part of these.
-#![allow(dead_code)]
+#![allow(dead_code, unused_imports)]
+
+mod fixtures;
+
+pub use fixtures::{every_section, spoiled_cups};
 
 use cup_check::calls::{Checker, Ran, Simulator};
 use cup_check::compare::{loaded_list, Found, Met};
@@ -12,6 +16,7 @@ use cup_check::limits::EVENT_BYTES;
 use cup_check::plain::{Observer, Plain};
 use cup_check::plan::Plan;
 use cup_check::raw::RawState;
+use cup_check::words::{signed_at, word_at};
 
 /// The simulator of this package.
 pub const CHECKER: Checker = Checker {
@@ -59,10 +64,9 @@ pub fn run_plan(engine: Engine, plan: &Plan, budget: u64) -> Ran {
 
 /// The events in bytes as (tick, source, value).
 pub fn events(bytes: &[u8]) -> Vec<(u32, u32, i32)> {
-    let word = |event: &[u8], at| u32::from_le_bytes([0, 1, 2, 3].map(|b: usize| event[at + b]));
     bytes
         .chunks_exact(EVENT_BYTES)
-        .map(|event| (word(event, 0), word(event, 4), word(event, 8) as i32))
+        .map(|event| (word_at(event, 0), word_at(event, 4), signed_at(event, 8)))
         .collect()
 }
 

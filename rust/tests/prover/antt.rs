@@ -1,26 +1,43 @@
 //! Values as the prover's terms.
 
+use crate::common::MARK;
 use cup_check::engine::Engine;
 use cup_check::generate::Call;
 use cup_check::limits::{INPUTS_MAX, INTEGRATORS_MAX, NEVER};
 use cup_check::plain::Plain;
-use cup_check::raw::{RawPlan, RawRunning};
+use cup_check::raw::{RawPlan, RawRunning, RawState};
+
+/// Types. Records that the cases do not bring in go by their full names.
+pub const BYTES: &str = "(List ℕ)";
+pub const CALLS: &str = "(List Call)";
+pub const STATE: &str = "State";
+pub const PLAN: &str = "Rattle.plan.specs.declared.Plan.Plan";
+pub const RUNNING: &str = "Rattle.machine.specs.declared.Running.Running";
+pub const PLAIN: &str = "Rattle.machine.specs.Plain.Plain";
 
 /// A case: a type, what the definitions say, what it is to be.
 pub fn case(kind: &str, computed: &str, expected: &str) -> String {
     format!("case {kind} ({computed}) {expected}")
 }
 
-pub fn nat(value: u64) -> String {
-    value.to_string()
+pub fn nat_case(computed: &str, expected: u64) -> String {
+    case("ℕ", computed, &nat(expected))
 }
 
-pub fn truth(value: bool) -> &'static str {
-    if value {
-        "true"
-    } else {
-        "false"
-    }
+pub fn int_case(computed: &str, expected: i64) -> String {
+    case("ℤ", computed, &format!("({})", int(expected)))
+}
+
+pub fn truth_case(computed: &str, expected: bool) -> String {
+    case("Bool", computed, if expected { "true" } else { "false" })
+}
+
+pub fn bytes_case(computed: &str, expected: &[u8]) -> String {
+    case(BYTES, computed, &bytes(expected))
+}
+
+fn nat(value: u64) -> String {
+    value.to_string()
 }
 
 fn int(value: i64) -> String {
@@ -73,23 +90,35 @@ pub fn bytes(values: &[u8]) -> String {
     format!("({front}[])")
 }
 
-/// The calls of a list, each with a buffer of its length.
-pub fn calls(list: &[Call]) -> String {
-    let term = |call: &Call| {
-        let engine = match call.engine {
-            Engine::Lazy => "Lazy",
-            Engine::Eager => "Eager",
-        };
-        let (budget, length) = (call.budget, call.buffer);
-        format!(
-            "record {{ engine = {engine}; budget = {budget}; buffer = replicate {length} 165 }} ∷ "
-        )
+/// A buffer of a length as the tests fill it.
+pub fn buffer(length: usize) -> String {
+    format!("(replicate {length} {MARK})")
+}
+
+/// A call, with a buffer of its length.
+pub fn call(call: &Call) -> String {
+    let engine = match call.engine {
+        Engine::Lazy => "Lazy",
+        Engine::Eager => "Eager",
     };
-    format!("({}[])", list.iter().map(term).collect::<String>())
+    let (budget, buffer) = (call.budget, buffer(call.buffer));
+    format!("(record {{ engine = {engine}; budget = {budget}; buffer = {buffer} }})")
+}
+
+/// The calls of a list.
+pub fn calls(list: &[Call]) -> String {
+    let front: String = list.iter().map(|entry| call(entry) + " ∷ ").collect();
+    format!("({front}[])")
+}
+
+/// A state, unused entries included.
+pub fn state(state: &RawState) -> String {
+    let (plan, running) = (plan(&state.plan), running(&state.run));
+    format!("(record {{ plan = {plan}; run = {running} }})")
 }
 
 /// Running figures, unused entries included.
-pub fn running(run: &RawRunning) -> String {
+fn running(run: &RawRunning) -> String {
     format!(
         "(record {{ x = {}; q = {}; s = {}; l = {}; d = {}; inputs = {}; clock = {}; next = {}; instants = {}; updates = {} }})",
         ints(&run.x),
@@ -106,7 +135,7 @@ pub fn running(run: &RawRunning) -> String {
 }
 
 /// A plan as a state holds it.
-pub fn raw_plan(plan: &RawPlan) -> String {
+fn plan(plan: &RawPlan) -> String {
     format!(
         "(record {{ horizon = {}; n = {}; m = {}; k = {}; links = {}; commands = {}; starts = {}; quanta = {}; firsts = {}; \
          kinds = {}; lefts = {}; rights = {}; lows = {}; highs = {}; targets = {}; sources = {}; coefficients = {}; \

@@ -3,6 +3,7 @@
 
 pub mod antt;
 
+use std::collections::BTreeSet;
 use std::fs;
 use std::path::{Path, PathBuf};
 use std::process::Command;
@@ -10,6 +11,55 @@ use std::process::Command;
 /// Where the table of the calls' worked examples stands. The cases use what it uses and open what
 /// it opens.
 const TABLE: &str = "crates/simulator/specs/Examples.antt";
+
+/// A declaration of the module of cases.
+#[derive(Clone, Debug)]
+pub enum Declaration {
+    /// A value that several cases speak of.
+    Literal {
+        name: String,
+        kind: &'static str,
+        term: String,
+    },
+    /// Cases, each an equation that holds by computation alone.
+    Theorem { name: String, cases: Vec<String> },
+}
+
+impl Declaration {
+    /// How many cases it has.
+    pub fn cases(&self) -> usize {
+        match self {
+            Declaration::Literal { .. } => 0,
+            Declaration::Theorem { cases, .. } => cases.len(),
+        }
+    }
+
+    /// Its text, where a theorem opens the definitions that it computes by.
+    fn text(&self, opened: &str) -> String {
+        match self {
+            Declaration::Literal { name, kind, term } => {
+                format!("\nabbrev {name} : {kind}\n{name} = {term}\n")
+            }
+            Declaration::Theorem { name, cases } => {
+                assert!(!cases.is_empty(), "{name} would hold of nothing");
+                let (proof, cases) = ("refl & ".repeat(cases.len()), cases.join("\n    ∷ "));
+                format!(
+                    "\n{name} : AllRight (\n    {cases}\n    ∷ [])\nunfolding {opened}\n{name} = {proof}end\n"
+                )
+            }
+        }
+    }
+}
+
+/// What the prover says of the module.
+pub struct Verdict {
+    /// Whether it accepts them all.
+    pub proved: bool,
+    /// The names of those it refuses.
+    pub refused: BTreeSet<String>,
+    /// Everything it printed.
+    pub printed: String,
+}
 
 /// The folder is removed with the value.
 pub struct Repository {
@@ -24,39 +74,57 @@ impl Repository {
     /// Copies of the crates that are listed, with their definitions, sources and proofs.
     pub fn beside_the_crates() -> Repository {
         let root = Path::new(env!("CARGO_MANIFEST_DIR")).join("..");
+        let table = fs::read_to_string(root.join(TABLE)).expect(TABLE);
         let name = format!("cup-check-definitions-{}", std::process::id());
-        let folder = std::env::temp_dir().join(name);
-        copy(&root.join("crates"), &folder.join("crates"));
+        // The value stands before there is a folder, so that a failure on the way removes it too.
+        let repository = Repository {
+            folder: std::env::temp_dir().join(name),
+            uses: uses_of(&table),
+            opened: opened_by(&table),
+        };
+        repository.clear();
+        repository.copy_crates(&root);
+        repository.add_cases(&root);
+        repository
+    }
+
+    /// Makes the folder anew: one may have been left by a run that was killed.
+    fn clear(&self) {
+        if self.folder.exists() {
+            fs::remove_dir_all(&self.folder).expect("what was left is removed");
+        }
+        fs::create_dir(&self.folder).expect("a folder of its own");
+    }
+
+    fn copy_crates(&self, root: &Path) {
+        copy(&root.join("crates"), &self.folder.join("crates"));
         // What the toolchain has proved already, by the contents of the files, it does not prove again.
         for proved in ["target/rlib", "target/stamp"] {
             if root.join(proved).is_dir() {
-                copy(&root.join(proved), &folder.join(proved));
+                copy(&root.join(proved), &self.folder.join(proved));
             }
-        }
-        let listed = fs::read_to_string(root.join("crates.txt")).expect("crates.txt");
-        let names: Vec<&str> = listed.lines().filter_map(name_of).collect();
-        let cases = format!("{listed}cases: {}\n", names.join(" "));
-        write(&folder.join("crates.txt"), &cases);
-        write(
-            &folder.join("crates/cases/src/lib.rt"),
-            "// Cases alone: no code.\n",
-        );
-        write(
-            &folder.join("crates/cases/specs/Lib.antt"),
-            "pub mod Cases\n",
-        );
-        let table = fs::read_to_string(root.join(TABLE)).expect(TABLE);
-        Repository {
-            folder,
-            uses: uses_of(&table),
-            opened: opened_by(&table),
         }
     }
 
-    /// Whether every theorem is accepted; else what the prover says.
-    pub fn check(&self, theorems: &[Vec<String>]) -> Result<(), String> {
-        let module = self.folder.join("crates/cases/specs/Cases.antt");
-        write(&module, &self.module(theorems));
+    /// Lists a crate of cases, without code, that sees all others.
+    fn add_cases(&self, root: &Path) {
+        let listed = fs::read_to_string(root.join("crates.txt")).expect("crates.txt");
+        let names: Vec<&str> = listed.lines().filter_map(name_of).collect();
+        self.write(
+            "crates.txt",
+            &format!("{listed}cases: {}\n", names.join(" ")),
+        );
+        self.write("crates/cases/src/lib.rt", "// Cases alone: no code.\n");
+        self.write("crates/cases/specs/Lib.antt", "pub mod Cases\n");
+    }
+
+    /// Has the prover check a module of declarations, among which there must be cases.
+    pub fn check(&self, declarations: &[Declaration]) -> Verdict {
+        let cases = declarations.iter().map(Declaration::cases);
+        assert_ne!(cases.sum::<usize>(), 0, "there is nothing to check");
+        let texts = declarations.iter().map(|entry| entry.text(&self.opened));
+        let module = self.uses.clone() + &texts.collect::<String>();
+        self.write("crates/cases/specs/Cases.antt", &module);
         let checked = Command::new("rt")
             .args(["check", "cases"])
             .current_dir(&self.folder)
@@ -64,24 +132,17 @@ impl Repository {
             .expect("rt runs");
         let printed = [checked.stdout, checked.stderr].concat();
         let printed = String::from_utf8_lossy(&printed).into_owned();
-        match checked.status.success() {
-            true => Ok(()),
-            false => Err(printed),
+        Verdict {
+            proved: checked.status.success() && printed.contains("rt: cases proved"),
+            refused: printed.lines().filter_map(refused_by).collect(),
+            printed,
         }
     }
 
-    /// The module of all theorems, each opening the definitions that it computes by.
-    fn module(&self, theorems: &[Vec<String>]) -> String {
-        let mut text = self.uses.clone();
-        for (number, cases) in theorems.iter().enumerate() {
-            let proof = "refl & ".repeat(cases.len());
-            text += &format!(
-                "\nright-{number} : AllRight (\n    {}\n    ∷ [])\nunfolding {}\nright-{number} = {proof}end\n",
-                cases.join("\n    ∷ "),
-                self.opened
-            );
-        }
-        text
+    fn write(&self, place: &str, text: &str) {
+        let path = self.folder.join(place);
+        fs::create_dir_all(path.parent().expect("a folder")).expect("a folder of its own");
+        fs::write(path, text).expect("a file");
     }
 }
 
@@ -89,6 +150,13 @@ impl Drop for Repository {
     fn drop(&mut self) {
         let _ = fs::remove_dir_all(&self.folder);
     }
+}
+
+/// The theorem that a printed line refuses: "FILE:LINE:COLUMN: error: `NAME`: ..".
+fn refused_by(line: &str) -> Option<String> {
+    let (_, error) = line.split_once(": error: `")?;
+    let (name, _) = error.split_once('`')?;
+    Some(name.to_string())
 }
 
 /// The name on a line of crates.txt.
@@ -127,9 +195,4 @@ fn copy(from: &Path, to: &Path) {
             false => fs::copy(&from, &to).map(|_| ()).expect("a copy"),
         }
     }
-}
-
-fn write(path: &Path, text: &str) {
-    fs::create_dir_all(path.parent().expect("a folder")).expect("a folder of its own");
-    fs::write(path, text).expect("a file");
 }

@@ -1,0 +1,160 @@
+//! The soundness of states filled by hand.
+
+use super::{times, SEEDS, SMALL};
+use crate::common::{loaded, rng_of, spoiled_cups, CHECKER};
+use crate::prover::antt::{nat_case, state, truth_case};
+use crate::prover::Declaration;
+use cup_check::calls::Simulator;
+use cup_check::engine::Engine;
+use cup_check::generate::states::sound_state;
+use cup_check::generate::{Breakage, Rng};
+use cup_check::limits::INTEGRATORS_MAX;
+use cup_check::raw::RawState;
+use cup_check::samples::document_cup;
+use cup_check::sound::{broken_clauses, is_sound, Clause};
+use std::collections::BTreeMap;
+
+/// The states of all theorems.
+#[derive(Debug, Default)]
+pub struct Met {
+    sound: u64,
+    unsound: u64,
+    /// How many break a clause and no other.
+    breaking: BTreeMap<String, u64>,
+}
+
+impl Met {
+    pub fn assert_enough(&self) {
+        // There is a breakage for every clause.
+        assert_eq!(self.breaking.len(), Breakage::ALL.len(), "{self:?}");
+        assert!(self.sound >= 5, "{self:?}");
+    }
+
+    fn count(&mut self, state: &RawState) {
+        match is_sound(state) {
+            true => self.sound += 1,
+            false => self.unsound += 1,
+        }
+        if let [clause] = &broken_clauses(state)[..] {
+            *self.breaking.entry(name_of(clause)).or_default() += 1;
+        }
+    }
+}
+
+/// A clause without the place where it is broken.
+fn name_of(clause: &Clause) -> String {
+    let whole = format!("{clause:?}");
+    whole.chars().take_while(|&letter| letter != '(').collect()
+}
+
+/// A state and the name of its theorem.
+type Named = (String, RawState);
+
+/// Sound states, states with one clause broken, and states with a wild number.
+pub fn declarations(met: &mut Met) -> Vec<Declaration> {
+    let states = [sound(), broken(), spoiled(), wild()].concat();
+    let theorem = |(name, entry): Named| {
+        met.count(&entry);
+        let cases = cases(&entry).to_vec();
+        Declaration::Theorem { name, cases }
+    };
+    states.into_iter().map(theorem).collect()
+}
+
+/// Whether a state is sound, and the numbers of calls with which there is something else wrong: a
+/// state that is not sound goes before it.
+fn cases(entry: &RawState) -> [String; 4] {
+    let (term, call) = (
+        state(entry),
+        "record { engine = Eager; budget = 1025; buffer = [] }",
+    );
+    let ran = CHECKER.run(Engine::Eager, entry, 1_025, &mut []);
+    let positioned = CHECKER.position(entry, INTEGRATORS_MAX);
+    let written = CHECKER.write(entry, &mut []);
+    let number = |call: String, number| nat_case(&format!("{call} .number"), u64::from(number));
+    [
+        truth_case(&format!("isSound {term}"), is_sound(entry)),
+        number(format!("answerOf {term} ({call})"), ran.number),
+        number(
+            format!("positionedOf {term} {INTEGRATORS_MAX}"),
+            positioned.number,
+        ),
+        number(format!("writeOf {term} []"), written.number),
+    ]
+}
+
+/// Document 01's cup as it is loaded, said not to be sound.
+pub fn wrong(name: &str) -> Declaration {
+    let cup = state(&loaded(&document_cup()));
+    Declaration::Theorem {
+        name: name.to_string(),
+        cases: vec![truth_case(&format!("isSound {cup}"), false)],
+    }
+}
+
+fn sound() -> Vec<Named> {
+    let seeds = SEEDS.take(SMALL.len() * times());
+    seeds
+        .map(|seed| (format!("sound-{seed}"), sound_by(seed).1))
+        .collect()
+}
+
+/// A sound state of a plan of one of the small families.
+fn sound_by(seed: u64) -> (Rng, RawState) {
+    let family = SMALL[seed as usize % SMALL.len()];
+    let mut rng = rng_of(family, seed);
+    let plan = family.plan(&mut rng);
+    let state = sound_state(&mut rng, &plan);
+    (rng, state)
+}
+
+/// Not every state can be broken in every clause, so other seeds are tried.
+fn broken() -> Vec<Named> {
+    let mut all = Vec::new();
+    for breakage in Breakage::ALL {
+        let broken = SEEDS.filter_map(|seed| {
+            let (mut rng, sound) = sound_by(seed);
+            let (state, _) = breakage.apply(&mut rng, &sound)?;
+            Some((format!("broken-{breakage:?}-{seed}"), state))
+        });
+        all.extend(broken.take(times()));
+    }
+    all
+}
+
+/// Each of the arrays with an unused entry that is not 0.
+fn spoiled() -> Vec<Named> {
+    let states = spoiled_cups().into_iter().enumerate();
+    states
+        .map(|(array, (state, _))| (format!("spoiled-{array}"), state))
+        .collect()
+}
+
+/// Numbers at the ends of their types, the five counts first: nothing may be asked of so many
+/// entries.
+const WILD: [fn(&mut RawState); 14] = [
+    |state| state.plan.n = usize::MAX,
+    |state| state.plan.m = usize::MAX,
+    |state| state.plan.k = usize::MAX,
+    |state| state.plan.links = usize::MAX,
+    |state| state.plan.commands = usize::MAX,
+    |state| state.run.x[0] = i64::MIN,
+    |state| state.run.x[1] = i64::MAX,
+    |state| state.run.q[0] = i64::MIN,
+    |state| state.run.s[1] = i64::MIN,
+    |state| state.run.inputs[0] = i64::MAX,
+    |state| state.run.clock = u32::MAX,
+    |state| state.run.next = usize::MAX,
+    |state| state.run.instants = u64::MAX,
+    |state| state.run.updates = u64::MAX,
+];
+
+fn wild() -> Vec<Named> {
+    let cup = loaded(&document_cup());
+    let state = |(number, change): (usize, &fn(&mut RawState))| {
+        let mut state = cup.clone();
+        change(&mut state);
+        (format!("wild-{number}"), state)
+    };
+    WILD.iter().enumerate().map(state).collect()
+}
