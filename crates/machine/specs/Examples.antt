@@ -1,5 +1,5 @@
 -- Document 01's examples P1 to P9, and cases that are easily got wrong, as one table with one theorem over it.
-use mathlib.Core.Path.{_≡_, refl}
+use mathlib.Core.Path.{refl}
 use mathlib.Core.Bool.{Bool, true, false}
 use mathlib.Core.List.{List, [], _∷_}
 use Prim.Native.Nat.{ℕ}
@@ -30,13 +30,12 @@ use Rattle.machine.specs.Instant.{positionAt, settingOf, settings, moves
 use Rattle.machine.specs.Instant.{takenAt, tickOf, instant, eventsOf}
 use Rattle.machine.specs.Status.{bars, barring, statusAt, integratorAt, statusOf, integratorOf, isPaused}
 use Rattle.machine.specs.Runs.{after, events, positionOf}
-use Rattle.machine.specs.Plain.{Plain, settled, plainStart, plainTick, plainPosition, plainOutputs, plainInstant, plainEventsOf}
+use Rattle.machine.specs.Plain.{settled, plainStart, plainTick, plainPosition, plainOutputs, plainInstant, plainEventsOf}
 use Rattle.machine.specs.Plain.{plainStatus, plainIntegrator, lazyCount, plainFrom, plainEventsFrom, plainAfter, plainEvents}
 use Rattle.machine.specs.SoundTest.{unusedNat, unusedInt, planUnused, planSound, runningUnused, integratorSound, runningSound}
 use Rattle.machine.specs.SoundTest.{isSound}
 use Rattle.machine.specs.declared.Running.{Running}
 use Rattle.machine.specs.declared.State.{State}
-use Rattle.machine.specs.declared.Engine.{Engine}
 use Rattle.machine.specs.declared.Engine.the-variants.{Lazy, Eager}
 
 -- M and −M

@@ -1,7 +1,7 @@
 -- Files for worked examples: "A cup in full" as its bytes and as its plan, and files made of a horizon and the words of five sections.
 use mathlib.Core.List.{List, [], _∷_, _++_}
 use Prim.Native.Nat.{ℕ, _+_, _*_}
-use lib.IntN.{ℤ, pos, negsuc}
+use lib.IntN.{pos, negsuc}
 use lib.ListN.{length, replicate}
 use Rattle.words.specs.Word.{flat}
 use Rattle.plan.specs.declared.Plan.{Plan}

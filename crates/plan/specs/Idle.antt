@@ -1,6 +1,6 @@
 -- "idle is the start of one integrator (start 0, quantum 1), nothing else, horizon 1": its plan.
-use mathlib.Core.List.{List, _∷_}
-use lib.IntN.{ℤ, pos}
+use mathlib.Core.List.{_∷_}
+use lib.IntN.{pos}
 use lib.ListN.{replicate}
 use Rattle.plan.specs.declared.Plan.{Plan}
 

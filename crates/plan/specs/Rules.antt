@@ -2,12 +2,12 @@
 use mathlib.Core.Path.{_≡_}
 use mathlib.Core.Logic.{_⊎_}
 use mathlib.Core.List.{List, [], _∷_}
-use Prim.Native.Nat.{ℕ, suc, _+_, _*_, _%_, _≤_, _<_}
+use Prim.Native.Nat.{ℕ, suc, _+_, _%_, _≤_, _<_}
 use lib.IntN.{ℤ, pos, negℤ}
 use lib.Signed.{_≤ℤ_}
 use lib.ListN.{length, getD}
 use Rattle.plan.specs.Lists.{nat, int}
-use Rattle.plan.specs.Format.{M, sections, entrySizes, leastCounts, largestCounts, headerLength, offsetIn, lengthIn, startIn}
+use Rattle.plan.specs.Format.{M, sections, entrySizes, leastCounts, largestCounts, headerLength, offsetIn, lengthIn}
 use Rattle.plan.specs.Format.{countIn, planIn}
 use Rattle.plan.specs.Tests.{counts}
 use Rattle.plan.specs.declared.Plan.{Plan}

@@ -1,8 +1,8 @@
 -- The rules of "Plan file" as tests: of the file's directory, of the counts, and of each entry of a plan. The limits of an entry and its
 -- order are two tests. Rules.antt has the same rules as propositions.
-use mathlib.Core.Bool.{Bool, true, false, not, cond, _&&_, _||_}
+use mathlib.Core.Bool.{Bool, not, cond, _&&_, _||_}
 use mathlib.Core.List.{List, [], _∷_}
-use Prim.Native.Nat.{ℕ, _+_, _-_, _*_, _%_}
+use Prim.Native.Nat.{ℕ, _+_, _-_, _%_}
 use lib.IntN.{ℤ, pos}
 use lib.Signed.{leZ}
 use lib.Dec.{leb, ltb, eqb}

@@ -1,16 +1,17 @@
 -- Worked examples of the calls on document 01's cup, with one theorem over their table: each refusal, the buffers, and a list of calls that
 -- mixes the engines and has two declined calls.
-use mathlib.Core.Path.{_≡_, refl}
+-- What is brought in and opened here serves the comparison of the definitions with the second simulator too.
+use mathlib.Core.Path.{refl}
 use mathlib.Core.Bool.{Bool, true, false}
 use mathlib.Core.List.{List, [], _∷_, _++_}
 use Prim.Native.Nat.{ℕ}
 use lib.IntN.{ℤ, pos, negsuc}
-use lib.ListN.{replicate, take}
+use lib.ListN.{replicate}
 use Rattle.integers.specs.Division.{ceilDiv}
 use Rattle.integers.specs.Range.{limited, within}
 use Rattle.bitset.specs.Mask.{countOf}
 use Rattle.words.specs.Word.{numberAt, bytesOf, signedOf, unsignedOf, flat}
-use Rattle.plan.specs.Lists.{nat, int, table, row, joined, every, some, all, firstFrom}
+use Rattle.plan.specs.Lists.{table, row, joined, every, some, all, firstFrom}
 use Rattle.plan.specs.Format.{horizonIn, offsetIn, lengthIn, startIn, countIn, part, sectionIn, columnIn, planIn}
 use Rattle.plan.specs.Tests.{longEnough, offsetsKept, countKept, sizesKept, horizonKept, counts, countsKept, integratorKept, inputKept}
 use Rattle.plan.specs.Tests.{kindKept, ascends, nodeKept, linkLimits, linkOrdered, commandLimits, commandOrdered}
@@ -20,7 +21,6 @@ use Rattle.plan.specs.Encoding.{lengthOf, offsetOf, fileLength, headerWords, in
 use Rattle.plan.specs.Encoding.{commandWords, fileWords, encode}
 use Rattle.plan.specs.Cases.{Case, case, AllRight, end, _&_}
 use Rattle.plan.specs.Files.{fileOf, cupFile, cupPlan}
-use Rattle.plan.specs.declared.Plan.{Plan}
 use Rattle.machine.specs.Values.{nodeOf, valueWith, valueOf, sumOver, rateOf}
 use Rattle.machine.specs.Due.{upperLevel, lowerLevel, distance, ticksTo, dueTick, dueOf}
 use Rattle.machine.specs.Next.{nextCommand, commandTick, leastDue, nextTick}
@@ -40,8 +40,6 @@ use Rattle.simulator.specs.Calls.{loadOf, writeNumber, writeOf, bufferOf
 use Rattle.simulator.specs.Calls.{runOf, bufferOfRun, positionNumber, positionedOf}
 use Rattle.simulator.specs.Lists.{Call, answerOf, bufferOf, fedBy, afterCalls, budgetSum, joinedBytes, engineAt, cutAt, restAt, allBy}
 use Rattle.simulator.specs.Lists.{growth, growthUpTo, movedNow}
-use Rattle.simulator.specs.declared.Ran.{Ran}
-use Rattle.simulator.specs.declared.Positioned.{Positioned}
 
 -- the cup as it is loaded, its plan number for number
 abbrev loaded : State

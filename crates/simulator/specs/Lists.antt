@@ -1,6 +1,6 @@
 -- "Lists of run calls: the state is the loaded one, then what the last call returned, and nothing else writes it." A list is the fold of the
 -- run's own answer, which the contracts of the runs cite.
-use mathlib.Core.Bool.{Bool, cond}
+use mathlib.Core.Bool.{cond}
 use mathlib.Core.List.{List, [], _∷_, _++_}
 use Prim.Native.Nat.{ℕ, zero, suc, _+_, _-_}
 use lib.Dec.{leb, eqb}

@@ -1,11 +1,10 @@
 -- The promises, as statements. Each is a type: a proof of it is a term of exactly that type. Nothing is assumed here, and nothing proved.
 use mathlib.Core.Path.{_≡_}
-use mathlib.Core.Bool.{Bool, true, false, cond}
+use mathlib.Core.Bool.{true}
 use mathlib.Core.List.{List, [], _∷_, _++_}
 use Prim.Native.Nat.{ℕ, _+_, _-_, _*_, _≤_, _<_}
 use lib.IntN.{ℤ, pos, _+ℤ_, _-ℤ_}
 use lib.Signed.{_<ℤ_}
-use lib.Dec.{ltb}
 use lib.ListN.{length, take, drop}
 use Rattle.integers.specs.Parts.{∣_∣}
 use Rattle.bitset.specs.Mask.{countOf}
@@ -14,7 +13,7 @@ use Rattle.plan.specs.Lists.{nat, int}
 use Rattle.plan.specs.Format.{M, Shaped, part, offsetIn, lengthIn, planIn}
 use Rattle.plan.specs.Refusals.{accepted, sectionOf}
 use Rattle.plan.specs.Rules.{IntegratorRule, PlanRules, Rule, Holds, ruleEntries}
-use Rattle.plan.specs.Encoding.{fileLength, encode}
+use Rattle.plan.specs.Encoding.{encode}
 use Rattle.plan.specs.Idle.{idlePlan}
 use Rattle.plan.specs.declared.Plan.{Plan}
 use Rattle.machine.specs.Due.{never, upperLevel, lowerLevel, dueOf, LeastTicks}
@@ -33,7 +32,6 @@ use Rattle.simulator.specs.Calls.{loadOf, writeOf, bufferOfWrite, runOf,
 use Rattle.simulator.specs.Lists.{Call, answerOf, bufferOf, afterCalls, budgetSum, joinedBytes, engineAt, cutAt, restAt, allBy}
 use Rattle.simulator.specs.Lists.{growth, growthUpTo, movedNow}
 use Rattle.simulator.specs.Limits.{AcceptedLimits, FileLimits, AnswerLimits, RateLimits, LevelLimits, StateLimits}
-use Rattle.simulator.specs.declared.Positioned.{Positioned}
 
 -- ════ 1. Demand 1, files: every file of any length and content is loaded, or refused by number and entry
 
