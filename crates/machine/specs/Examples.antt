@@ -19,7 +19,7 @@ use Rattle.plan.specs.Encoding.{lengthOf, offsetOf, headerWords, integratorWord
 use Rattle.plan.specs.Encoding.{fileWords, encode}
 use Rattle.plan.specs.Idle.{idlePlan}
 use Rattle.plan.specs.Cases.{Case, case, AllRight, end, _&_}
-use Rattle.plan.specs.Files.{fileOf, cupFile}
+use Rattle.plan.specs.Files.{fileOf, cupFile, cupPlan}
 use Rattle.plan.specs.declared.Plan.{Plan}
 use Rattle.machine.specs.Values.{nodeOf, valueWith, valueOf, sumOver, rateOf}
 use Rattle.machine.specs.Due.{upperLevel, lowerLevel, distance, ticksTo, dueTick, dueOf}
@@ -152,46 +152,48 @@ abbrev planned : ℕ → ℕ → List ℤ → State
 planned horizon inputs starts = record {
   plan = record {
     horizon = horizon;
-    n = 2;
+    n = cupPlan .n;
     m = inputs;
-    k = 0;
-    links = 2;
-    commands = 1;
+    k = cupPlan .k;
+    links = cupPlan .links;
+    commands = cupPlan .commands;
     starts = starts;
-    quanta = pos 10 ∷ pos 1000 ∷ replicate 30 (pos 0);
-    firsts = pos 3 ∷ replicate 7 (pos 0);
-    kinds = replicate 16 0;
-    lefts = replicate 16 0;
-    rights = replicate 16 0;
-    lows = replicate 16 (pos 0);
-    highs = replicate 16 (pos 0);
-    targets = 0 ∷ 1 ∷ replicate 254 0;
-    sources = 2 ∷ 0 ∷ replicate 254 0;
-    coefficients = pos 65536 ∷ pos 65536 ∷ replicate 254 (pos 0);
-    ticks = 6 ∷ replicate 63 0;
-    numbers = replicate 64 0;
-    values = negsuc 2 ∷ replicate 63 (pos 0);
+    quanta = cupPlan .quanta;
+    firsts = cupPlan .firsts;
+    kinds = cupPlan .kinds;
+    lefts = cupPlan .lefts;
+    rights = cupPlan .rights;
+    lows = cupPlan .lows;
+    highs = cupPlan .highs;
+    targets = cupPlan .targets;
+    sources = cupPlan .sources;
+    coefficients = cupPlan .coefficients;
+    ticks = cupPlan .ticks;
+    numbers = cupPlan .numbers;
+    values = cupPlan .values;
   };
   run = placed (pos 12 ∷ replicate 31 (pos 0)) (pos 12 ∷ replicate 31 (pos 0));
 }
 
 -- the start of the plan of two inputs that feed nothing, with another value of the first
 abbrev input : ℤ → State
-input value = record {
-  plan = planIn commandsFile;
-  run = record {
-    x = replicate 32 (pos 0);
-    q = replicate 32 (pos 0);
-    s = replicate 32 (pos 0);
-    l = replicate 32 0;
-    d = 4294967295 ∷ replicate 31 0;
-    inputs = value ∷ pos 2 ∷ replicate 6 (pos 0);
-    clock = 0;
-    next = 0;
-    instants = 0;
-    updates = 0;
-  };
-}
+input value =
+    let start = startOf (planIn commandsFile) in
+    record {
+      plan = planIn commandsFile;
+      run = record {
+        x = start .x;
+        q = start .q;
+        s = start .s;
+        l = start .l;
+        d = start .d;
+        inputs = value ∷ pos 2 ∷ replicate 6 (pos 0);
+        clock = start .clock;
+        next = start .next;
+        instants = start .instants;
+        updates = start .updates;
+      };
+    }
 
 pub examples : List Case
 examples =
