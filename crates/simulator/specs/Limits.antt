@@ -14,7 +14,8 @@ use Rattle.plan.specs.Lists.{nat, int}
 use Rattle.plan.specs.declared.Plan.{Plan}
 use Rattle.machine.specs.Values.{valueOf, sumOver, rateOf}
 use Rattle.machine.specs.Due.{never, upperLevel, lowerLevel, distance, ticksTo}
-use Rattle.machine.specs.Instant.{positionAt, eventsOf}
+use Rattle.machine.specs.Instant.{positionAt, tickOf, eventsOf}
+use Rattle.machine.specs.Status.{statusOf}
 use Rattle.machine.specs.Runs.{events, positionOf}
 use Rattle.machine.specs.declared.Running.{Running}
 use Rattle.machine.specs.declared.State.{State}
@@ -79,6 +80,9 @@ module _ (p : Plan) (r : Running) where
   pub record IntegratorLimits (i : ℕ) : Type 0 where
     pub levels : LevelLimits p (r .q) i (int (r .x) i) (int (r .s) i)
     pub position : ∣ positionOf r i ∣ < 2 ^ 31
+    -- before its due tick it stays strictly between its levels
+    pub above : (t : ℕ) → r .clock ≤ t → t < nat (r .d) i → lowerLevel p (r .q) i <ℤ positionAt r t i
+    pub below : (t : ℕ) → r .clock ≤ t → t < nat (r .d) i → positionAt r t i <ℤ upperLevel p (r .q) i
     pub slope : ∣ int (r .s) i ∣ ≤ 56 * 2 ^ 38
     pub due : (nat (r .d) i ≡ never) ⊎ (nat (r .d) i ≤ 2000000000 + (2 ^ 31 - 1))
     -- up to the due tick
@@ -88,6 +92,7 @@ module _ (p : Plan) (r : Running) where
   pub record StateLimits : Type 0 where
     pub rates : RateLimits p (r .q) (r .inputs)
     pub integrators : (i : ℕ) → i < p .n → IntegratorLimits i
+    pub tick : statusOf p r ≡ 0 → (r .clock < tickOf p r) × (tickOf p r ≤ p .horizon)
     pub next : r .next ≤ 64
     pub instants : r .instants ≤ 2000000000
     pub updates : r .updates ≤ 32 * 2000000000

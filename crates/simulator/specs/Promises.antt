@@ -1,12 +1,14 @@
 -- The promises, as statements. Each is a type: a proof of it is a term of exactly that type. Nothing is assumed here, and nothing proved.
 use mathlib.Core.Path.{_≡_}
 use mathlib.Core.Bool.{true}
+use mathlib.Core.Logic.{_⊎_}
 use mathlib.Core.List.{List, [], _∷_, _++_}
 use Prim.Native.Nat.{ℕ, _+_, _-_, _*_, _≤_, _<_}
-use lib.IntN.{ℤ, pos, _+ℤ_, _-ℤ_}
+use lib.IntN.{ℤ, pos, _+ℤ_, _-ℤ_, _*ℤ_}
 use lib.Signed.{_<ℤ_}
 use lib.ListN.{length, take, drop}
-use Rattle.integers.specs.Parts.{∣_∣}
+use Rattle.integers.specs.Parts.{up, ∣_∣}
+use Rattle.integers.specs.Division.{Ceil}
 use Rattle.bitset.specs.Mask.{countOf}
 use Rattle.words.specs.Word.{Bytes, word, signedWord}
 use Rattle.plan.specs.Lists.{nat, int}
@@ -16,10 +18,12 @@ use Rattle.plan.specs.Rules.{IntegratorRule, PlanRules, Rule, Holds, ruleEntrie
 use Rattle.plan.specs.Encoding.{encode}
 use Rattle.plan.specs.Idle.{idlePlan}
 use Rattle.plan.specs.declared.Plan.{Plan}
-use Rattle.machine.specs.Due.{never, upperLevel, lowerLevel, dueOf, LeastTicks}
+use Rattle.machine.specs.Values.{rateOf}
+use Rattle.machine.specs.Due.{never, upperLevel, lowerLevel, distance, ticksTo, dueOf, LeastTicks}
+use Rattle.machine.specs.Next.{nextCommand, nextTick}
 use Rattle.machine.specs.Start.{startState, idleState}
 use Rattle.machine.specs.Reach.{changes, Changed, reached, Reached}
-use Rattle.machine.specs.Instant.{positionAt, tickOf, eventsOf}
+use Rattle.machine.specs.Instant.{positionAt, slopeThen, tickOf, eventsOf}
 use Rattle.machine.specs.Status.{statusOf, integratorOf}
 use Rattle.machine.specs.Plain.{Plain, plainAfter, plainEvents, plainStatus, plainIntegrator}
 use Rattle.machine.specs.Sound.{Sound}
@@ -67,16 +71,18 @@ EveryView = (file : List ℕ) (number : ℕ) → Bytes file → ViewPromise file
 
 -- ════ 2. Demand 2: written and loaded plans come back equal; events are those of document 01's machine
 
--- a file that load accepts is written back: its length and its bytes, and the buffer's later bytes kept
-pub record WrittenBack (file buffer : List ℕ) : Type 0 where
-  pub number : writeOf (loadOf file .state) buffer .number ≡ 0
-  pub size : writeOf (loadOf file .state) buffer .length ≡ length file
-  pub state : writeOf (loadOf file .state) buffer .state ≡ loadOf file .state
-  pub bytes : bufferOfWrite (loadOf file .state) buffer ≡ file ++ drop (length file) buffer
+-- a file that load accepts is written back from every sound state of its plan, the loaded one and those that runs leave: its length and its
+-- bytes, and the buffer's later bytes kept
+pub record WrittenBack (file buffer : List ℕ) (st : State) : Type 0 where
+  pub number : writeOf st buffer .number ≡ 0
+  pub size : writeOf st buffer .length ≡ length file
+  pub state : writeOf st buffer .state ≡ st
+  pub bytes : bufferOfWrite st buffer ≡ file ++ drop (length file) buffer
 
 abbrev pub LoadThenWrite : Type 0
 LoadThenWrite =
-    (file buffer : List ℕ) → Bytes file → loadOf file .number ≡ 0 → length file ≤ length buffer → WrittenBack file buffer
+    (file buffer : List ℕ) (st : State) → Bytes file → loadOf file .number ≡ 0 → Sound st → st .plan ≡ planIn file → length file ≤ length buffer
+    → WrittenBack file buffer st
 
 -- what was written for a sound state is loaded as that plan's start. `Shaped` says that the plan is one that a struct can hold
 pub record LoadedBack (st : State) (buffer : List ℕ) : Type 0 where
@@ -86,6 +92,10 @@ pub record LoadedBack (st : State) (buffer : List ℕ) : Type 0 where
 
 abbrev pub WriteThenLoad : Type 0
 WriteThenLoad = (st : State) (buffer : List ℕ) → Shaped (st .plan) → Sound st → writeOf st buffer .number ≡ 0 → LoadedBack st buffer
+
+-- a loaded plan is one that a struct can hold
+abbrev pub LoadShaped : Type 0
+LoadShaped = (file : List ℕ) → Shaped (loadOf file .state .plan)
 
 -- 12 bytes from `at` on read back as an event's tick, source and value
 pub record EventAt (bytes : List ℕ) (at t source : ℕ) (value : ℤ) : Type 0 where
@@ -105,6 +115,35 @@ pub record EventsPromise (p : Plan) (r : Running) : Type 0 where
 abbrev pub EventsRead : Type 0
 EventsRead = (st : State) → Sound st → statusOf (st .plan) (st .run) ≡ 0 → EventsPromise (st .plan) (st .run)
 
+-- "Next instant t: the least of all d and the next command's tick", and "the next command is the first with tick above c"
+pub record NextPromise (p : Plan) (d : List ℕ) (next c : ℕ) : Type 0 where
+  pub due : (i : ℕ) → i < p .n → nextTick p d next ≤ nat d i
+  pub command : next < p .commands → nextTick p d next ≤ nat (p .ticks) next
+  pub no-instant : ((i : ℕ) → i < p .n → never ≤ nat d i) → p .commands ≤ next → nextTick p d next ≡ never
+  pub one : nextTick p d next < never
+      → ((i : ℕ) × (i < p .n) × (nat d i ≡ nextTick p d next)) ⊎ ((next < p .commands) × (nat (p .ticks) next ≡ nextTick p d next))
+  pub earlier : (e : ℕ) → e < nextCommand p c → nat (p .ticks) e ≤ c
+  pub first : nextCommand p c < p .commands → c < nat (p .ticks) (nextCommand p c)
+  pub none : nextCommand p c ≤ p .commands
+
+abbrev pub NextMeans : Type 0
+NextMeans = (p : Plan) (d : List ℕ) (next c : ℕ) → NextPromise p d next c
+
+-- "1 finished if t is never or above the horizon; else 2 range if step 1 bars the instant (with the lowest such integrator); else 0 paused"
+pub record StatusPromise (p : Plan) (r : Running) : Type 0 where
+  pub finished : (tickOf p r ≡ never) ⊎ (p .horizon < tickOf p r) → statusOf p r ≡ 1
+  pub range : (tickOf p r ≡ never → ⊥) → tickOf p r ≤ p .horizon → (i : ℕ) → i < p .n → nat (r .d) i ≡ tickOf p r
+      → M < ∣ positionAt r (tickOf p r) i ∣
+      → ((j : ℕ) → j < i → nat (r .d) j ≡ tickOf p r → ∣ positionAt r (tickOf p r) j ∣ ≤ M)
+      → (statusOf p r ≡ 2) × (integratorOf p r ≡ i)
+  pub paused : (tickOf p r ≡ never → ⊥) → tickOf p r ≤ p .horizon
+      → ((i : ℕ) → i < p .n → nat (r .d) i ≡ tickOf p r → ∣ positionAt r (tickOf p r) i ∣ ≤ M)
+      → statusOf p r ≡ 0
+  pub no-integrator : (statusOf p r ≡ 2 → ⊥) → integratorOf p r ≡ 0
+
+abbrev pub StatusMeans : Type 0
+StatusMeans = (p : Plan) (r : Running) → StatusPromise p r
+
 -- which sources change, and step 4: the tests are the relations in document 01's words
 pub record ReachPromise (p : Plan) (d : List ℕ) (t i : ℕ) : Type 0 where
   pub change : (changes p d t i ≡ true → Changed p d t i) × (Changed p d t i → changes p d t i ≡ true)
@@ -112,6 +151,11 @@ pub record ReachPromise (p : Plan) (d : List ℕ) (t i : ℕ) : Type 0 where
 
 abbrev pub ReachMeans : Type 0
 ReachMeans = (p : Plan) (d : List ℕ) (t i : ℕ) → PlanRules p → ReachPromise p d t i
+
+-- an integrator that is not reached keeps its rate
+abbrev pub Frame : Type 0
+Frame =
+    (p : Plan) (r : Running) (t i : ℕ) → PlanRules p → (Reached p (r .d) t i → ⊥) → slopeThen p r t i ≡ rateOf p (r .q) (r .inputs) i
 
 -- ════ 3. Demand 3, "a single claim about the list": for every accepted file and every list of run calls, lazy and eager in any mix, declined
 -- ones included, the outcome is that of the plain machine for the sum of the accepted budgets, and the update count is exact
@@ -125,7 +169,8 @@ pub record CallPromise (p : Plan) (st : State) (c : Call) : Type 0 where
   -- "Each accepted call answers the status and integrator of the state it returns."
   pub status : answerOf st c .number ≡ 0 → answerOf st c .status ≡ statusOf p (answerOf st c .state .run)
   pub integrator : answerOf st c .number ≡ 0 → answerOf st c .integrator ≡ integratorOf p (answerOf st c .state .run)
-  -- "later bytes keep their value"
+  -- "later bytes keep their value", and there are as many as before
+  pub size : length (bufferOf st c) ≡ length (c .buffer)
   pub later : drop (answerOf st c .written) (bufferOf st c) ≡ drop (answerOf st c .written) (c .buffer)
   -- a refusal changes nothing that was lent
   pub declined : (answerOf st c .number ≡ 0 → ⊥) → (answerOf st c .state ≡ st) × (bufferOf st c ≡ c .buffer)
@@ -148,8 +193,12 @@ pub record SameAsPlain (p : Plan) (st : State) (m : Plain) : Type 0 where
 
 -- instant i of a list, by the list cut behind it: the state after it is that list's end, and the rest of the list goes on from there
 pub record InstantPromise (p : Plan) (st : State) (calls : List Call) (i : ℕ) : Type 0 where
+  pub sum : budgetSum st (cutAt st calls i) ≡ i
   pub taken : afterCalls st (cutAt st calls i) .run .instants ≡ i
   pub resumed : afterCalls (afterCalls st (cutAt st calls i)) (restAt st calls i) ≡ afterCalls st calls
+  -- its bytes are the events of the state before it
+  pub bytes : joinedBytes st (cutAt st calls i)
+      ≡ joinedBytes st (cutAt st calls (i - 1)) ++ eventsOf p (afterCalls st (cutAt st calls (i - 1)) .run)
   -- "this is the number of integrators with l = c after it"
   pub moved : movedNow p (afterCalls st (cutAt st calls i) .run) ≡ growth p (engineAt st calls i) (plainAfter p (i - 1))
   pub grown : afterCalls st (cutAt st calls i) .run .updates ≡ growthUpTo p (engineAt st calls) i
@@ -170,6 +219,11 @@ pub record ListPromise (p : Plan) (st : State) (calls : List Call) : Type 0 wher
   pub fewest : afterCalls st (allBy Lazy calls) .run .updates ≤ afterCalls st calls .run .updates
   pub most : afterCalls st calls .run .updates ≤ afterCalls st (allBy Eager calls) .run .updates
 
+-- "it takes B instants, or fewer if its status is first 1 or 2"
+abbrev pub PlainTakes : Type 0
+PlainTakes =
+    (p : Plan) (b : ℕ) → (plainAfter p b .instants ≤ b) × (plainStatus p (plainAfter p b) ≡ 0 → plainAfter p b .instants ≡ b)
+
 abbrev pub Demand3 : Type 0
 Demand3 = (file : List ℕ) → Bytes file → loadOf file .number ≡ 0 → (calls : List Call) → ListPromise (planIn file) (loadOf file .state) calls
 
@@ -184,6 +238,12 @@ LoadSound = (file : List ℕ) → Bytes file → Sound (loadOf file .state)
 
 abbrev pub RunSound : Type 0
 RunSound = (engine : Engine) (st : State) (budget : ℕ) (buffer : List ℕ) → Sound st → Sound (runOf engine st budget buffer .state)
+
+-- an accepted run that is paused has moved the clock on
+abbrev pub RunMoves : Type 0
+RunMoves =
+    (engine : Engine) (st : State) (budget : ℕ) (buffer : List ℕ) → Sound st → runOf engine st budget buffer .number ≡ 0 → 1 ≤ budget
+    → runOf engine st budget buffer .status ≡ 0 → st .run .clock < runOf engine st budget buffer .state .run .clock
 
 -- "idle is the start of one integrator (start 0, quantum 1), nothing else, horizon 1"; its file has 52 bytes
 abbrev pub IdleLoaded : Type 0
@@ -204,6 +264,17 @@ pub record NumberPromise (st : State) (buffer : List ℕ) : Type 0 where
   pub position-unsound : (i : ℕ) → (Sound st → ⊥) → positionedOf st i .number ≡ 10
   pub position-above : (i : ℕ) → Sound st → st .plan .n ≤ i → positionedOf st i .number ≡ 14
   pub position-accepted : (i : ℕ) → Sound st → i < st .plan .n → positionedOf st i .number ≡ 0
+
+-- what an accepted call writes, and that no call changes a buffer's length
+pub record BufferPromise (st : State) (buffer : List ℕ) : Type 0 where
+  pub write : writeOf st buffer .number ≡ 0
+      → (writeOf st buffer .length ≡ length (encode (st .plan))) × (writeOf st buffer .state ≡ st)
+      × (bufferOfWrite st buffer ≡ encode (st .plan) ++ drop (length (encode (st .plan))) buffer)
+  pub write-size : length (bufferOfWrite st buffer) ≡ length buffer
+  pub run-size : (engine : Engine) (budget : ℕ) → length (bufferOfRun engine st budget buffer) ≡ length buffer
+
+abbrev pub EveryBuffer : Type 0
+EveryBuffer = (st : State) (buffer : List ℕ) → BufferPromise st buffer
 
 abbrev pub EveryNumber : Type 0
 EveryNumber = (st : State) (buffer : List ℕ) → NumberPromise st buffer
@@ -227,6 +298,16 @@ pub record DuePromise (p : Plan) (q : List ℤ) (i l : ℕ) (x s : ℤ) : Type 0
 
 abbrev pub DueLeast : Type 0
 DueLeast = (p : Plan) (q : List ℤ) (i l : ℕ) (x s : ℤ) → DuePromise p q i l x s
+
+-- strictly between the levels, T is the distance rounded up, and moving for t ticks, fewer than T, takes t off it and stays between
+pub record BetweenPromise (x upper lower s : ℤ) : Type 0 where
+  pub rounded : Ceil (up (distance x upper lower s)) ∣ s ∣ (ticksTo x upper lower s)
+  pub countdown : (t : ℕ) → t < ticksTo x upper lower s → ticksTo x upper lower s ≡ ticksTo (x +ℤ s *ℤ pos t) upper lower s + t
+  pub above : (t : ℕ) → t < ticksTo x upper lower s → lower <ℤ (x +ℤ s *ℤ pos t)
+  pub below : (t : ℕ) → t < ticksTo x upper lower s → (x +ℤ s *ℤ pos t) <ℤ upper
+
+abbrev pub DueBetween : Type 0
+DueBetween = (x upper lower s : ℤ) → (s ≡ pos 0 → ⊥) → lower <ℤ x → x <ℤ upper → BetweenPromise x upper lower s
 
 -- ════ 6. The limits, each from the least that it needs, and of states from soundness alone
 pub record LimitPromise : Type 0 where
