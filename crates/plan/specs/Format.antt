@@ -8,23 +8,6 @@ use Rattle.words.specs.Word.{word, signedWord}
 use Rattle.plan.specs.Lists.{nat, row}
 use Rattle.plan.specs.declared.Plan.{Plan}
 
--- the arrays of a plan have their full width, as those of a struct have
-pub record Shaped (p : Plan) : Type 0 where
-  pub starts : length (p .starts) ≡ 32
-  pub quanta : length (p .quanta) ≡ 32
-  pub firsts : length (p .firsts) ≡ 8
-  pub kinds : length (p .kinds) ≡ 16
-  pub lefts : length (p .lefts) ≡ 16
-  pub rights : length (p .rights) ≡ 16
-  pub lows : length (p .lows) ≡ 16
-  pub highs : length (p .highs) ≡ 16
-  pub targets : length (p .targets) ≡ 256
-  pub sources : length (p .sources) ≡ 256
-  pub coefficients : length (p .coefficients) ≡ 256
-  pub ticks : length (p .ticks) ≡ 64
-  pub numbers : length (p .numbers) ≡ 64
-  pub values : length (p .values) ≡ 64
-
 -- "Let M = 2^30 = 1,073,741,824."
 abbrev pub M : ℕ
 M = 1073741824
@@ -116,3 +99,20 @@ planIn file =
       numbers = wordsIn file 4 1;
       values = signedsIn file 4 2;
     }
+
+-- the arrays of a plan have their full width, as those of a struct have
+pub record Shaped (p : Plan) : Type 0 where
+  pub starts : length (p .starts) ≡ 32
+  pub quanta : length (p .quanta) ≡ 32
+  pub firsts : length (p .firsts) ≡ 8
+  pub kinds : length (p .kinds) ≡ 16
+  pub lefts : length (p .lefts) ≡ 16
+  pub rights : length (p .rights) ≡ 16
+  pub lows : length (p .lows) ≡ 16
+  pub highs : length (p .highs) ≡ 16
+  pub targets : length (p .targets) ≡ 256
+  pub sources : length (p .sources) ≡ 256
+  pub coefficients : length (p .coefficients) ≡ 256
+  pub ticks : length (p .ticks) ≡ 64
+  pub numbers : length (p .numbers) ≡ 64
+  pub values : length (p .values) ≡ 64

@@ -265,6 +265,9 @@ pub record NumberPromise (st : State) (buffer : List ℕ) : Type 0 where
   pub position-above : (i : ℕ) → Sound st → st .plan .n ≤ i → positionedOf st i .number ≡ 14
   pub position-accepted : (i : ℕ) → Sound st → i < st .plan .n → positionedOf st i .number ≡ 0
 
+abbrev pub EveryNumber : Type 0
+EveryNumber = (st : State) (buffer : List ℕ) → NumberPromise st buffer
+
 -- what an accepted call writes, and that no call changes a buffer's length
 pub record BufferPromise (st : State) (buffer : List ℕ) : Type 0 where
   pub write : writeOf st buffer .number ≡ 0
@@ -275,9 +278,6 @@ pub record BufferPromise (st : State) (buffer : List ℕ) : Type 0 where
 
 abbrev pub EveryBuffer : Type 0
 EveryBuffer = (st : State) (buffer : List ℕ) → BufferPromise st buffer
-
-abbrev pub EveryNumber : Type 0
-EveryNumber = (st : State) (buffer : List ℕ) → NumberPromise st buffer
 
 -- declined calls leave state and buffer as they were, and every other figure is 0
 pub record DeclinedPromise (st : State) (buffer : List ℕ) : Type 0 where
