@@ -32,7 +32,8 @@ use Rattle.machine.specs.Status.{bars, barring, statusAt, integratorAt, 
 use Rattle.machine.specs.Runs.{after, events, positionOf}
 use Rattle.machine.specs.Plain.{settled, plainStart, plainTick, plainPosition, plainOutputs, plainInstant, plainEventsOf}
 use Rattle.machine.specs.Plain.{plainStatus, plainIntegrator, lazyCount, plainFrom, plainEventsFrom, plainAfter, plainEvents}
-use Rattle.machine.specs.SoundTest.{unusedNat, unusedInt, planUnused, planSound, runningUnused, integratorSound, runningSound}
+use Rattle.plan.specs.Unused.{unusedNat, unusedInt, planUnused}
+use Rattle.machine.specs.SoundTest.{planSound, runningUnused, integratorSound, runningSound}
 use Rattle.machine.specs.SoundTest.{isSound}
 use Rattle.machine.specs.declared.Running.{Running}
 use Rattle.machine.specs.declared.State.{State}

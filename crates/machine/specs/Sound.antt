@@ -1,6 +1,5 @@
 -- "A sound state": its clauses as propositions, in document 01's order.
 use mathlib.Core.Path.{_≡_}
-use mathlib.Core.List.{List}
 use Prim.Native.Nat.{ℕ, _*_, _≤_, _<_}
 use lib.IntN.{ℤ, pos, _-ℤ_}
 use lib.Signed.{_<ℤ_}
@@ -8,6 +7,7 @@ use Rattle.integers.specs.Parts.{∣_∣}
 use Rattle.plan.specs.Format.{M}
 use Rattle.plan.specs.Lists.{nat, int}
 use Rattle.plan.specs.Rules.{Within, PlanRules}
+use Rattle.plan.specs.Unused.{UnusedNat, UnusedInt, PlanUnused}
 use Rattle.plan.specs.declared.Plan.{Plan}
 use Rattle.machine.specs.Values.{rateOf}
 use Rattle.machine.specs.Due.{dueOf}
@@ -15,31 +15,7 @@ use Rattle.machine.specs.Next.{nextCommand}
 use Rattle.machine.specs.declared.Running.{Running}
 use Rattle.machine.specs.declared.State.{State}
 
--- the entries of an array from k on are 0
-abbrev pub UnusedNat : ℕ → List ℕ → Type 0
-UnusedNat k xs = (i : ℕ) → k ≤ i → nat xs i ≡ 0
-
-abbrev pub UnusedInt : ℕ → List ℤ → Type 0
-UnusedInt k xs = (i : ℕ) → k ≤ i → int xs i ≡ pos 0
-
--- "unused entries are 0": those of the plan
-pub record PlanUnused (p : Plan) : Type 0 where
-  pub starts : UnusedInt (p .n) (p .starts)
-  pub quanta : UnusedInt (p .n) (p .quanta)
-  pub firsts : UnusedInt (p .m) (p .firsts)
-  pub kinds : UnusedNat (p .k) (p .kinds)
-  pub lefts : UnusedNat (p .k) (p .lefts)
-  pub rights : UnusedNat (p .k) (p .rights)
-  pub lows : UnusedInt (p .k) (p .lows)
-  pub highs : UnusedInt (p .k) (p .highs)
-  pub targets : UnusedNat (p .links) (p .targets)
-  pub sources : UnusedNat (p .links) (p .sources)
-  pub coefficients : UnusedInt (p .links) (p .coefficients)
-  pub ticks : UnusedNat (p .commands) (p .ticks)
-  pub numbers : UnusedNat (p .commands) (p .numbers)
-  pub values : UnusedInt (p .commands) (p .values)
-
--- and those of the running figures
+-- "unused entries are 0": those of the running figures; Unused.antt of the crate `plan` has those of the plan
 pub record RunningUnused (p : Plan) (r : Running) : Type 0 where
   pub x : UnusedInt (p .n) (r .x)
   pub q : UnusedInt (p .n) (r .q)

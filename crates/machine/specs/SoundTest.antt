@@ -1,38 +1,22 @@
 -- "A sound state" as a test, which the calls that take a state try first. The counts are tested before anything that they bound.
 use mathlib.Core.Bool.{Bool, _&&_}
-use mathlib.Core.List.{List}
 use Prim.Native.Nat.{ℕ, _*_}
-use lib.IntN.{ℤ, _-ℤ_}
+use lib.IntN.{_-ℤ_}
 use lib.Signed.{ltZ}
 use lib.Dec.{leb, ltb, eqb}
-use lib.ListN.{drop}
 use Rattle.integers.specs.Parts.{∣_∣}
 use Rattle.integers.specs.Range.{within}
 use Rattle.plan.specs.Format.{M}
-use Rattle.plan.specs.Lists.{nat, int, every, all}
+use Rattle.plan.specs.Lists.{nat, int, every}
 use Rattle.plan.specs.Tests.{countsKept}
 use Rattle.plan.specs.Refusals.{isClean, planFinding}
+use Rattle.plan.specs.Unused.{unusedNat, unusedInt, planUnused}
 use Rattle.plan.specs.declared.Plan.{Plan}
 use Rattle.machine.specs.Values.{rateOf}
 use Rattle.machine.specs.Due.{upperLevel, lowerLevel, dueOf}
 use Rattle.machine.specs.Next.{nextCommand}
 use Rattle.machine.specs.declared.Running.{Running}
 use Rattle.machine.specs.declared.State.{State}
-
--- "unused entries are 0": those of an array from k on
-unfoldable pub unusedNat : ℕ → List ℕ → Bool
-unusedNat k xs = all (λ x. eqb x 0) (drop k xs)
-
-unfoldable pub unusedInt : ℕ → List ℤ → Bool
-unusedInt k xs = all (λ z. eqb ∣ z ∣ 0) (drop k xs)
-
-unfoldable pub planUnused : Plan → Bool
-planUnused p =
-    unusedInt (p .n) (p .starts) && unusedInt (p .n) (p .quanta) && unusedInt (p .m) (p .firsts)
-    && unusedNat (p .k) (p .kinds) && unusedNat (p .k) (p .lefts) && unusedNat (p .k) (p .rights)
-    && unusedInt (p .k) (p .lows) && unusedInt (p .k) (p .highs)
-    && unusedNat (p .links) (p .targets) && unusedNat (p .links) (p .sources) && unusedInt (p .links) (p .coefficients)
-    && unusedNat (p .commands) (p .ticks) && unusedNat (p .commands) (p .numbers) && unusedInt (p .commands) (p .values)
 
 -- the plan of a state: its counts, its rules 4 to 9, its unused entries
 unfoldable pub planSound : Plan → Bool

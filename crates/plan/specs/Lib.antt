@@ -6,7 +6,9 @@ pub mod Tests
 pub mod Refusals
 pub mod Encoding
 pub mod Rules
+pub mod Unused
 pub mod Idle
+pub mod Laws
 pub mod Cases
 pub mod Files
 pub mod Examples

@@ -120,3 +120,14 @@ module _ (file : List ℕ) where
 
   abbrev pub Holds : ℕ → Type 0
   Holds k = (e : ℕ) → e < nat ruleEntries k → Rule k e
+
+-- what number and entry mean, by the rules as propositions
+pub record Answered (file : List ℕ) (number entry : ℕ) : Type 0 where
+  pub known : number ≤ 9
+  -- number 0: every entry keeps every rule, and the entry is 0
+  pub accepts : number ≡ 0 → ((k : ℕ) → Holds file k) × (entry ≡ 0)
+  -- any other: the rules of lower numbers hold; the entry is one of its rule's, those below it keep the rule, and it breaks it
+  pub earlier : (k : ℕ) → k < number → Holds file k
+  pub there : 0 < number → entry < nat (ruleEntries file) number
+  pub lowest : (e : ℕ) → e < entry → Rule file number e
+  pub broken : 0 < number → Rule file number entry → ⊥

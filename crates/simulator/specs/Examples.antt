@@ -32,7 +32,8 @@ use Rattle.machine.specs.Status.{bars, barring, statusAt, integratorAt, statusO
 use Rattle.machine.specs.Runs.{after, events, positionOf}
 use Rattle.machine.specs.Plain.{settled, plainStart, plainTick, plainPosition, plainOutputs, plainInstant, plainEventsOf, plainStatus}
 use Rattle.machine.specs.Plain.{plainIntegrator, lazyCount, plainFrom, plainEventsFrom, plainAfter, plainEvents}
-use Rattle.machine.specs.SoundTest.{unusedNat, unusedInt, planUnused, planSound, runningUnused, integratorSound, runningSound, isSound}
+use Rattle.plan.specs.Unused.{unusedNat, unusedInt, planUnused}
+use Rattle.machine.specs.SoundTest.{planSound, runningUnused, integratorSound, runningSound, isSound}
 use Rattle.machine.specs.declared.State.{State}
 use Rattle.machine.specs.declared.Engine.{Engine}
 use Rattle.machine.specs.declared.Engine.the-variants.{Lazy, Eager}

@@ -14,7 +14,7 @@ use Rattle.words.specs.Word.{Bytes, word, signedWord}
 use Rattle.plan.specs.Lists.{nat, int}
 use Rattle.plan.specs.Format.{M, Shaped, part, offsetIn, lengthIn, planIn}
 use Rattle.plan.specs.Refusals.{accepted, sectionOf}
-use Rattle.plan.specs.Rules.{IntegratorRule, PlanRules, Rule, Holds, ruleEntries}
+use Rattle.plan.specs.Rules.{IntegratorRule, PlanRules, Answered}
 use Rattle.plan.specs.Encoding.{encode}
 use Rattle.plan.specs.Idle.{idlePlan}
 use Rattle.plan.specs.declared.Plan.{Plan}
@@ -38,17 +38,6 @@ use Rattle.simulator.specs.Lists.{growth, growthUpTo, movedNow}
 use Rattle.simulator.specs.Limits.{AcceptedLimits, FileLimits, AnswerLimits, RateLimits, LevelLimits, StateLimits}
 
 -- ════ 1. Demand 1, files: every file of any length and content is loaded, or refused by number and entry
-
--- what number and entry mean, by the rules as propositions
-pub record Answered (file : List ℕ) (number entry : ℕ) : Type 0 where
-  pub known : number ≤ 9
-  -- number 0: every entry keeps every rule, and the entry is 0
-  pub accepts : number ≡ 0 → ((k : ℕ) → Holds file k) × (entry ≡ 0)
-  -- any other: the rules of lower numbers hold; the entry is one of its rule's, those below it keep the rule, and it breaks it
-  pub earlier : (k : ℕ) → k < number → Holds file k
-  pub there : 0 < number → entry < nat (ruleEntries file) number
-  pub lowest : (e : ℕ) → e < entry → Rule file number e
-  pub broken : 0 < number → Rule file number entry → ⊥
 
 -- "Load accepts every file that meets none of 1 to 9", else the state is idle
 pub record LoadPromise (file : List ℕ) : Type 0 where
