@@ -10,4 +10,5 @@ pub mod Runs
 pub mod Plain
 pub mod Sound
 pub mod SoundTest
+pub mod Laws
 pub mod Examples

@@ -1,0 +1,24 @@
+-- "|x−q| < D" is the same as x strictly between the levels q−D and q+D. Assumes nothing.
+use mathlib.Core.Logic.{_↔_}
+use mathlib.Core.List.{List}
+use Prim.Native.Nat.{ℕ}
+use native.Mathlib.Omega.{arith}
+use lib.IntN.{ℤ, pos, _+ℤ_, _-ℤ_}
+use lib.Signed.{_<ℤ_}
+use Rattle.integers.specs.Parts.{∣_∣, sum, dif, tight, zs}
+use Rattle.plan.specs.Lists.{int}
+use Rattle.plan.specs.declared.Plan.{Plan}
+use Rattle.machine.specs.Due.{upperLevel, lowerLevel}
+
+-- x lies strictly between integrator i's levels
+pub record Between (p : Plan) (q : List ℤ) (i : ℕ) (x : ℤ) : Type 0 where
+  pub above : lowerLevel p q i <ℤ x
+  pub below : x <ℤ upperLevel p q i
+
+pub near-between : (p : Plan) (q : List ℤ) (i : ℕ) (x : ℤ) → (pos ∣ x -ℤ int q i ∣ <ℤ int (p .quanta) i) ↔ Between p q i x
+unfolding upperLevel lowerLevel
+near-between p q i x =
+    let y = int q i in let b = int (p .quanta) i in (
+      λ h. record { above = omega (arith, zs, dif x y, dif y b); below = omega (arith, zs, dif x y, sum y b) },
+      λ b′. omega (arith, zs, dif x y, dif y b, sum y b, tight (x -ℤ y), b′ .above, b′ .below),
+    )

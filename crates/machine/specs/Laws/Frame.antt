@@ -1,0 +1,93 @@
+-- What an instant does not change: an input that no command sets, the value of a source that depends on no change, and the rate of an
+-- integrator that is not reached. Assumes nothing.
+use mathlib.Core.Path.{_≡_, refl, ap, ap₂, _∙_}
+use mathlib.Core.Bool.{Bool, true, false, cond, not, _&&_, _||_}
+use mathlib.Core.List.{List}
+use Prim.Native.Nat.{ℕ, zero, suc, _+_, _-_, _≤_, _<_}
+use native.Mathlib.Omega.{arith}
+use lib.IntN.{ℤ, pos, _+ℤ_, _*ℤ_}
+use lib.Dec.{ltb, eqb}
+use borrow.Author.Tests.{ltb-true, ltb-false, eqb-true}
+use Rattle.integers.specs.Division.{floored}
+use Rattle.plan.specs.Lists.{nat, int, some}
+use Rattle.plan.specs.Laws.Rows.{row-at}
+use Rattle.plan.specs.Laws.Searches.{or-false}
+use Rattle.plan.specs.declared.Plan.{Plan}
+use Rattle.machine.specs.Values.{nodeOf, valueWith, valueOf, sumOver, rateOf}
+use Rattle.machine.specs.Reach.{isDue, setsInput, isCommanded, changes, dependsWith, linkReaches, reached}
+use Rattle.machine.specs.Instant.{settingOf, settings}
+
+-- an input that no command of the tick sets
+pub setting-kept : (p : Plan) (u : List ℤ) (t j : ℕ) → p .m ≤ 8 → j < p .m → isCommanded p t j ≡ false → int (settings p u t) j ≡ int u j
+unfolding settings isCommanded some settingOf
+setting-kept p u t j h l e = row-at (pos 0) 8 (p .m) _ j h l ∙ kept (p .commands) e
+  where
+    kept : (k : ℕ) → some (setsInput p t j) k ≡ false → settingOf p u t j k ≡ int u j
+    kept zero f = refl
+    kept (suc k) f = let b = or-false (some (setsInput p t j) k) (setsInput p t j k) f in rw (b .1) (kept k (b .0))
+
+-- each of two
+choice-kept : {x x₀ y y₀ : ℤ} {onX onY : Bool} (b : Bool) → (onX ≡ false → x ≡ x₀) → (onY ≡ false → y ≡ y₀)
+    → cond b onX onY ≡ false → cond b x y ≡ cond b x₀ y₀
+choice-kept true f g e = f e
+choice-kept false f g e = g e
+
+-- a node whose operands keep their values where it uses them
+node-kept : (kind : ℕ) (lo hi : ℤ) {a a₀ b b₀ : ℤ} (onA onB : Bool) → (onA ≡ false → a ≡ a₀) → (onB ≡ false → b ≡ b₀)
+    → (onA || (not (eqb kind 2) && onB)) ≡ false → nodeOf kind lo hi a b ≡ nodeOf kind lo hi a₀ b₀
+unfolding nodeOf
+node-kept kind lo hi {a} {a₀} {b} {b₀} onA onB f g e = go (eqb kind 2) refl (both .1)
+  where
+    both : (onA ≡ false) × ((not (eqb kind 2) && onB) ≡ false)
+    both = or-false onA (not (eqb kind 2) && onB) e
+
+    left : a ≡ a₀
+    left = f (both .0)
+
+    go : (c : Bool) → eqb kind 2 ≡ c → (not c && onB) ≡ false → nodeOf kind lo hi a b ≡ nodeOf kind lo hi a₀ b₀
+    go true c d = rw (eqb-true kind 2 c, left)
+    go false c d = rw (left, g d)
+
+module _ (p : Plan) (d : List ℕ) (t : ℕ) (q u q₀ u₀ : List ℤ)
+    (same-q : (i : ℕ) → i < p .n → isDue d t i ≡ false → int q i ≡ int q₀ i)
+    (same-u : (j : ℕ) → j < p .m → isCommanded p t j ≡ false → int u j ≡ int u₀ j) where
+  source-kept : (i : ℕ) → changes p d t i ≡ false → valueWith p q u zero i ≡ valueWith p q₀ u₀ zero i
+  unfolding changes valueWith
+  source-kept i = go (ltb i (p .n)) (ltb i (p .n + p .m)) refl refl
+    where
+      go : (a b : Bool) → ltb i (p .n) ≡ a → ltb i (p .n + p .m) ≡ b → cond a (isDue d t i) (b && isCommanded p t (i - p .n)) ≡ false
+          → cond a (int q i) (cond b (int u (i - p .n)) (pos 0)) ≡ cond a (int q₀ i) (cond b (int u₀ (i - p .n)) (pos 0))
+      go true b h k e = same-q i (ltb-true i (p .n) h) e
+      go false true h k e = same-u (i - p .n) (omega (arith, ltb-true, ltb-false)) e
+      go false false h k e = refl
+
+  -- once k nodes are worked out
+  pub value-kept : (k i : ℕ) → dependsWith p d t k i ≡ false → valueWith p q u k i ≡ valueWith p q₀ u₀ k i
+  unfolding dependsWith valueWith
+  value-kept zero i = source-kept i
+  value-kept (suc k) i =
+      let a = nat (p .lefts) k in let b = nat (p .rights) k in let ih = value-kept k in
+      choice-kept (eqb i (p .n + p .m + k))
+      (node-kept (nat (p .kinds) k) (int (p .lows) k) (int (p .highs) k) (dependsWith p d t k a) (dependsWith p d t k b) (ih a) (ih b)) (ih i)
+
+  -- over the first e links
+  sum-kept : (i e : ℕ) → some (linkReaches p d t i) e ≡ false → sumOver p q u i e ≡ sumOver p q₀ u₀ i e
+  unfolding some linkReaches sumOver valueOf
+  sum-kept i zero h = refl
+  sum-kept i (suc e) h =
+      let b = or-false (some (linkReaches p d t i) e) _ h in
+      ap₂ (λ x y. x +ℤ y) (sum-kept i e (b .0)) (go (eqb (nat (p .targets) e) i) (b .1))
+    where
+      j : ℕ
+      j = nat (p .sources) e
+
+      term : Bool → ℤ → ℤ
+      term own value = cond own (int (p .coefficients) e *ℤ value) (pos 0)
+
+      go : (b : Bool) → (b && dependsWith p d t (p .k) j) ≡ false → term b (valueWith p q u (p .k) j) ≡ term b (valueWith p q₀ u₀ (p .k) j)
+      go true f = ap (term true) (value-kept (p .k) j f)
+      go false f = refl
+
+  pub rate-kept : (i : ℕ) → reached p d t i ≡ false → rateOf p q u i ≡ rateOf p q₀ u₀ i
+  unfolding reached rateOf
+  rate-kept i e = ap floored (sum-kept i (p .links) e)

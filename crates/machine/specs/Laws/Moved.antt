@@ -1,0 +1,146 @@
+-- One instant, whoever moves besides those due or reached: outputs, slopes, due ticks and positions after it are those by rule, and do not
+-- depend on who moved. Assumes nothing.
+use mathlib.Core.Path.{_≡_, refl, sym, ap, _∙_}
+use mathlib.Core.Bool.{Bool, true, false, cond, _||_}
+use Prim.Native.Nat.{ℕ, _-_, _≤_, _<_}
+use native.Mathlib.Omega.{arith}
+use lib.IntN.{ℤ, pos, _+ℤ_, _*ℤ_, +ℤ-idr, *ℤ-zero}
+use borrow.Author.Tests.{eqb-false}
+use Rattle.plan.specs.Lists.{nat, int, row}
+use Rattle.plan.specs.Laws.Rows.{row-at, row-ext}
+use Rattle.plan.specs.Laws.Searches.{or-false}
+use Rattle.plan.specs.Laws.Counts.{Counts, counts-of}
+use Rattle.plan.specs.declared.Plan.{Plan}
+use Rattle.machine.specs.Due.{upperLevel, lowerLevel, dueTick, dueOf}
+use Rattle.machine.specs.Reach.{isDue, reached}
+use Rattle.machine.specs.Instant.{positionAt, settings, outputs, slopeThen, xThen, dueThen, takenAt}
+use Rattle.machine.specs.Sound.{SoundRunning}
+use Rattle.machine.specs.Laws.Between.{Between, near-between}
+use Rattle.machine.specs.Laws.Due.{due-later, later-above, later-below}
+use Rattle.machine.specs.Laws.Frame.{rate-kept, setting-kept}
+use Rattle.machine.specs.declared.Running.{Running}
+
+-- at a tick from the clock on, up to which nothing is due
+module _ (p : Plan) (r : Running) (ok : SoundRunning p r) (t : ℕ) (after : r .clock ≤ t) (least : (i : ℕ) → i < p .n → t ≤ nat (r .d) i) where
+  limits : Counts p
+  limits = counts-of p (ok .plan .counts)
+
+  pub outputs-at : (i : ℕ) → i < p .n → int (outputs p r t) i ≡ cond (isDue (r .d) t i) (positionAt r t i) (int (r .q) i)
+  unfolding outputs
+  outputs-at i h = row-at (pos 0) 32 (p .n) _ i (limits .n) h
+
+  -- the outputs of those that are not due are kept
+  pub output-kept : (i : ℕ) → i < p .n → isDue (r .d) t i ≡ false → int (outputs p r t) i ≡ int (r .q) i
+  output-kept i h e = outputs-at i h ∙ rw e
+
+  -- "x becomes x+s×(t−l) .. A due integrator gets x = q", which is the same
+  pub x-then : (i : ℕ) → i < p .n → xThen p r t i ≡ positionAt r t i
+  unfolding xThen
+  x-then i h = go (isDue (r .d) t i) (outputs-at i h)
+    where
+      go : (b : Bool) → int (outputs p r t) i ≡ cond b (positionAt r t i) (int (r .q) i) → cond b (int (outputs p r t) i) (positionAt r t i) ≡ positionAt r t i
+      go true e = e
+      go false e = refl
+
+  not-yet : (i : ℕ) → i < p .n → isDue (r .d) t i ≡ false → t < nat (r .d) i
+  unfolding isDue
+  not-yet i h e = omega (arith, least i h, eqb-false (nat (r .d) i) t e)
+
+  -- before its due tick an integrator stays between its levels, and its due tick stays what it is
+  module _ (i : ℕ) (h : i < p .n) (e : isDue (r .d) t i ≡ false) where
+    old : Between p (r .q) i (int (r .x) i)
+    old = near-between p (r .q) i (int (r .x) i) .0 (ok .integrators i h .near)
+
+    moved : nat (r .l) i ≤ t
+    moved = omega (arith, ok .integrators i h .moved)
+
+    before : t < dueTick (nat (r .l) i) (int (r .x) i) (upperLevel p (r .q) i) (lowerLevel p (r .q) i) (int (r .s) i)
+    unfolding dueOf
+    before = rw (ok .integrators i h .due) at (not-yet i h e)
+
+    pub between-then : Between p (r .q) i (positionAt r t i)
+    unfolding positionAt
+    between-then =
+        record {
+          above = later-above _ t _ _ _ _ (old .above) (old .below) moved before;
+          below = later-below _ t _ _ _ _ (old .above) (old .below) moved before;
+        }
+
+    pub due-same : dueOf p (r .q) i t (positionAt r t i) (int (r .s) i) ≡ nat (r .d) i
+    unfolding dueOf positionAt
+    due-same = due-later (nat (r .l) i) t _ _ _ _ (old .above) (old .below) moved before ∙ sym (ok .integrators i h .due)
+
+  -- an integrator that is not reached keeps its slope; one that is not due either keeps its due tick
+  pub slope-kept : (i : ℕ) → i < p .n → reached p (r .d) t i ≡ false → slopeThen p r t i ≡ int (r .s) i
+  unfolding slopeThen
+  slope-kept i h e =
+      rate-kept p (r .d) t (outputs p r t) (settings p (r .inputs) t) (r .q) (r .inputs) output-kept
+      (λ j l c. setting-kept p (r .inputs) t j (limits .m) l c) i e
+      ∙ sym (ok .integrators i h .rate)
+
+  pub due-kept : (i : ℕ) → i < p .n → isDue (r .d) t i ≡ false → reached p (r .d) t i ≡ false → dueThen p r t i ≡ nat (r .d) i
+  unfolding dueThen dueOf upperLevel lowerLevel
+  due-kept i h e f = rw (x-then i h, slope-kept i h f, output-kept i h e) (due-same i h e)
+
+  -- whoever moves
+  module _ (moves : ℕ → Bool) (covers : (i : ℕ) → i < p .n → moves i ≡ false → (isDue (r .d) t i || reached p (r .d) t i) ≡ false) where
+    not-due : (i : ℕ) → i < p .n → moves i ≡ false → isDue (r .d) t i ≡ false
+    not-due i h e = or-false (isDue (r .d) t i) (reached p (r .d) t i) (covers i h e) .0
+
+    not-reached : (i : ℕ) → i < p .n → moves i ≡ false → reached p (r .d) t i ≡ false
+    not-reached i h e = or-false (isDue (r .d) t i) (reached p (r .d) t i) (covers i h e) .1
+
+    pub slopes-then : takenAt p r t moves .s ≡ row (pos 0) 32 (p .n) (slopeThen p r t)
+    unfolding takenAt
+    slopes-then = row-ext (pos 0) 32 (p .n) _ _ (λ i h. go i h (moves i) refl)
+      where
+        go : (i : ℕ) → i < p .n → (b : Bool) → moves i ≡ b → cond b (slopeThen p r t i) (int (r .s) i) ≡ slopeThen p r t i
+        go i h true e = refl
+        go i h false e = sym (slope-kept i h (not-reached i h e))
+
+    pub dues-then : takenAt p r t moves .d ≡ row 0 32 (p .n) (dueThen p r t)
+    unfolding takenAt
+    dues-then = row-ext 0 32 (p .n) _ _ (λ i h. go i h (moves i) refl)
+      where
+        go : (i : ℕ) → i < p .n → (b : Bool) → moves i ≡ b → cond b (dueThen p r t i) (nat (r .d) i) ≡ dueThen p r t i
+        go i h true e = refl
+        go i h false e = sym (due-kept i h (not-due i h e) (not-reached i h e))
+
+    pub slope-at : (i : ℕ) → i < p .n → int (takenAt p r t moves .s) i ≡ slopeThen p r t i
+    slope-at i h = rw slopes-then (row-at (pos 0) 32 (p .n) _ i (limits .n) h)
+
+    pub due-at : (i : ℕ) → i < p .n → nat (takenAt p r t moves .d) i ≡ dueThen p r t i
+    due-at i h = rw dues-then (row-at 0 32 (p .n) _ i (limits .n) h)
+
+    pub x-at : (i : ℕ) → i < p .n → int (takenAt p r t moves .x) i ≡ cond (moves i) (positionAt r t i) (int (r .x) i)
+    unfolding takenAt
+    x-at i h = row-at (pos 0) 32 (p .n) _ i (limits .n) h ∙ rw (x-then i h)
+
+    pub l-at : (i : ℕ) → i < p .n → nat (takenAt p r t moves .l) i ≡ cond (moves i) t (nat (r .l) i)
+    unfolding takenAt
+    l-at i h = row-at 0 32 (p .n) _ i (limits .n) h
+
+    -- the position at the instant's tick does not depend on who moved
+    pub place-then : (i : ℕ) → i < p .n → positionAt (takenAt p r t moves) t i ≡ positionAt r t i
+    unfolding positionAt
+    place-then i h = rw (x-at i h, l-at i h, slope-at i h) (go (moves i) refl)
+      where
+        go : (b : Bool) → moves i ≡ b →
+            cond b (positionAt r t i) (int (r .x) i) +ℤ slopeThen p r t i *ℤ pos (t - cond b t (nat (r .l) i)) ≡ positionAt r t i
+        go true e =
+            let z : t - t ≡ 0 = omega arith in
+            rw z (ap (λ y. positionAt r t i +ℤ y) (*ℤ-zero (slopeThen p r t i)) ∙ +ℤ-idr (positionAt r t i))
+        go false e = rw (slope-kept i h (not-reached i h e))
+
+    -- and the due tick is by rule from where and when the integrator was moved last
+    pub due-by-rule : (i : ℕ) → i < p .n →
+        dueThen p r t i ≡ dueOf p (outputs p r t) i (cond (moves i) t (nat (r .l) i)) (cond (moves i) (positionAt r t i) (int (r .x) i)) (slopeThen p r t i)
+    unfolding dueThen dueOf upperLevel lowerLevel
+    due-by-rule i h = go (moves i) refl
+      where
+        go : (b : Bool) → moves i ≡ b →
+            dueThen p r t i ≡ dueOf p (outputs p r t) i (cond b t (nat (r .l) i)) (cond b (positionAt r t i) (int (r .x) i)) (slopeThen p r t i)
+        go true e = rw (x-then i h)
+        go false e =
+            due-kept i h (not-due i h e) (not-reached i h e) ∙ ok .integrators i h .due
+            ∙ rw (output-kept i h (not-due i h e), slope-kept i h (not-reached i h e))

@@ -1,0 +1,117 @@
+-- The next instant's tick is the least of all due ticks and the next command's tick, and the next command is the first above the clock. Assumes
+-- nothing.
+use mathlib.Core.Path.{_≡_, refl, sym, ap, _∙_}
+use mathlib.Core.Bool.{Bool, true, false, cond}
+use mathlib.Core.Logic.{_⊎_, inl, inr}
+use mathlib.Core.List.{List}
+use Prim.Native.Nat.{ℕ, zero, suc, _+_, _≤_, _<_, min}
+use native.Mathlib.Omega.{arith}
+use lib.Dec.{ltb}
+use borrow.Author.Tests.{ltb-true, ltb-false, lt-ltb, le-ltb}
+use Rattle.plan.specs.Lists.{nat, firstFrom}
+use Rattle.plan.specs.Laws.Searches.{below-suc, First, first}
+use Rattle.plan.specs.declared.Plan.{Plan}
+use Rattle.machine.specs.Due.{never}
+use Rattle.machine.specs.Next.{nextCommand, commandTick, leastDue, nextTick}
+
+-- ---- the least of the first n due ticks
+least-below : (d : List ℕ) (n i : ℕ) → i < n → leastDue d n ≤ nat d i
+unfolding leastDue
+least-below d zero i h = absurd (omega arith)
+least-below d (suc n) i h =
+    below-suc (λ j. min (leastDue d n) (nat d n) ≤ nat d j) h (λ l. omega (arith, least-below d n i l)) (omega arith)
+
+least-most : (d : List ℕ) (n : ℕ) → leastDue d n ≤ never
+unfolding leastDue
+least-most d zero = omega arith
+least-most d (suc n) = omega (arith, least-most d n)
+
+least-above : (d : List ℕ) (n c : ℕ) → c ≤ never → ((i : ℕ) → i < n → c ≤ nat d i) → c ≤ leastDue d n
+unfolding leastDue
+least-above d zero c h f = h
+least-above d (suc n) c h f = omega (arith, least-above d n c h (λ i l. f i (omega arith)), f n (omega arith))
+
+-- it is one of them
+least-one : (d : List ℕ) (n : ℕ) → leastDue d n < never → (i : ℕ) × (i < n) × (nat d i ≡ leastDue d n)
+unfolding leastDue
+least-one d zero h = absurd (omega arith)
+least-one d (suc n) h = go (ltb (leastDue d n) (nat d n)) refl (least-one d n)
+  where
+    least : ℕ
+    least = leastDue d n
+
+    go : (b : Bool) → ltb least (nat d n) ≡ b → (least < never → (i : ℕ) × (i < n) × (nat d i ≡ least))
+        → (i : ℕ) × (i < suc n) × (nat d i ≡ min least (nat d n))
+    go true e ih =
+        let l = ltb-true least (nat d n) e in let f = ih (omega arith) in (f .0, omega (arith, f .1), omega (arith, f .2))
+    go false e ih = (n, omega arith, omega (arith, ltb-false least (nat d n) e))
+
+-- ---- the next command
+module _ (p : Plan) (c : ℕ) where
+  found : First (λ e. ltb c (nat (p .ticks) e)) 0 (p .commands) (nextCommand p c)
+  unfolding nextCommand
+  found = first (λ e. ltb c (nat (p .ticks) e)) 0 (p .commands)
+
+  pub command-earlier : (e : ℕ) → e < nextCommand p c → nat (p .ticks) e ≤ c
+  command-earlier e h = ltb-false c (nat (p .ticks) e) (found .earlier e (omega arith) h)
+
+  pub command-first : nextCommand p c < p .commands → c < nat (p .ticks) (nextCommand p c)
+  command-first h = ltb-true c (nat (p .ticks) (nextCommand p c)) (found .passes (omega arith))
+
+  pub command-most : nextCommand p c ≤ p .commands
+  command-most = omega (arith, found .most)
+
+-- ---- the next tick
+module _ (p : Plan) (d : List ℕ) (next : ℕ) where
+  pub next-most : nextTick p d next ≤ never
+  unfolding nextTick
+  next-most = omega (arith, least-most d (p .n))
+
+  pub next-due : (i : ℕ) → i < p .n → nextTick p d next ≤ nat d i
+  unfolding nextTick
+  next-due i h = omega (arith, least-below d (p .n) i h)
+
+  pub next-command : next < p .commands → nextTick p d next ≤ nat (p .ticks) next
+  unfolding nextTick commandTick
+  next-command h = rw (lt-ltb next (p .commands) h) (omega arith)
+
+  -- what stands at or below all of them
+  next-above : (c : ℕ) → c ≤ never → ((i : ℕ) → i < p .n → c ≤ nat d i) → (next < p .commands → c ≤ nat (p .ticks) next) → c ≤ nextTick p d next
+  unfolding nextTick commandTick
+  next-above c h f g = go (ltb next (p .commands)) refl
+    where
+      go : (b : Bool) → ltb next (p .commands) ≡ b → c ≤ min (leastDue d (p .n)) (cond b (nat (p .ticks) next) never)
+      go true e = omega (arith, least-above d (p .n) c h f, g (ltb-true next (p .commands) e))
+      go false e = omega (arith, least-above d (p .n) c h f)
+
+  pub next-never : ((i : ℕ) → i < p .n → never ≤ nat d i) → p .commands ≤ next → nextTick p d next ≡ never
+  next-never f h = omega (arith, next-most, next-above never (omega arith) f (λ l. absurd (omega arith)))
+
+  pub next-one : nextTick p d next < never
+      → ((i : ℕ) × (i < p .n) × (nat d i ≡ nextTick p d next)) ⊎ ((next < p .commands) × (nat (p .ticks) next ≡ nextTick p d next))
+  unfolding nextTick commandTick
+  next-one = go (ltb next (p .commands)) refl
+    where
+      least : ℕ
+      least = leastDue d (p .n)
+
+      One : ℕ → Type 0
+      One t = ((i : ℕ) × (i < p .n) × (nat d i ≡ t)) ⊎ ((next < p .commands) × (nat (p .ticks) next ≡ t))
+
+      by-due : (t : ℕ) → t ≡ least → t < never → One t
+      by-due t e h = let f = least-one d (p .n) (omega arith) in inl (f .0, f .1, omega (arith, f .2))
+
+      by-command : (t c : ℕ) → next < p .commands → c ≡ nat (p .ticks) next → (b : Bool) → ltb least c ≡ b → t ≡ min least c → t < never → One t
+      by-command t c l k true e m h = by-due t (omega (arith, ltb-true least c e)) h
+      by-command t c l k false e m h = inr (l, omega (arith, ltb-false least c e))
+
+      go : (b : Bool) → ltb next (p .commands) ≡ b → min least (cond b (nat (p .ticks) next) never) < never
+          → One (min least (cond b (nat (p .ticks) next) never))
+      go true e h =
+          by-command (min least (nat (p .ticks) next)) (nat (p .ticks) next) (ltb-true next (p .commands) e) refl
+          (ltb least (nat (p .ticks) next)) refl refl h
+      go false e h = by-due (min least never) (omega (arith, least-most d (p .n))) h
+
+-- where the clock stands below every due tick, time goes on
+pub next-after : (p : Plan) (d : List ℕ) (c : ℕ) → c < never → ((i : ℕ) → i < p .n → c < nat d i) → c < nextTick p d (nextCommand p c)
+next-after p d c h f = next-above p d (nextCommand p c) (suc c) h f (command-first p c)

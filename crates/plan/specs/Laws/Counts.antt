@@ -1,0 +1,26 @@
+-- The limits of a plan's counts, each by its name. Assumes nothing.
+use Prim.Native.Nat.{ℕ, _≤_}
+use native.Mathlib.Omega.{arith}
+use Rattle.plan.specs.Tests.{counts}
+use Rattle.plan.specs.Rules.{CountsRule}
+use Rattle.plan.specs.declared.Plan.{Plan}
+
+pub record Counts (p : Plan) : Type 0 where
+  pub n-least : 1 ≤ p .n
+  pub n : p .n ≤ 32
+  pub m : p .m ≤ 8
+  pub k : p .k ≤ 16
+  pub links : p .links ≤ 256
+  pub commands : p .commands ≤ 64
+
+pub counts-of : (p : Plan) → CountsRule p → Counts p
+unfolding counts
+counts-of p h =
+    record {
+      n-least = h 0 (omega arith) .0;
+      n = h 0 (omega arith) .1;
+      m = h 1 (omega arith) .1;
+      k = h 2 (omega arith) .1;
+      links = h 3 (omega arith) .1;
+      commands = h 4 (omega arith) .1;
+    }
