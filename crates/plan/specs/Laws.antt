@@ -2,3 +2,9 @@
 pub mod Rows
 pub mod Searches
 pub mod Counts
+pub mod Means
+pub mod Kept
+pub mod KeptFile
+pub mod Entries
+pub mod Joined
+pub mod Layout

@@ -1,0 +1,142 @@
+-- Each test of a plan means its rule: the horizon, the counts, integrators, inputs, nodes, links and commands. Assumes nothing.
+use mathlib.Core.Path.{_≡_, refl}
+use mathlib.Core.Bool.{Bool, true, false, cond, _&&_}
+use Prim.Native.Nat.{ℕ, _+_}
+use native.Mathlib.Omega.{arith}
+use lib.IntN.{ℤ, pos}
+use lib.Signed.{leZ}
+use lib.Dec.{leb, ltb, eqb}
+use borrow.Author.Tests.{leb-true, leb-false, eqb-true, eqb-false}
+use Rattle.integers.specs.Parts.{∣_∣}
+use Rattle.integers.specs.Order.{leZ-true}
+use Rattle.integers.specs.Range.{within}
+use Rattle.plan.specs.Lists.{nat, int}
+use Rattle.plan.specs.Format.{M, sections}
+use Rattle.plan.specs.Tests.{countKept, horizonKept, counts, countsKept, integratorKept, inputKept, kindKept, nodeKept}
+use Rattle.plan.specs.Tests.{linkLimits, linkOrdered, commandLimits, commandOrdered}
+use Rattle.plan.specs.Rules.{CountRule, HorizonRule, CountsRule, IntegratorRule, InputRule, NodeRule, LinkRule, CommandRule}
+use Rattle.plan.specs.declared.Plan.{Plan}
+use Rattle.plan.specs.Laws.Means.{Means, leb-means, ltb-means, eqb-means, zero-means, within-means, ascends-means}
+use Rattle.plan.specs.Laws.Means.{both, negated, every-means}
+
+pub count-kept : (k count : ℕ) → Means (countKept k count) (CountRule k count)
+unfolding countKept
+count-kept k count = both (leb-means _ count) (leb-means count _)
+
+module _ (p : Plan) where
+  pub horizon-kept : Means (horizonKept (p .horizon)) (HorizonRule p)
+  unfolding horizonKept
+  horizon-kept = both (leb-means 1 _) (leb-means _ 2000000000)
+
+  pub counts-kept : Means (countsKept p) (CountsRule p)
+  unfolding countsKept
+  counts-kept = every-means (λ k. count-kept k (nat (counts p) k)) sections
+
+  pub integrator-kept : (i : ℕ) → Means (integratorKept p i) (IntegratorRule p i)
+  unfolding integratorKept
+  integrator-kept i =
+      let all = both (both (within-means M (int (p .starts) i)) (leZ-true (pos 1) (int (p .quanta) i))) (leZ-true (int (p .quanta) i) (pos M)) in
+      (λ t. let h = all .0 t in record { start = h .0 .0; least = h .0 .1; most = h .1 }, λ r. all .1 ((r .start, r .least), r .most))
+
+  pub input-kept : (j : ℕ) → Means (inputKept p j) (InputRule p j)
+  unfolding inputKept
+  input-kept j = within-means M (int (p .firsts) j)
+
+  pub node-kept : (j : ℕ) → Means (nodeKept p j) (NodeRule p j)
+  unfolding nodeKept kindKept
+  node-kept j = go (leb kind 1) (eqb kind 2) refl refl
+    where
+      kind : ℕ
+      kind = nat (p .kinds) j
+
+      own : ℕ
+      own = p .n + p .m + j
+
+      a : ℕ
+      a = nat (p .lefts) j
+
+      b : ℕ
+      b = nat (p .rights) j
+
+      lo : ℤ
+      lo = int (p .lows) j
+
+      hi : ℤ
+      hi = int (p .highs) j
+
+      go : (s t : Bool) → leb kind 1 ≡ s → eqb kind 2 ≡ t
+          → Means (ltb a own && cond s (ltb b own && eqb ∣ lo ∣ 0 && eqb ∣ hi ∣ 0)
+          (within M lo && within M hi && cond t (eqb b 0 && leZ lo hi) (eqb kind 3 && ltb b own))) (NodeRule p j)
+      go true t e d =
+          let low = leb-true kind 1 e in
+          let all = both (ltb-means a own) (both (both (ltb-means b own) (zero-means lo)) (zero-means hi)) in (
+            λ t. let h = all .0 t in record {
+              kind = omega arith;
+              left = h .0;
+              right = λ q. h .1 .0 .0;
+              unused = λ q. absurd (omega arith);
+              plain = λ q. (h .1 .0 .1, h .1 .1);
+              limits = λ q. absurd (omega arith);
+              order = λ q. absurd (omega arith);
+            },
+            λ r. let z = r .plain low in all .1 (r .left, ((r .right (λ q. omega arith), z .0), z .1)),
+          )
+      go false true e d =
+          let is = eqb-true kind 2 d in
+          let all = both (ltb-means a own) (both (both (within-means M lo) (within-means M hi)) (both (eqb-means b 0) (leZ-true lo hi))) in (
+            λ t. let h = all .0 t in record {
+              kind = omega arith;
+              left = h .0;
+              right = λ q. absurd (q is);
+              unused = λ q. h .1 .1 .0;
+              plain = λ q. absurd (omega arith);
+              limits = λ q. h .1 .0;
+              order = λ q. h .1 .1 .1;
+            },
+            λ r. all .1 (r .left, (r .limits (omega arith), (r .unused is, r .order is))),
+          )
+      go false false e d =
+          let high = leb-false kind 1 e in let not = eqb-false kind 2 d in
+          let all = both (ltb-means a own) (both (both (within-means M lo) (within-means M hi)) (both (eqb-means kind 3) (ltb-means b own))) in (
+            λ t. let h = all .0 t in record {
+              kind = omega (arith, h .1 .1 .0);
+              left = h .0;
+              right = λ q. h .1 .1 .1;
+              unused = λ q. absurd (not q);
+              plain = λ q. absurd (omega arith);
+              limits = λ q. h .1 .0;
+              order = λ q. absurd (not q);
+            },
+            λ r. all .1 (r .left, (r .limits high, (omega (arith, r .kind), r .right not))),
+          )
+
+  pub link-kept : (e : ℕ) → Means (linkLimits p e && linkOrdered p e) (LinkRule p e)
+  unfolding linkLimits linkOrdered
+  link-kept e =
+      let c = int (p .coefficients) e in
+      let limits = both (both (both (ltb-means _ (p .n)) (ltb-means _ (p .n + p .m + p .k))) (negated (zero-means c))) (within-means 16777216 c) in
+      let all = both limits (ascends-means (p .targets) (p .sources) e) in (
+        λ t. let h = all .0 t in record {
+          target = h .0 .0 .0 .0;
+          source = h .0 .0 .0 .1;
+          nonzero = h .0 .0 .1;
+          coefficient = h .0 .1;
+          order = h .1;
+        },
+        λ r. all .1 ((((r .target, r .source), r .nonzero), r .coefficient), r .order),
+      )
+
+  pub command-kept : (e : ℕ) → Means (commandLimits p e && commandOrdered p e) (CommandRule p e)
+  unfolding commandLimits commandOrdered
+  command-kept e =
+      let limits = both (both (both (leb-means 1 _) (leb-means _ (p .horizon))) (ltb-means _ (p .m))) (within-means M (int (p .values) e)) in
+      let all = both limits (ascends-means (p .ticks) (p .numbers) e) in (
+        λ t. let h = all .0 t in record {
+          least = h .0 .0 .0 .0;
+          most = h .0 .0 .0 .1;
+          number = h .0 .0 .1;
+          value = h .0 .1;
+          order = h .1;
+        },
+        λ r. all .1 ((((r .least, r .most), r .number), r .value), r .order),
+      )
