@@ -8,6 +8,7 @@ pub mod Instant
 pub mod Status
 pub mod Runs
 pub mod Plain
+pub mod Updates
 pub mod Sound
 pub mod SoundTest
 pub mod Laws

@@ -40,7 +40,7 @@ use Rattle.machine.specs.declared.Engine.the-variants.{Lazy, Eager}
 use Rattle.simulator.specs.Calls.{loadOf, writeNumber, writeOf, bufferOfWrite, roomOf, declineOf, runNumber, ranState, ranEvents}
 use Rattle.simulator.specs.Calls.{runOf, bufferOfRun, positionNumber, positionedOf}
 use Rattle.simulator.specs.Lists.{Call, answerOf, bufferOf, fedBy, afterCalls, budgetSum, joinedBytes, engineAt, cutAt, restAt, allBy}
-use Rattle.simulator.specs.Lists.{growth, growthUpTo, movedNow}
+use Rattle.machine.specs.Updates.{growth, growthUpTo, movedNow}
 
 -- the cup as it is loaded, its plan number for number
 abbrev loaded : State

@@ -2,17 +2,12 @@
 -- run's own answer, which the contracts of the runs cite.
 use mathlib.Core.Bool.{cond}
 use mathlib.Core.List.{List, [], _∷_, _++_}
-use Prim.Native.Nat.{ℕ, zero, suc, _+_, _-_}
+use Prim.Native.Nat.{ℕ, _+_, _-_}
 use lib.Dec.{leb, eqb}
 use lib.ListN.{take}
-use Rattle.bitset.specs.Mask.{countOf}
-use Rattle.plan.specs.Lists.{nat}
-use Rattle.plan.specs.declared.Plan.{Plan}
-use Rattle.machine.specs.Plain.{Plain, plainAfter, lazyCount}
-use Rattle.machine.specs.declared.Running.{Running}
 use Rattle.machine.specs.declared.State.{State}
 use Rattle.machine.specs.declared.Engine.{Engine}
-use Rattle.machine.specs.declared.Engine.the-variants.{Lazy, Eager}
+use Rattle.machine.specs.declared.Engine.the-variants.{Lazy}
 use Rattle.simulator.specs.Calls.{runOf, bufferOfRun}
 use Rattle.simulator.specs.declared.Ran.{Ran}
 
@@ -72,18 +67,3 @@ restAt st (c ∷ cs) i =
 unfoldable pub allBy : Engine → List Call → List Call
 allBy engine [] = []
 allBy engine (c ∷ cs) = record { engine = engine; budget = c .budget; buffer = c .buffer } ∷ allBy engine cs
-
--- "At it updates grow by n if that call is eager, else by the number that step 5 moves for the lazy engine, with the plain machine's due
--- ticks": from the plain machine before the instant
-unfoldable pub growth : Plan → Engine → Plain → ℕ
-growth p Lazy m = lazyCount p m
-growth p Eager m = p .n
-
--- the growth over the instants 1 to k
-unfoldable pub growthUpTo : Plan → (ℕ → Engine) → ℕ → ℕ
-growthUpTo p engine zero = 0
-growthUpTo p engine (suc k) = growthUpTo p engine k + growth p (engine (k + 1)) (plainAfter p k)
-
--- "the number of integrators with l = c"
-unfoldable pub movedNow : Plan → Running → ℕ
-movedNow p r = countOf (λ i. eqb (nat (r .l) i) (r .clock)) (p .n)

@@ -26,6 +26,7 @@ use Rattle.machine.specs.Reach.{changes, Changed, reached, Reached}
 use Rattle.machine.specs.Instant.{positionAt, slopeThen, tickOf, eventsOf}
 use Rattle.machine.specs.Status.{statusOf, integratorOf}
 use Rattle.machine.specs.Plain.{Plain, plainAfter, plainEvents, plainStatus, plainIntegrator}
+use Rattle.machine.specs.Updates.{growth, growthUpTo, movedNow}
 use Rattle.machine.specs.Sound.{Sound}
 use Rattle.machine.specs.SoundTest.{isSound}
 use Rattle.machine.specs.declared.Running.{Running}
@@ -34,7 +35,6 @@ use Rattle.machine.specs.declared.Engine.{Engine}
 use Rattle.machine.specs.declared.Engine.the-variants.{Lazy, Eager}
 use Rattle.simulator.specs.Calls.{loadOf, writeOf, bufferOfWrite, runOf, bufferOfRun, positionedOf}
 use Rattle.simulator.specs.Lists.{Call, answerOf, bufferOf, afterCalls, budgetSum, joinedBytes, engineAt, cutAt, restAt, allBy}
-use Rattle.simulator.specs.Lists.{growth, growthUpTo, movedNow}
 use Rattle.simulator.specs.Limits.{AcceptedLimits, FileLimits, AnswerLimits, RateLimits, LevelLimits, StateLimits}
 
 -- ════ 1. Demand 1, files: every file of any length and content is loaded, or refused by number and entry

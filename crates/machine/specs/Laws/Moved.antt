@@ -11,13 +11,14 @@ use Rattle.plan.specs.Laws.Rows.{row-at, row-ext}
 use Rattle.plan.specs.Laws.Searches.{or-false}
 use Rattle.plan.specs.Laws.Counts.{Counts, counts-of}
 use Rattle.plan.specs.declared.Plan.{Plan}
-use Rattle.machine.specs.Due.{upperLevel, lowerLevel, dueTick, dueOf}
+use Rattle.machine.specs.Due.{upperLevel, lowerLevel, dueOf}
 use Rattle.machine.specs.Reach.{isDue, reached}
 use Rattle.machine.specs.Instant.{positionAt, settings, outputs, slopeThen, xThen, dueThen, takenAt}
 use Rattle.machine.specs.Sound.{SoundRunning}
-use Rattle.machine.specs.Laws.Between.{Between, near-between}
-use Rattle.machine.specs.Laws.Due.{due-later, later-above, later-below}
+use Rattle.machine.specs.Laws.Between.{Between}
+use Rattle.machine.specs.Laws.Due.{due-later}
 use Rattle.machine.specs.Laws.Frame.{rate-kept, setting-kept}
+use Rattle.machine.specs.Laws.Positions.{inside, due-is, moved-before, stays-inside}
 use Rattle.machine.specs.declared.Running.{Running}
 
 -- at a tick from the clock on, up to which nothing is due
@@ -46,29 +47,16 @@ module _ (p : Plan) (r : Running) (ok : SoundRunning p r) (t : ℕ) (after : r .
   unfolding isDue
   not-yet i h e = omega (arith, least i h, eqb-false (nat (r .d) i) t e)
 
-  -- before its due tick an integrator stays between its levels, and its due tick stays what it is
-  module _ (i : ℕ) (h : i < p .n) (e : isDue (r .d) t i ≡ false) where
-    old : Between p (r .q) i (int (r .x) i)
-    old = near-between p (r .q) i (int (r .x) i) .0 (ok .integrators i h .near)
+  -- one that is not due stays between its levels, and its due tick stays what it is
+  pub between-then : (i : ℕ) → i < p .n → isDue (r .d) t i ≡ false → Between p (r .q) i (positionAt r t i)
+  between-then i h e = stays-inside p r ok i h t after (not-yet i h e)
 
-    moved : nat (r .l) i ≤ t
-    moved = omega (arith, ok .integrators i h .moved)
-
-    before : t < dueTick (nat (r .l) i) (int (r .x) i) (upperLevel p (r .q) i) (lowerLevel p (r .q) i) (int (r .s) i)
-    unfolding dueOf
-    before = rw (ok .integrators i h .due) at (not-yet i h e)
-
-    pub between-then : Between p (r .q) i (positionAt r t i)
-    unfolding positionAt
-    between-then =
-        record {
-          above = later-above _ t _ _ _ _ (old .above) (old .below) moved before;
-          below = later-below _ t _ _ _ _ (old .above) (old .below) moved before;
-        }
-
-    pub due-same : dueOf p (r .q) i t (positionAt r t i) (int (r .s) i) ≡ nat (r .d) i
-    unfolding dueOf positionAt
-    due-same = due-later (nat (r .l) i) t _ _ _ _ (old .above) (old .below) moved before ∙ sym (ok .integrators i h .due)
+  due-same : (i : ℕ) → i < p .n → isDue (r .d) t i ≡ false → dueOf p (r .q) i t (positionAt r t i) (int (r .s) i) ≡ nat (r .d) i
+  unfolding dueOf positionAt
+  due-same i h e =
+      let old = inside p r ok i h in
+      let before = rw (due-is p r ok i h) at (not-yet i h e) in
+      due-later (nat (r .l) i) t _ _ _ _ (old .above) (old .below) (moved-before p r ok i h t after) before ∙ sym (due-is p r ok i h)
 
   -- an integrator that is not reached keeps its slope; one that is not due either keeps its due tick
   pub slope-kept : (i : ℕ) → i < p .n → reached p (r .d) t i ≡ false → slopeThen p r t i ≡ int (r .s) i
@@ -84,7 +72,7 @@ module _ (p : Plan) (r : Running) (ok : SoundRunning p r) (t : ℕ) (after : r .
 
   -- whoever moves
   module _ (moves : ℕ → Bool) (covers : (i : ℕ) → i < p .n → moves i ≡ false → (isDue (r .d) t i || reached p (r .d) t i) ≡ false) where
-    not-due : (i : ℕ) → i < p .n → moves i ≡ false → isDue (r .d) t i ≡ false
+    pub not-due : (i : ℕ) → i < p .n → moves i ≡ false → isDue (r .d) t i ≡ false
     not-due i h e = or-false (isDue (r .d) t i) (reached p (r .d) t i) (covers i h e) .0
 
     not-reached : (i : ℕ) → i < p .n → moves i ≡ false → reached p (r .d) t i ≡ false

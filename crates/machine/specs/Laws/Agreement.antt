@@ -1,0 +1,140 @@
+-- An instant of either engine and one of the plain machine, from states that agree, lead to states that agree; and what is read from such
+-- states is the same. Assumes nothing.
+use mathlib.Core.Path.{_≡_, refl, sym, ap, _∙_}
+use mathlib.Core.Bool.{Bool, true, false, cond, true≢false, _||_}
+use mathlib.Core.List.{List}
+use Prim.Native.Nat.{ℕ, _+_, _-_, _≤_, _<_}
+use native.Mathlib.Omega.{arith}
+use lib.IntN.{ℤ, pos, _+ℤ_, _*ℤ_}
+use Rattle.integers.specs.Parts.{∣_∣, sum, prod, zs}
+use Rattle.plan.specs.Lists.{nat, int, row}
+use Rattle.plan.specs.Laws.Rows.{row-at, row-ext}
+use Rattle.plan.specs.Laws.Counts.{counts-of}
+use Rattle.plan.specs.declared.Plan.{Plan}
+use Rattle.machine.specs.Values.{rateOf}
+use Rattle.machine.specs.Due.{never, dueOf}
+use Rattle.machine.specs.Next.{nextTick}
+use Rattle.machine.specs.Start.{startSlope, startDue, startOf}
+use Rattle.machine.specs.Reach.{isDue, reached}
+use Rattle.machine.specs.Instant.{positionAt, settings, moves, outputs, slopeThen, dueThen, takenAt, tickOf, instant, eventsOf}
+use Rattle.machine.specs.Status.{statusAt, statusOf, integratorOf, isPaused}
+use Rattle.machine.specs.Runs.{positionOf}
+use Rattle.machine.specs.Plain.{Plain, settled, plainStart, plainTick, plainPosition, plainOutputs, plainInstant, plainEventsOf}
+use Rattle.machine.specs.Plain.{plainStatus, plainIntegrator}
+use Rattle.machine.specs.Sound.{SoundRunning}
+use Rattle.machine.specs.Laws.Soundness.{covers, tick-after, tick-least}
+use Rattle.machine.specs.Laws.Status.{status-same, integrator-same}
+use Rattle.machine.specs.Laws.Moved.{x-then, slopes-then, dues-then, place-then}
+use Rattle.machine.specs.declared.Running.{Running}
+use Rattle.machine.specs.declared.Engine.{Engine}
+use Rattle.machine.specs.declared.Engine.the-variants.{Lazy, Eager}
+
+-- "Plain machine and engines are compared on everything but l, the stored x and updates": the positions at the clock
+pub record Agrees (p : Plan) (r : Running) (m : Plain) : Type 0 where
+  pub q : r .q ≡ m .q
+  pub s : r .s ≡ m .s
+  pub d : r .d ≡ m .d
+  pub inputs : r .inputs ≡ m .inputs
+  pub clock : r .clock ≡ m .clock
+  pub next : r .next ≡ m .next
+  pub instants : r .instants ≡ m .instants
+  pub place : (i : ℕ) → i < p .n → positionOf r i ≡ int (m .x) i
+
+module _ (p : Plan) (r : Running) (ok : SoundRunning p r) where
+  tick-from : r .clock ≤ tickOf p r
+  tick-from = omega (arith, tick-after p r ok)
+
+  -- a later position, from the one at the clock
+  later : (t i : ℕ) → r .clock ≤ t → i < p .n → positionAt r t i ≡ positionOf r i +ℤ int (r .s) i *ℤ pos (t - r .clock)
+  unfolding positionOf positionAt
+  later t i h l =
+      let split : t - nat (r .l) i ≡ (r .clock - nat (r .l) i) + (t - r .clock) = omega (arith, ok .integrators i l .moved) in
+      rw split (forward (int (r .x) i) (int (r .s) i) (r .clock - nat (r .l) i) (t - r .clock))
+    where
+      forward : (x s : ℤ) (a b : ℕ) → x +ℤ s *ℤ pos (a + b) ≡ x +ℤ s *ℤ pos a +ℤ s *ℤ pos b
+      forward x s a b =
+          let y = x +ℤ s *ℤ pos a in
+          omega (arith, zs, prod s (pos (a + b)), prod s (pos a), prod s (pos b), sum x (s *ℤ pos (a + b)), sum x (s *ℤ pos a), sum y (s *ℤ pos b))
+
+  module _ (m : Plain) (a : Agrees p r m) where
+    pub same-tick : tickOf p r ≡ plainTick p m
+    unfolding tickOf plainTick
+    same-tick = rw (a .d, a .next)
+
+    pub same-position : (i : ℕ) → i < p .n → positionAt r (tickOf p r) i ≡ plainPosition p m i
+    unfolding plainPosition
+    same-position i h = later (tickOf p r) i tick-from h ∙ rw (same-tick, a .place i h, a .s, a .clock)
+
+    -- ---- what is read from the state
+    pub same-status : statusOf p r ≡ plainStatus p m
+    unfolding statusOf plainStatus
+    same-status = status-same p (r .d) (tickOf p r) _ _ same-position ∙ rw (same-tick, a .d)
+
+    pub same-integrator : integratorOf p r ≡ plainIntegrator p m
+    unfolding integratorOf plainIntegrator
+    same-integrator = integrator-same p (r .d) (tickOf p r) _ _ same-position ∙ rw (same-tick, a .d)
+
+    pub same-outputs : outputs p r (tickOf p r) ≡ plainOutputs p m
+    unfolding outputs plainOutputs
+    same-outputs = row-ext (pos 0) 32 (p .n) _ _ (λ i h. rw (same-position i h, same-tick, a .d, a .q))
+
+    pub same-settings : settings p (r .inputs) (tickOf p r) ≡ settings p (m .inputs) (plainTick p m)
+    same-settings = rw (same-tick, a .inputs)
+
+    pub same-events : eventsOf p r ≡ plainEventsOf p m
+    unfolding eventsOf plainEventsOf
+    same-events = rw (same-outputs, same-settings, same-tick, a .d)
+
+    -- ---- one instant
+    abbrev new-slope : ℕ → ℤ
+    new-slope = rateOf p (plainOutputs p m) (settings p (m .inputs) (plainTick p m))
+
+    same-slope : (i : ℕ) → slopeThen p r (tickOf p r) i ≡ new-slope i
+    unfolding slopeThen
+    same-slope i = rw (same-outputs, same-settings)
+
+    abbrev new-x : List ℤ
+    new-x = row (pos 0) 32 (p .n) (plainPosition p m)
+
+    new-x-at : (i : ℕ) → i < p .n → int new-x i ≡ plainPosition p m i
+    new-x-at i h = row-at (pos 0) 32 (p .n) (plainPosition p m) i (counts-of p (ok .plan .counts) .n) h
+
+    same-due : (i : ℕ) → i < p .n → dueThen p r (tickOf p r) i ≡ dueOf p (plainOutputs p m) i (plainTick p m) (int new-x i) (new-slope i)
+    unfolding dueThen
+    same-due i h =
+        rw (x-then p r ok (tickOf p r) tick-from (tick-least p r ok) i h, same-position i h, same-outputs, same-slope i, new-x-at i h, same-tick)
+
+    pub agrees-then : (engine : Engine) → Agrees p (instant p engine r) (plainInstant p m)
+    unfolding instant takenAt plainInstant settled positionOf
+    agrees-then engine =
+        let t = tickOf p r in
+        let who = moves p engine (r .d) t in
+        let cover = covers p engine (r .d) t in
+        record {
+          q = same-outputs;
+          s = slopes-then p r ok t tick-from (tick-least p r ok) who cover ∙ row-ext (pos 0) 32 (p .n) _ _ (λ i h. same-slope i);
+          d = dues-then p r ok t tick-from (tick-least p r ok) who cover ∙ row-ext 0 32 (p .n) _ _ same-due;
+          inputs = same-settings;
+          clock = same-tick;
+          next = rw same-tick;
+          instants = rw (a .instants);
+          place = λ i h. place-then p r ok t tick-from (tick-least p r ok) who cover i h ∙ same-position i h ∙ sym (new-x-at i h);
+        }
+
+-- ---- the start
+pub start-agrees : (p : Plan) → p .n ≤ 32 → Agrees p (startOf p) (plainStart p)
+unfolding startOf startSlope startDue plainStart settled positionOf positionAt
+start-agrees p wide =
+    record {
+      q = refl;
+      s = refl;
+      d = refl;
+      inputs = refl;
+      clock = refl;
+      next = refl;
+      instants = refl;
+      place = λ i h. unmoved (int (p .starts) i) (int (startOf p .s) i) (nat (startOf p .l) i);
+    }
+  where
+    unmoved : (x s : ℤ) (l : ℕ) → x +ℤ s *ℤ pos (0 - l) ≡ x
+    unmoved x s l = let none : 0 - l ≡ 0 = omega arith in rw none (omega (arith, zs, prod s (pos 0), sum x (s *ℤ pos 0)))

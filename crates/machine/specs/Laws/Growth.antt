@@ -1,0 +1,65 @@
+-- The update count of one instant: how many its engine moves, which is how many have l = c after it, by the plain machine's due ticks.
+-- Assumes nothing.
+use mathlib.Core.Path.{_≡_, refl, sym, ap, _∙_}
+use mathlib.Core.Bool.{Bool, true, false, cond, _||_}
+use Prim.Native.Nat.{ℕ, _+_, _≤_, _<_}
+use native.Mathlib.Omega.{arith}
+use lib.Dec.{eqb}
+use borrow.Author.Tests.{eq-eqb, ne-eqb}
+use Rattle.bitset.specs.Mask.{countOf}
+use Rattle.bitset.specs.Counts.{countOf-ext, countOf-all, countOf-le}
+use Rattle.plan.specs.Lists.{nat}
+use Rattle.plan.specs.declared.Plan.{Plan}
+use Rattle.machine.specs.Instant.{moves, takenAt, tickOf, instant}
+use Rattle.machine.specs.Plain.{Plain, plainTick, lazyCount}
+use Rattle.machine.specs.Updates.{growth, movedNow}
+use Rattle.machine.specs.Sound.{SoundRunning}
+use Rattle.machine.specs.Laws.Moved.{l-at}
+use Rattle.machine.specs.Laws.Soundness.{covers, tick-after, tick-least}
+use Rattle.machine.specs.Laws.Agreement.{Agrees, same-tick}
+use Rattle.machine.specs.declared.Running.{Running}
+use Rattle.machine.specs.declared.Engine.{Engine}
+use Rattle.machine.specs.declared.Engine.the-variants.{Lazy, Eager}
+
+-- no engine moves fewer than the lazy one, and none more than the eager one
+pub growth-least : (p : Plan) (engine : Engine) (m : Plain) → growth p Lazy m ≤ growth p engine m
+unfolding growth lazyCount
+growth-least p Lazy m = omega arith
+growth-least p Eager m = countOf-le _ (p .n)
+
+pub growth-most : (p : Plan) (engine : Engine) (m : Plain) → growth p engine m ≤ growth p Eager m
+unfolding growth
+growth-most p Lazy m = growth-least p Eager m
+growth-most p Eager m = omega arith
+
+module _ (p : Plan) (r : Running) (ok : SoundRunning p r) (m : Plain) (a : Agrees p r m) (engine : Engine) where
+  -- how many the engine moves
+  moved-count : countOf (moves p engine (r .d) (tickOf p r)) (p .n) ≡ growth p engine m
+  unfolding growth lazyCount moves
+  moved-count = rw (same-tick p r ok m a, a .d) (go engine)
+    where
+      go : (e : Engine) → countOf (moves p e (m .d) (plainTick p m)) (p .n) ≡ growth p e m
+      go Lazy = refl
+      go Eager = countOf-all (p .n)
+
+  pub instant-updates : instant p engine r .updates ≡ r .updates + growth p engine m
+  unfolding instant takenAt
+  instant-updates = rw moved-count
+
+  -- "either way this is the number of integrators with l = c after it"
+  pub instant-moved : movedNow p (instant p engine r) ≡ growth p engine m
+  unfolding movedNow instant takenAt
+  instant-moved = countOf-ext _ _ (p .n) marked ∙ moved-count
+    where
+      t : ℕ
+      t = tickOf p r
+
+      who : ℕ → Bool
+      who = moves p engine (r .d) t
+
+      marked : (i : ℕ) → i < p .n → eqb (nat (takenAt p r t who .l) i) t ≡ who i
+      marked i h = rw (l-at p r ok t (omega (arith, tick-after p r ok)) (tick-least p r ok) who (covers p engine (r .d) t) i h) (go (who i))
+        where
+          go : (b : Bool) → eqb (cond b t (nat (r .l) i)) t ≡ b
+          go true = eq-eqb t t refl
+          go false = ne-eqb (nat (r .l) i) t (λ e. omega (arith, tick-after p r ok, ok .integrators i h .moved))

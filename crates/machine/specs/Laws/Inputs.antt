@@ -1,0 +1,73 @@
+-- The inputs after the commands of a tick, and the value that an event of the tick tells. Assumes nothing.
+use mathlib.Core.Path.{_≡_, refl, sym, ap, _∙_}
+use mathlib.Core.Bool.{Bool, true, false, cond, false≢true}
+use mathlib.Core.List.{List}
+use Prim.Native.Nat.{ℕ, zero, suc, _+_, _-_, _≤_, _<_}
+use native.Mathlib.Omega.{arith}
+use lib.IntN.{ℤ, pos}
+use borrow.Author.Tests.{lt-ltb, le-ltb}
+use Rattle.integers.specs.Parts.{∣_∣}
+use Rattle.plan.specs.Format.{M}
+use Rattle.plan.specs.Lists.{nat, int}
+use Rattle.plan.specs.Rules.{PlanRules}
+use Rattle.plan.specs.Laws.Rows.{row-at}
+use Rattle.plan.specs.Laws.Counts.{counts-of}
+use Rattle.plan.specs.Laws.Means.{Means, within-size}
+use Rattle.plan.specs.declared.Plan.{Plan}
+use Rattle.machine.specs.Values.{valueWith}
+use Rattle.machine.specs.Reach.{setsInput}
+use Rattle.machine.specs.Instant.{settingOf, settings}
+use Rattle.machine.specs.Laws.Ascending.{entry-unique}
+use Rattle.machine.specs.Laws.Reach.{sets-means}
+
+module _ (p : Plan) (rules : PlanRules p) (u : List ℤ) (t : ℕ) where
+  setting-at : (j : ℕ) → j < p .m → int (settings p u t) j ≡ settingOf p u t j (p .commands)
+  unfolding settings
+  setting-at j h = row-at (pos 0) 8 (p .m) _ j (counts-of p (rules .counts) .m) h
+
+  -- no other command of the tick sets the input
+  sets-once : (j e : ℕ) → e < p .commands → nat (p .ticks) e ≡ t → nat (p .numbers) e ≡ j → (k : ℕ) → k < p .commands
+      → Means (setsInput p t j k) (k ≡ e)
+  sets-once j e h tick number k l = (
+    λ s. let m = sets-means p t j k .0 s in
+        entry-unique (p .ticks) (p .numbers) (p .commands) (λ c q. rules .commands c q .order) k e l h (m .0 ∙ sym tick) (m .1 ∙ sym number),
+    λ q. sets-means p t j k .1 (ap (nat (p .ticks)) q ∙ tick, ap (nat (p .numbers)) q ∙ number),
+  )
+
+  pub setting-of : (j e : ℕ) → j < p .m → e < p .commands → nat (p .ticks) e ≡ t → nat (p .numbers) e ≡ j
+      → int (settings p u t) j ≡ int (p .values) e
+  unfolding settingOf
+  setting-of j e input h tick number = setting-at j input ∙ up-to (p .commands) (omega arith) h
+    where
+      up-to : (k : ℕ) → k ≤ p .commands → e < k → settingOf p u t j k ≡ int (p .values) e
+      up-to zero l b = absurd (omega arith)
+      up-to (suc k) l b = go (setsInput p t j k) (sets-once j e h tick number k l) (up-to k (omega arith))
+        where
+          go : (s : Bool) → Means s (k ≡ e) → (e < k → settingOf p u t j k ≡ int (p .values) e)
+              → cond s (int (p .values) k) (settingOf p u t j k) ≡ int (p .values) e
+          go true m ih = ap (int (p .values)) (m .0 refl)
+          go false m ih = let other : k ≡ e → ⊥ = λ q. false≢true (m .1 q) in ih (omega arith)
+
+  pub settings-size : ((j : ℕ) → j < p .m → ∣ int u j ∣ ≤ M) → (j : ℕ) → j < p .m → ∣ int (settings p u t) j ∣ ≤ M
+  unfolding settingOf
+  settings-size sized j h = rw (setting-at j h) (up-to (p .commands) (omega arith))
+    where
+      up-to : (k : ℕ) → k ≤ p .commands → ∣ settingOf p u t j k ∣ ≤ M
+      up-to zero l = sized j h
+      up-to (suc k) l = go (setsInput p t j k) (up-to k (omega arith))
+        where
+          go : (s : Bool) → ∣ settingOf p u t j k ∣ ≤ M → ∣ cond s (int (p .values) k) (settingOf p u t j k) ∣ ≤ M
+          go true ih = within-size M (int (p .values) k) .0 (rules .commands k l .value)
+          go false ih = ih
+
+-- ---- the values of integrators and inputs
+module _ (p : Plan) (q u : List ℤ) where
+  pub output-value : (i : ℕ) → i < p .n → valueWith p q u zero i ≡ int q i
+  unfolding valueWith
+  output-value i h = rw (lt-ltb i (p .n) h)
+
+  pub input-value : (j : ℕ) → j < p .m → valueWith p q u zero (p .n + j) ≡ int u j
+  unfolding valueWith
+  input-value j h =
+      let same : p .n + j - p .n ≡ j = omega arith in
+      rw (le-ltb (p .n + j) (p .n) (omega arith), lt-ltb (p .n + j) (p .n + p .m) (omega arith), same)

@@ -1,0 +1,118 @@
+-- Runs of the plain machine: it takes its budget or fewer instants, all of it where it is still paused, and a run goes on where one ended.
+-- Assumes nothing.
+use mathlib.Core.Path.{_≡_, refl, sym, ap, _∙_}
+use mathlib.Core.Bool.{Bool, true, false, cond, true≢false, false≢true}
+use Prim.Native.Nat.{ℕ, zero, suc, _+_, _-_, _≤_, _<_}
+use native.Mathlib.Omega.{arith}
+use native.Mathlib.Nat.{zero-add, suc-add}
+use lib.Dec.{eqb}
+use borrow.Author.Tests.{eqb-true, eq-eqb}
+use Rattle.plan.specs.declared.Plan.{Plan}
+use Rattle.machine.specs.Plain.{Plain, settled, plainStart, plainInstant, plainStatus, plainFrom, plainAfter}
+
+module _ (p : Plan) where
+  instant-counts : (m : Plain) → plainInstant p m .instants ≡ m .instants + 1
+  unfolding plainInstant settled
+  instant-counts m = refl
+
+  pub plain-stopped : (b : ℕ) (m : Plain) → eqb (plainStatus p m) 0 ≡ false → plainFrom p b m ≡ m
+  unfolding plainFrom
+  plain-stopped zero m e = refl
+  plain-stopped (suc b) m e = rw e
+
+  -- a run goes on where one ended
+  pub plain-append : (a b : ℕ) (m : Plain) → plainFrom p (a + b) m ≡ plainFrom p b (plainFrom p a m)
+  unfolding plainFrom
+  plain-append zero b m = rw (zero-add b)
+  plain-append (suc a) b m = rw (suc-add a b) (go (eqb (plainStatus p m) 0) refl (plain-append a b (plainInstant p m)))
+    where
+      go : (c : Bool) → eqb (plainStatus p m) 0 ≡ c → plainFrom p (a + b) (plainInstant p m) ≡ plainFrom p b (plainFrom p a (plainInstant p m))
+          → cond c (plainFrom p (a + b) (plainInstant p m)) m ≡ plainFrom p b (cond c (plainFrom p a (plainInstant p m)) m)
+      go true e ih = ih
+      go false e ih = sym (plain-stopped b m e)
+
+  pub plain-most : (b : ℕ) (m : Plain) → plainFrom p b m .instants ≤ m .instants + b
+  unfolding plainFrom
+  plain-most zero m = omega arith
+  plain-most (suc b) m = go (eqb (plainStatus p m) 0) (plain-most b (plainInstant p m))
+    where
+      go : (c : Bool) → plainFrom p b (plainInstant p m) .instants ≤ plainInstant p m .instants + b
+          → cond c (plainFrom p b (plainInstant p m)) m .instants ≤ m .instants + suc b
+      go true ih = omega (arith, instant-counts m)
+      go false ih = omega arith
+
+  pub plain-least : (b : ℕ) (m : Plain) → m .instants ≤ plainFrom p b m .instants
+  unfolding plainFrom
+  plain-least zero m = omega arith
+  plain-least (suc b) m = go (eqb (plainStatus p m) 0) (plain-least b (plainInstant p m))
+    where
+      go : (c : Bool) → plainInstant p m .instants ≤ plainFrom p b (plainInstant p m) .instants
+          → m .instants ≤ cond c (plainFrom p b (plainInstant p m)) m .instants
+      go true ih = omega (arith, instant-counts m)
+      go false ih = omega arith
+
+  -- where it is still paused it took all of its budget
+  pub plain-all : (b : ℕ) (m : Plain) → plainStatus p (plainFrom p b m) ≡ 0 → plainFrom p b m .instants ≡ m .instants + b
+  unfolding plainFrom
+  plain-all zero m e = omega arith
+  plain-all (suc b) m e = go (eqb (plainStatus p m) 0) refl (plain-all b (plainInstant p m)) e
+    where
+      go : (c : Bool) → eqb (plainStatus p m) 0 ≡ c
+          → (plainStatus p (plainFrom p b (plainInstant p m)) ≡ 0 → plainFrom p b (plainInstant p m) .instants ≡ plainInstant p m .instants + b)
+          → plainStatus p (cond c (plainFrom p b (plainInstant p m)) m) ≡ 0 → cond c (plainFrom p b (plainInstant p m)) m .instants ≡ m .instants + suc b
+      go true f ih e = omega (arith, ih e, instant-counts m)
+      go false f ih e = absurd (false≢true (sym f ∙ eq-eqb (plainStatus p m) 0 e))
+
+  -- ---- from Start
+  start-counts : plainStart p .instants ≡ 0
+  unfolding plainStart settled
+  start-counts = refl
+
+  -- "it takes B instants, or fewer if its status is first 1 or 2"
+  pub takes-most : (b : ℕ) → plainAfter p b .instants ≤ b
+  unfolding plainAfter
+  takes-most b = omega (arith, plain-most b (plainStart p), start-counts)
+
+  pub takes-all : (b : ℕ) → plainStatus p (plainAfter p b) ≡ 0 → plainAfter p b .instants ≡ b
+  unfolding plainAfter
+  takes-all b e = omega (arith, plain-all b (plainStart p) e, start-counts)
+
+  after-more : (a b : ℕ) → plainAfter p (a + b) ≡ plainFrom p b (plainAfter p a)
+  unfolding plainAfter
+  after-more a b = plain-append a b (plainStart p)
+
+  -- before each instant that is taken it is paused
+  pub paused-before : (i b : ℕ) → i < plainAfter p b .instants → plainStatus p (plainAfter p i) ≡ 0
+  paused-before i b h = go (eqb (plainStatus p (plainAfter p i)) 0) refl
+    where
+      split : b ≡ i + (b - i)
+      split = omega (arith, takes-most b)
+
+      go : (c : Bool) → eqb (plainStatus p (plainAfter p i)) 0 ≡ c → plainStatus p (plainAfter p i) ≡ 0
+      go true e = eqb-true (plainStatus p (plainAfter p i)) 0 e
+      go false e =
+          let same : plainAfter p b ≡ plainAfter p i = ap (plainAfter p) split ∙ after-more i (b - i) ∙ plain-stopped (b - i) (plainAfter p i) e in
+          absurd (omega (arith, takes-most i, ap (λ m. m .instants) same))
+
+  -- and the instant leads to the next
+  pub after-next : (i : ℕ) → plainStatus p (plainAfter p i) ≡ 0 → plainAfter p (i + 1) ≡ plainInstant p (plainAfter p i)
+  unfolding plainFrom
+  after-next i e = after-more i 1 ∙ rw e
+
+  -- where fewer instants than the budget were taken, it is not paused behind them
+  pub stopped-behind : (b : ℕ) → plainAfter p b .instants < b → eqb (plainStatus p (plainAfter p (plainAfter p b .instants))) 0 ≡ false
+  stopped-behind b h = go (eqb (plainStatus p (plainAfter p k)) 0) refl
+    where
+      k : ℕ
+      k = plainAfter p b .instants
+
+      split : b ≡ (k + 1) + (b - (k + 1))
+      split = omega arith
+
+      go : (c : Bool) → eqb (plainStatus p (plainAfter p k)) 0 ≡ c → c ≡ false
+      go true e =
+          let z = eqb-true (plainStatus p (plainAfter p k)) 0 e in
+          let one-more = ap (λ m. m .instants) (after-next k z) ∙ instant-counts (plainAfter p k) in
+          let whole = ap (λ m. m .instants) (ap (plainAfter p) split ∙ after-more (k + 1) (b - (k + 1))) in
+          absurd (omega (arith, takes-all k z, plain-least (b - (k + 1)) (plainAfter p (k + 1))))
+      go false e = refl

@@ -1,0 +1,103 @@
+-- Where an integrator of a sound state can be: strictly between its levels before its due tick, and how far it can be up to that tick.
+-- Assumes nothing.
+use mathlib.Core.Path.{_≡_, _∙_}
+use mathlib.Core.Logic.{_⊎_, inl, inr}
+use Prim.Native.Nat.{ℕ, _+_, _-_, _*_, _^_, _≤_, _<_}
+use native.Mathlib.Omega.{arith}
+use native.Mathlib.Nat.{mul-le-mul-left, zero-mul}
+use lib.IntN.{ℤ, pos, _*ℤ_}
+use lib.Signed.{_<ℤ_}
+use Rattle.integers.specs.Parts.{up, ∣_∣, sum, prod, tight, zs}
+use Rattle.plan.specs.Format.{M}
+use Rattle.plan.specs.Lists.{nat, int}
+use Rattle.plan.specs.Rules.{IntegratorRule}
+use Rattle.plan.specs.Laws.Means.{within-size}
+use Rattle.plan.specs.declared.Plan.{Plan}
+use Rattle.machine.specs.Due.{never, upperLevel, lowerLevel, distance, ticksTo, dueTick, dueOf}
+use Rattle.machine.specs.Instant.{positionAt}
+use Rattle.machine.specs.Runs.{positionOf}
+use Rattle.machine.specs.Sound.{SoundRunning}
+use Rattle.machine.specs.Laws.Between.{Between, near-between}
+use Rattle.machine.specs.Laws.Due.{due-still, due-moving, slope-cases, distance-positive, ticks-rounded, later-above, later-below}
+use Rattle.machine.specs.Laws.Sizes.{rate-size}
+use Rattle.machine.specs.Laws.Levels.{inside-size, distance-most, ticks-most}
+use Rattle.machine.specs.declared.Running.{Running}
+
+-- up to the due tick, the move is less than one tick's move longer than the distance
+move-most : (l t : ℕ) (x upper lower s : ℤ) → lower <ℤ x → x <ℤ upper → l ≤ t → t ≤ dueTick l x upper lower s
+    → ∣ s ∣ * (t - l) < up (distance x upper lower s) + ∣ s ∣
+move-most l t x upper lower s above below since early =
+    slope-cases s (∣ s ∣ * (t - l) < up (distance x upper lower s) + ∣ s ∣)
+    (λ e. rw e (omega (arith, zs, zero-mul (t - l), distance-positive x upper lower (pos 0) above below)))
+    (λ m.
+    let e = rw (due-moving l x upper lower s m) at early in let c = ticks-rounded x upper lower s above below m in
+    let k : t - l ≤ ticksTo x upper lower s = omega arith in omega (arith, mul-le-mul-left ∣ s ∣ k))
+
+module _ (p : Plan) (r : Running) (sound : SoundRunning p r) (i : ℕ) (used : i < p .n) where
+  pub inside : Between p (r .q) i (int (r .x) i)
+  inside = near-between p (r .q) i (int (r .x) i) .0 (sound .integrators i used .near)
+
+  pub due-is : nat (r .d) i ≡ dueTick (nat (r .l) i) (int (r .x) i) (upperLevel p (r .q) i) (lowerLevel p (r .q) i) (int (r .s) i)
+  unfolding dueOf
+  due-is = sound .integrators i used .due
+
+  rule : IntegratorRule p i
+  rule = sound .plan .integrators i used
+
+  output : ∣ int (r .q) i ∣ ≤ M
+  output = sound .integrators i used .output
+
+  pub moved-before : (t : ℕ) → r .clock ≤ t → nat (r .l) i ≤ t
+  moved-before t since = omega (arith, sound .integrators i used .moved)
+
+  pub slope-size : ∣ int (r .s) i ∣ ≤ 56 * 2 ^ 38
+  slope-size =
+      rw (sound .integrators i used .rate)
+      (rate-size p (r .q) (r .inputs) (sound .plan)
+      (λ j h. sound .integrators j h .output)
+      (λ j h. within-size M (int (r .inputs) j) .0 (sound .inputs j h))
+      i)
+
+  -- before its due tick it stays strictly between its levels
+  pub stays-inside : (t : ℕ) → r .clock ≤ t → t < nat (r .d) i → Between p (r .q) i (positionAt r t i)
+  unfolding positionAt
+  stays-inside t since early =
+      let before = rw due-is at early in
+      record {
+        above = later-above _ t _ _ _ _ (inside .above) (inside .below) (moved-before t since) before;
+        below = later-below _ t _ _ _ _ (inside .above) (inside .below) (moved-before t since) before;
+      }
+
+  pub position-size : ∣ positionOf r i ∣ < 2 ^ 31
+  unfolding positionOf
+  position-size =
+      inside-size p (r .q) i rule output (positionAt r (r .clock) i)
+      (stays-inside (r .clock) (omega arith) (sound .integrators i used .ahead))
+
+  pub due-most : (nat (r .d) i ≡ never) ⊎ (nat (r .d) i ≤ 2000000000 + (2 ^ 31 - 1))
+  due-most =
+      slope-cases (int (r .s) i) ((nat (r .d) i ≡ never) ⊎ (nat (r .d) i ≤ 2000000000 + (2 ^ 31 - 1)))
+      (λ e. inl (due-is ∙ due-still _ _ _ _ _ e))
+      (λ m. inr (most (due-is ∙ due-moving _ _ _ _ _ m) (ticks-most p (r .q) i rule output (int (r .x) i) inside (int (r .s) i))))
+    where
+      most : {T : ℕ} → nat (r .d) i ≡ nat (r .l) i + T → T < 2 ^ 31 → nat (r .d) i ≤ 2000000000 + (2 ^ 31 - 1)
+      most e h = omega (arith, sound .integrators i used .moved, sound .clock, sound .plan .horizon)
+
+  -- up to the due tick: the distance is below 2^31, and the last tick's move goes past the level by less than the slope's size
+  move-size : (t : ℕ) → r .clock ≤ t → t ≤ nat (r .d) i → ∣ int (r .s) i *ℤ pos (t - nat (r .l) i) ∣ < 2 ^ 31 + 56 * 2 ^ 38
+  move-size t since early =
+      let x = int (r .x) i in let s = int (r .s) i in let d = distance x (upperLevel p (r .q) i) (lowerLevel p (r .q) i) s in
+      let e = rw due-is at early in
+      let move = move-most _ t _ _ _ _ (inside .above) (inside .below) (moved-before t since) e in
+      omega (arith, zs, prod s (pos (t - nat (r .l) i)), slope-size, distance-most p (r .q) i rule output x inside s, tight d)
+
+  pub elapsed-size : (t : ℕ) → r .clock ≤ t → t ≤ nat (r .d) i → ∣ int (r .s) i *ℤ pos (t - nat (r .l) i) ∣ < 2 ^ 32 + 2 ^ 44
+  elapsed-size t since early = omega (arith, move-size t since early)
+
+  -- the value that it takes there
+  pub value-at-due : ∣ positionAt r (nat (r .d) i) i ∣ < 2 ^ 32 + 2 ^ 44
+  unfolding positionAt
+  value-at-due =
+      let x = int (r .x) i in let d = nat (r .d) i in
+      let move = move-size d (omega (arith, sound .integrators i used .ahead)) (omega arith) in
+      omega (arith, sum x (int (r .s) i *ℤ pos (d - nat (r .l) i)), inside-size p (r .q) i rule output x inside)

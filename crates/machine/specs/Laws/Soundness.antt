@@ -1,0 +1,151 @@
+-- An instant leaves a sound state, whoever moves besides those due or reached. Assumes nothing.
+use mathlib.Core.Path.{_≡_, refl, sym, ap, _∙_}
+use mathlib.Core.Bool.{Bool, true, false, cond, true≢false, _||_}
+use mathlib.Core.List.{List}
+use Prim.Native.Nat.{ℕ, zero, suc, _+_, _-_, _*_, _≤_, _<_}
+use native.Mathlib.Omega.{arith}
+use lib.IntN.{ℤ, pos, _-ℤ_}
+use lib.Signed.{_<ℤ_}
+use lib.Dec.{eqb}
+use borrow.Author.Tests.{eqb-true}
+use Rattle.integers.specs.Parts.{∣_∣, dif, tight, zs}
+use Rattle.bitset.specs.Mask.{countOf}
+use Rattle.bitset.specs.Counts.{countOf-le}
+use Rattle.plan.specs.Format.{M}
+use Rattle.plan.specs.Lists.{nat, int, row}
+use Rattle.plan.specs.Rules.{Within}
+use Rattle.plan.specs.Laws.Rows.{row-unused}
+use Rattle.plan.specs.Laws.Means.{within-size}
+use Rattle.plan.specs.declared.Plan.{Plan}
+use Rattle.machine.specs.Values.{rateOf}
+use Rattle.machine.specs.Due.{never, dueOf}
+use Rattle.machine.specs.Reach.{isDue, reached}
+use Rattle.machine.specs.Instant.{positionAt, settings, moves, outputs, slopeThen, dueThen, takenAt, tickOf, instant}
+use Rattle.machine.specs.Status.{isPaused}
+use Rattle.machine.specs.Sound.{SoundIntegrator, SoundRunning}
+use Rattle.machine.specs.Laws.Between.{Between, near-between}
+use Rattle.machine.specs.Laws.Due.{due-ahead}
+use Rattle.machine.specs.Laws.Next.{next-due, next-after}
+use Rattle.machine.specs.Laws.Status.{tick-horizon, position-size}
+use Rattle.machine.specs.Laws.Inputs.{settings-size}
+use Rattle.machine.specs.Laws.Moved.{outputs-at, between-then, not-due, slope-at, due-at, x-at, l-at, due-by-rule}
+use Rattle.machine.specs.declared.Running.{Running}
+use Rattle.machine.specs.declared.Engine.{Engine}
+use Rattle.machine.specs.declared.Engine.the-variants.{Lazy, Eager}
+
+-- ---- the engines
+-- what an engine leaves alone is neither due nor reached
+pub covers : (p : Plan) (engine : Engine) (d : List ℕ) (t i : ℕ) → i < p .n → moves p engine d t i ≡ false → (isDue d t i || reached p d t i) ≡ false
+unfolding moves
+covers p Lazy d t i h e = e
+covers p Eager d t i h e = absurd (true≢false e)
+
+-- at a tick past the clock and up to the horizon, up to which nothing is due, and at which the due ones' values are within ±M
+pub record Takes (p : Plan) (r : Running) (t : ℕ) : Type 0 where
+  pub after : r .clock < t
+  pub until : t ≤ p .horizon
+  pub least : (i : ℕ) → i < p .n → t ≤ nat (r .d) i
+  pub within : (i : ℕ) → i < p .n → isDue (r .d) t i ≡ true → ∣ positionAt r t i ∣ ≤ M
+
+module _ (p : Plan) (r : Running) (ok : SoundRunning p r) (t : ℕ) (takes : Takes p r t)
+    (moves : ℕ → Bool) (covers : (i : ℕ) → i < p .n → moves i ≡ false → (isDue (r .d) t i || reached p (r .d) t i) ≡ false) where
+  from : r .clock ≤ t
+  from = omega (arith, takes .after)
+
+  output-size : (i : ℕ) → i < p .n → ∣ int (outputs p r t) i ∣ ≤ M
+  output-size i h = rw (outputs-at p r ok t from (takes .least) i h) (go (isDue (r .d) t i) refl)
+    where
+      go : (b : Bool) → isDue (r .d) t i ≡ b → ∣ cond b (positionAt r t i) (int (r .q) i) ∣ ≤ M
+      go true e = takes .within i h e
+      go false e = ok .integrators i h .output
+
+  -- a due integrator moves to its output; the others stay between their levels
+  near-then : (i : ℕ) → i < p .n → pos ∣ int (takenAt p r t moves .x) i -ℤ int (outputs p r t) i ∣ <ℤ int (p .quanta) i
+  near-then i h =
+      rw (x-at p r ok t from (takes .least) moves covers i h, outputs-at p r ok t from (takes .least) i h) (go (moves i) (isDue (r .d) t i) refl refl)
+    where
+      old : pos ∣ int (r .x) i -ℤ int (r .q) i ∣ <ℤ int (p .quanta) i
+      old = ok .integrators i h .near
+
+      go : (b c : Bool) → moves i ≡ b → isDue (r .d) t i ≡ c
+          → pos ∣ cond b (positionAt r t i) (int (r .x) i) -ℤ cond c (positionAt r t i) (int (r .q) i) ∣ <ℤ int (p .quanta) i
+      go true true e f = let y = positionAt r t i in omega (arith, zs, old, dif y y, tight (y -ℤ y))
+      go true false e f = near-between p (r .q) i (positionAt r t i) .1 (between-then p r ok t from (takes .least) i h f)
+      go false true e f = absurd (true≢false (sym f ∙ not-due p r ok t from (takes .least) moves covers i h e))
+      go false false e f = old
+
+  moved-then : (i : ℕ) → i < p .n → cond (moves i) t (nat (r .l) i) ≤ t
+  moved-then i h = go (moves i)
+    where
+      go : (b : Bool) → cond b t (nat (r .l) i) ≤ t
+      go true = omega arith
+      go false = omega (arith, takes .after, ok .integrators i h .moved)
+
+  integrator-then : (i : ℕ) → i < p .n → SoundIntegrator p (takenAt p r t moves) i
+  unfolding takenAt slopeThen dueThen dueOf
+  integrator-then i h =
+      let soon : t < never = omega (arith, takes .until, ok .plan .horizon .1) in
+      record {
+        moved = rw (l-at p r ok t from (takes .least) moves covers i h) (moved-then i h);
+        ahead = rw (due-at p r ok t from (takes .least) moves covers i h) (due-ahead t _ _ _ _ soon);
+        output = output-size i h;
+        near = near-then i h;
+        rate = slope-at p r ok t from (takes .least) moves covers i h;
+        due =
+            rw (
+              due-at p r ok t from (takes .least) moves covers i h,
+              x-at p r ok t from (takes .least) moves covers i h,
+              l-at p r ok t from (takes .least) moves covers i h,
+              slope-at p r ok t from (takes .least) moves covers i h,
+            )
+            (due-by-rule p r ok t from (takes .least) moves covers i h);
+      }
+
+  pub sound-then : SoundRunning p (takenAt p r t moves)
+  unfolding takenAt outputs settings
+  sound-then =
+      record {
+        plan = ok .plan;
+        clock = takes .until;
+        integrators = integrator-then;
+        inputs = λ j h. within-size M _ .1 (settings-size p (ok .plan) (r .inputs) t (λ k l. within-size M _ .0 (ok .inputs k l)) j h);
+        next = refl;
+        instants = omega (arith, ok .instants, takes .after);
+        updates = omega (arith, ok .updates, countOf-le moves (p .n));
+        plan-unused = ok .plan-unused;
+        running-unused =
+            record {
+              x = λ i h. row-unused (pos 0) 32 (p .n) _ i h;
+              q = λ i h. row-unused (pos 0) 32 (p .n) _ i h;
+              s = λ i h. row-unused (pos 0) 32 (p .n) _ i h;
+              l = λ i h. row-unused 0 32 (p .n) _ i h;
+              d = λ i h. row-unused 0 32 (p .n) _ i h;
+              inputs = λ j h. row-unused (pos 0) 8 (p .m) _ j h;
+            };
+      }
+
+-- ---- the next instant of a sound state lies past the clock
+module _ (p : Plan) (r : Running) (ok : SoundRunning p r) where
+  pub clock-soon : r .clock < never
+  clock-soon = omega (arith, ok .clock, ok .plan .horizon .1)
+
+  pub tick-after : r .clock < tickOf p r
+  unfolding tickOf
+  tick-after = rw (ok .next) (next-after p (r .d) (r .clock) clock-soon (λ i h. ok .integrators i h .ahead))
+
+  pub tick-least : (i : ℕ) → i < p .n → tickOf p r ≤ nat (r .d) i
+  unfolding tickOf
+  tick-least i h = next-due p (r .d) (r .next) i h
+
+  pub instant-sound : isPaused p r ≡ true → (engine : Engine) → SoundRunning p (instant p engine r)
+  unfolding instant isDue
+  instant-sound paused engine =
+      let t = tickOf p r in
+      let takes : Takes p r t =
+      record {
+        after = tick-after;
+        until = tick-horizon p r paused;
+        least = tick-least;
+        within = λ i h e. position-size p r paused i h (eqb-true (nat (r .d) i) t e);
+      } in
+      sound-then p r ok t takes (moves p engine (r .d) t) (covers p engine (r .d) t)
