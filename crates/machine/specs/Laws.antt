@@ -16,3 +16,4 @@ pub mod Soundness
 pub mod Agreement
 pub mod Growth
 pub mod PlainRuns
+pub mod Runs

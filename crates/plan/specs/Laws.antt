@@ -6,5 +6,11 @@ pub mod Means
 pub mod Kept
 pub mod KeptFile
 pub mod Entries
+pub mod Findings
+pub mod Refused
+pub mod Answers
 pub mod Joined
 pub mod Layout
+pub mod Small
+pub mod HeaderBack
+pub mod ReadBack

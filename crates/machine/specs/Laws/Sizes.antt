@@ -7,8 +7,8 @@ use Prim.Native.Nat.{ℕ, zero, suc, _+_, _-_, _*_, _^_, _≤_, _<_}
 use native.Mathlib.Omega.{arith}
 use lib.IntN.{ℤ, pos, negℤ, _+ℤ_, _-ℤ_, _*ℤ_}
 use lib.Signed.{leZ}
-use lib.Dec.{leb, ltb, eqb}
-use borrow.Author.Tests.{leb-true, leb-false, ltb-true, ltb-false, eqb-true, eqb-false}
+use lib.Dec.{ltb, eqb}
+use borrow.Author.Tests.{ltb-true, ltb-false, eqb-true, eqb-false}
 use Rattle.integers.specs.Parts.{∣_∣, sum}
 use Rattle.integers.specs.Order.{size-sub, size-mul}
 use Rattle.integers.specs.Division.{floored, floor-size}
@@ -19,6 +19,7 @@ use Rattle.plan.specs.Lists.{nat, int}
 use Rattle.plan.specs.Rules.{NodeRule, PlanRules}
 use Rattle.plan.specs.Laws.Counts.{Counts, counts-of}
 use Rattle.plan.specs.Laws.Means.{within-size}
+use Rattle.plan.specs.Laws.Small.{node-limits}
 use Rattle.plan.specs.declared.Plan.{Plan}
 use Rattle.machine.specs.Values.{clipped, nodeOf, valueWith, valueOf, sumOver, rateOf}
 use Rattle.machine.specs.Laws.OwnLinks.{ownLinks, own-before}
@@ -48,13 +49,8 @@ operands-most p rules j h = go (counts-of p (rules .counts)) (rules .nodes j h) 
     go c r false e = omega (arith, r .right (eqb-false (nat (p .kinds) j) 2 e))
 
 limits-size : (p : Plan) (j : ℕ) → NodeRule p j → (∣ int (p .lows) j ∣ ≤ M) × (∣ int (p .highs) j ∣ ≤ M)
-limits-size p j r = go (leb (nat (p .kinds) j) 1) refl
-  where
-    go : (b : Bool) → leb (nat (p .kinds) j) 1 ≡ b → (∣ int (p .lows) j ∣ ≤ M) × (∣ int (p .highs) j ∣ ≤ M)
-    go true e = let z = r .plain (leb-true (nat (p .kinds) j) 1 e) in (rw (z .0) (omega arith), rw (z .1) (omega arith))
-    go false e =
-        let w = r .limits (leb-false (nat (p .kinds) j) 1 e) in
-        (within-size M (int (p .lows) j) .0 (w .0), within-size M (int (p .highs) j) .0 (w .1))
+limits-size p j r =
+    let w = node-limits p j r in (within-size M (int (p .lows) j) .0 (w .0), within-size M (int (p .highs) j) .0 (w .1))
 
 module _ (p : Plan) (q u : List ℤ) (rules : PlanRules p) (outputs : (i : ℕ) → i < p .n → ∣ int q i ∣ ≤ M)
     (inputs : (j : ℕ) → j < p .m → ∣ int u j ∣ ≤ M) where

@@ -1,0 +1,106 @@
+-- Runs, instant by instant: a list names the engine of each. Whatever the list, the run leaves a sound state that agrees with the plain
+-- machine run for as many instants, with the same events. Assumes nothing.
+use mathlib.Core.Path.{_≡_, refl, sym, ap, ap₂, _∙_}
+use mathlib.Core.Bool.{Bool, true, false, cond}
+use mathlib.Core.List.{List, [], _∷_, _++_, append-assoc}
+use Prim.Native.Nat.{ℕ, zero, suc}
+use lib.Dec.{eqb}
+use lib.ListN.{length, replicate}
+use Rattle.plan.specs.declared.Plan.{Plan}
+use Rattle.machine.specs.Instant.{instant, eventsOf}
+use Rattle.machine.specs.Status.{statusOf, isPaused}
+use Rattle.machine.specs.Runs.{after, events}
+use Rattle.machine.specs.Plain.{Plain, plainInstant, plainEventsOf, plainStatus, plainFrom, plainEventsFrom}
+use Rattle.machine.specs.Sound.{SoundRunning}
+use Rattle.machine.specs.Laws.Soundness.{instant-sound}
+use Rattle.machine.specs.Laws.Agreement.{Agrees, same-status, same-events, agrees-then}
+use Rattle.machine.specs.declared.Running.{Running}
+use Rattle.machine.specs.declared.Engine.{Engine}
+
+module _ (p : Plan) where
+  unfoldable pub afterBy : List Engine → Running → Running
+  afterBy [] r = r
+  afterBy (engine ∷ engines) r = cond (isPaused p r) (afterBy engines (instant p engine r)) r
+
+  unfoldable pub eventsBy : List Engine → Running → List ℕ
+  eventsBy [] r = []
+  eventsBy (engine ∷ engines) r = cond (isPaused p r) (eventsOf p r ++ eventsBy engines (instant p engine r)) []
+
+  -- a run by one engine
+  pub after-by : (engine : Engine) (b : ℕ) (r : Running) → after p engine b r ≡ afterBy (replicate b engine) r
+  unfolding after afterBy
+  after-by engine zero r = refl
+  after-by engine (suc b) r = rw (after-by engine b (instant p engine r))
+
+  pub events-by : (engine : Engine) (b : ℕ) (r : Running) → events p engine b r ≡ eventsBy (replicate b engine) r
+  unfolding events eventsBy
+  events-by engine zero r = refl
+  events-by engine (suc b) r = rw (events-by engine b (instant p engine r))
+
+  -- ---- a run goes on where one ended
+  pub after-stopped : (engines : List Engine) (r : Running) → isPaused p r ≡ false → afterBy engines r ≡ r
+  unfolding afterBy
+  after-stopped [] r e = refl
+  after-stopped (engine ∷ engines) r e = rw e
+
+  events-stopped : (engines : List Engine) (r : Running) → isPaused p r ≡ false → eventsBy engines r ≡ []
+  unfolding eventsBy
+  events-stopped [] r e = refl
+  events-stopped (engine ∷ engines) r e = rw e
+
+  pub after-append : (first then : List Engine) (r : Running) → afterBy (first ++ then) r ≡ afterBy then (afterBy first r)
+  unfolding afterBy
+  after-append [] then r = refl
+  after-append (engine ∷ first) then r = go (isPaused p r) refl (after-append first then (instant p engine r))
+    where
+      next : Running
+      next = instant p engine r
+
+      go : (b : Bool) → isPaused p r ≡ b → afterBy (first ++ then) next ≡ afterBy then (afterBy first next)
+          → cond b (afterBy (first ++ then) next) r ≡ afterBy then (cond b (afterBy first next) r)
+      go true e ih = ih
+      go false e ih = sym (after-stopped then r e)
+
+  pub events-append : (first then : List Engine) (r : Running) → eventsBy (first ++ then) r ≡ eventsBy first r ++ eventsBy then (afterBy first r)
+  unfolding afterBy eventsBy
+  events-append [] then r = refl
+  events-append (engine ∷ first) then r = go (isPaused p r) refl (events-append first then (instant p engine r))
+    where
+      next : Running
+      next = instant p engine r
+
+      go : (b : Bool) → isPaused p r ≡ b → eventsBy (first ++ then) next ≡ eventsBy first next ++ eventsBy then (afterBy first next)
+          → cond b (eventsOf p r ++ eventsBy (first ++ then) next) []
+          ≡ cond b (eventsOf p r ++ eventsBy first next) [] ++ eventsBy then (cond b (afterBy first next) r)
+      go true e ih = rw ih (sym (append-assoc (eventsOf p r) (eventsBy first next) (eventsBy then (afterBy first next))))
+      go false e ih = sym (events-stopped then r e)
+
+  -- ---- together with the plain machine
+  pub record Together (engines : List Engine) (r : Running) (m : Plain) : Type 0 where
+    pub sound : SoundRunning p (afterBy engines r)
+    pub agrees : Agrees p (afterBy engines r) (plainFrom p (length engines) m)
+    pub bytes : eventsBy engines r ≡ plainEventsFrom p (length engines) m
+
+  pub together : (engines : List Engine) (r : Running) (m : Plain) → SoundRunning p r → Agrees p r m → Together engines r m
+  unfolding afterBy eventsBy plainFrom plainEventsFrom isPaused
+  together [] r m ok a = record { sound = ok; agrees = a; bytes = refl }
+  together (engine ∷ engines) r m ok a =
+      go (isPaused p r) refl
+      (λ e. together engines (instant p engine r) (plainInstant p m) (instant-sound p r ok e engine) (agrees-then p r ok m a engine))
+    where
+      same : eqb (statusOf p r) 0 ≡ eqb (plainStatus p m) 0
+      same = ap (λ s. eqb s 0) (same-status p r ok m a)
+
+      go : (b : Bool) → isPaused p r ≡ b → (isPaused p r ≡ true → Together engines (instant p engine r) (plainInstant p m))
+          → Together (engine ∷ engines) r m
+      go true e ih =
+          let t = ih e in
+          let f : eqb (plainStatus p m) 0 ≡ true = sym same ∙ e in
+          record {
+            sound = rw e (t .sound);
+            agrees = rw (e, f) (t .agrees);
+            bytes = rw (e, f) (ap₂ (λ xs ys. xs ++ ys) (same-events p r ok m a) (t .bytes));
+          }
+      go false e ih =
+          let f : eqb (plainStatus p m) 0 ≡ false = sym same ∙ e in
+          record { sound = rw e ok; agrees = rw (e, f) a; bytes = rw (e, f) }

@@ -1,0 +1,66 @@
+-- The refusals 4 to 9 of a plan: what each stage finds, and that all are clean just where the plan keeps its rules. Assumes nothing.
+use mathlib.Core.Path.{_≡_, refl}
+use mathlib.Core.Bool.{true, _&&_}
+use mathlib.Core.Logic.{_↔_}
+use native.Mathlib.Omega.{arith}
+use Rattle.plan.specs.Tests.{countsKept, horizonKept, integratorKept, inputKept, nodeKept, linkLimits, linkOrdered}
+use Rattle.plan.specs.Tests.{commandLimits, commandOrdered}
+use Rattle.plan.specs.Refusals.{numberOf, entryOf, isClean, horizonFinding, integratorsFinding, inputsFinding, nodesFinding}
+use Rattle.plan.specs.Refusals.{linksFinding, commandsFinding, planFinding}
+use Rattle.plan.specs.Rules.{HorizonRule, IntegratorRule, InputRule, NodeRule, LinkRule, CommandRule, PlanRules}
+use Rattle.plan.specs.declared.Plan.{Plan}
+use Rattle.plan.specs.declared.Finding.the-variants.{Horizon, Integrator, Input, Node, Link, Command}
+use Rattle.plan.specs.Laws.Kept.{horizon-kept, counts-kept, integrator-kept, input-kept, node-kept, link-kept, command-kept}
+use Rattle.plan.specs.Laws.Findings.{Judged, judged-one, judged-all, clean-means, clean-both}
+
+module _ (p : Plan) where
+  pub horizon-judged : Judged (λ _. HorizonRule p) 4 0 1 (horizonFinding p)
+  unfolding horizonFinding numberOf entryOf
+  horizon-judged = judged-one 4 (omega arith) 0 (horizonKept (p .horizon)) Horizon (horizon-kept p) refl refl
+
+  pub integrators-judged : Judged (IntegratorRule p) 5 0 (p .n) (integratorsFinding p)
+  unfolding integratorsFinding numberOf entryOf
+  integrators-judged =
+      judged-all 5 (omega arith) (integratorKept p) Integrator (integrator-kept p) (λ e. refl) (λ e. refl) (p .n)
+
+  pub inputs-judged : Judged (InputRule p) 6 0 (p .m) (inputsFinding p)
+  unfolding inputsFinding numberOf entryOf
+  inputs-judged = judged-all 6 (omega arith) (inputKept p) Input (input-kept p) (λ e. refl) (λ e. refl) (p .m)
+
+  pub nodes-judged : Judged (NodeRule p) 7 0 (p .k) (nodesFinding p)
+  unfolding nodesFinding numberOf entryOf
+  nodes-judged = judged-all 7 (omega arith) (nodeKept p) Node (node-kept p) (λ e. refl) (λ e. refl) (p .k)
+
+  pub links-judged : Judged (LinkRule p) 8 0 (p .links) (linksFinding p)
+  unfolding linksFinding numberOf entryOf
+  links-judged =
+      judged-all 8 (omega arith) (λ e. linkLimits p e && linkOrdered p e) Link (link-kept p) (λ e. refl) (λ e. refl) (p .links)
+
+  pub commands-judged : Judged (CommandRule p) 9 0 (p .commands) (commandsFinding p)
+  unfolding commandsFinding numberOf entryOf
+  commands-judged =
+      judged-all 9 (omega arith) (λ e. commandLimits p e && commandOrdered p e) Command (command-kept p) (λ e. refl) (λ e. refl) (p .commands)
+
+  pub plan-rules : ((countsKept p ≡ true) × (isClean (planFinding p) ≡ true)) ↔ PlanRules p
+  unfolding planFinding
+  plan-rules =
+      let clean = clean-both _ _ (clean-means 4 (omega arith) 1 _ horizon-judged)
+      (clean-both _ _ (clean-means 5 (omega arith) (p .n) _ integrators-judged)
+      (clean-both _ _ (clean-means 6 (omega arith) (p .m) _ inputs-judged)
+      (clean-both _ _ (clean-means 7 (omega arith) (p .k) _ nodes-judged)
+      (clean-both _ _ (clean-means 8 (omega arith) (p .links) _ links-judged)
+      (clean-means 9 (omega arith) (p .commands) _ commands-judged))))) in (
+        λ t. let h = clean .0 (t .1) in record {
+          counts = counts-kept p .0 (t .0);
+          horizon = h .0 0 (omega arith);
+          integrators = h .1 .0;
+          inputs = h .1 .1 .0;
+          nodes = h .1 .1 .1 .0;
+          links = h .1 .1 .1 .1 .0;
+          commands = h .1 .1 .1 .1 .1;
+        },
+        λ r. (
+          counts-kept p .1 (r .counts),
+          clean .1 (λ e h. r .horizon, (r .integrators, (r .inputs, (r .nodes, (r .links, r .commands))))),
+        ),
+      )

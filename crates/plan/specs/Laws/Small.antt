@@ -1,0 +1,119 @@
+-- Every word of the file of a plan that keeps the rules is below 2 ^ 32. Assumes nothing.
+use mathlib.Core.Bool.{Bool, true, false}
+use mathlib.Core.List.{List, [], _∷_, _++_}
+use mathlib.Core.Path.{_≡_, refl}
+use Prim.Native.Nat.{ℕ, zero, suc, _+_, _-_, _*_, _^_, _≤_, _<_}
+use native.Mathlib.Omega.{arith}
+use lib.IntN.{ℤ, pos, negsuc}
+use lib.Signed.{mag, _≤ℤ_}
+use lib.Dec.{leb, eqb}
+use lib.ListN.{getD}
+use borrow.Author.Tests.{leb-true, leb-false, eqb-true, eqb-false}
+use Rattle.integers.specs.Parts.{neg, zs}
+use Rattle.words.specs.Word.{wordOf}
+use Rattle.words.specs.Signs.{unsigned-lt}
+use Rattle.plan.specs.Lists.{nat, int, joined}
+use Rattle.plan.specs.Format.{M, sections}
+use Rattle.plan.specs.Tests.{counts}
+use Rattle.plan.specs.Rules.{Within, NodeRule, PlanRules}
+use Rattle.plan.specs.Encoding.{lengthOf, offsetOf, headerWords, integratorWords, inputWords, nodeWords, linkWords, commandWords}
+use Rattle.plan.specs.Encoding.{fileWords}
+use Rattle.plan.specs.Laws.Layout.{each-section, entryWords, sectionWords, wordsTo, words-to, file-most, offset-most}
+use Rattle.plan.specs.declared.Plan.{Plan}
+
+-- each word of a list fits 32 bits
+abbrev pub Small : List ℕ → Type 0
+Small [] = Unit {0}
+Small (v ∷ ws) = (v < 2 ^ 32) × Small ws
+
+pub small-at : (ws : List ℕ) → Small ws → (c : ℕ) → getD ws c 0 < 2 ^ 32
+small-at [] s c = omega arith
+small-at (v ∷ ws) s zero = s .0
+small-at (v ∷ ws) s (suc c) = small-at ws (s .1) c
+
+small-append : (a b : List ℕ) → Small a → Small b → Small (a ++ b)
+small-append [] b s t = t
+small-append (v ∷ a) b s t = (s .0, small-append a b (s .1) t)
+
+small-joined : (f : ℕ → List ℕ) (n : ℕ) → ((i : ℕ) → i < n → Small (f i)) → Small (joined f n)
+unfolding joined
+small-joined f zero s = tt
+small-joined f (suc n) s = small-append (joined f n) (f n) (small-joined f n (λ i h. s i (omega arith))) (s n (omega arith))
+
+-- ---- the numbers of an entry
+pub signed-size : (z : ℤ) → Within M z → mag z < 2 ^ 31
+signed-size (pos n) h = omega (arith, zs)
+signed-size (negsuc n) h = omega (arith, zs, neg (pos M))
+
+pub coefficient-within : {z : ℤ} → Within 16777216 z → Within M z
+coefficient-within h = omega (arith, zs, neg (pos 16777216), neg (pos M))
+
+pub quantum-within : {z : ℤ} → pos 1 ≤ℤ z → z ≤ℤ pos M → Within M z
+quantum-within h l = omega (arith, zs, neg (pos M))
+
+signed-small : (z : ℤ) → Within M z → wordOf z < 2 ^ 32
+signed-small z h = unsigned-lt 4 (omega arith) z (signed-size z h)
+
+module _ (p : Plan) (j : ℕ) (r : NodeRule p j) where
+  -- what a node of any kind keeps
+  node-right : nat (p .rights) j ≤ p .n + p .m + j
+  node-right = go (eqb (nat (p .kinds) j) 2) refl
+    where
+      go : (b : Bool) → eqb (nat (p .kinds) j) 2 ≡ b → nat (p .rights) j ≤ p .n + p .m + j
+      go true e = omega (arith, r .unused (eqb-true (nat (p .kinds) j) 2 e))
+      go false e = omega (arith, r .right (eqb-false (nat (p .kinds) j) 2 e))
+
+  pub node-limits : Within M (int (p .lows) j) × Within M (int (p .highs) j)
+  node-limits = go (leb (nat (p .kinds) j) 1) refl
+    where
+      go : (b : Bool) → leb (nat (p .kinds) j) 1 ≡ b → Within M (int (p .lows) j) × Within M (int (p .highs) j)
+      go true e = omega (arith, zs, neg (pos M), r .plain (leb-true (nat (p .kinds) j) 1 e))
+      go false e = r .limits (leb-false (nat (p .kinds) j) 1 e)
+
+-- ---- the words of each part
+module _ (p : Plan) (r : PlanRules p) where
+  header-small : Small (headerWords p)
+  unfolding headerWords
+  header-small = (omega (arith, r .horizon), small-joined (λ k. offsetOf p k ∷ lengthOf p k ∷ []) sections pair)
+    where
+      pair : (k : ℕ) → k < sections → Small (offsetOf p k ∷ lengthOf p k ∷ [])
+      pair k h = omega (arith, offset-most p k h, file-most p (r .counts))
+
+  pub entry-small : (k i : ℕ) → k < sections → i < nat (counts p) k → Small (entryWords p k i)
+  unfolding counts entryWords integratorWords inputWords nodeWords linkWords commandWords
+  entry-small k i = each-section (λ k. i < nat (counts p) k → Small (entryWords p k i)) integrator input node link command k
+    where
+      integrator : i < p .n → Small (integratorWords p i)
+      integrator l =
+          let e = r .integrators i l in
+          (signed-small (int (p .starts) i) (e .start), (signed-small (int (p .quanta) i) (quantum-within (e .least) (e .most)), tt))
+
+      input : i < p .m → Small (inputWords p i)
+      input l = (signed-small (int (p .firsts) i) (r .inputs i l), tt)
+
+      node : i < p .k → Small (nodeWords p i)
+      node l =
+          let e = r .nodes i l in
+          let right = node-right p i e in
+          let low = signed-small (int (p .lows) i) (node-limits p i e .0) in
+          let high = signed-small (int (p .highs) i) (node-limits p i e .1) in
+          omega (arith, r .counts 0 (omega arith), r .counts 1 (omega arith), r .counts 2 (omega arith))
+
+      link : i < p .links → Small (linkWords p i)
+      link l =
+          let e = r .links i l in
+          let coefficient = signed-small (int (p .coefficients) i) (coefficient-within (e .coefficient)) in
+          omega (arith, r .counts 0 (omega arith), r .counts 1 (omega arith), r .counts 2 (omega arith))
+
+      command : i < p .commands → Small (commandWords p i)
+      command l =
+          let e = r .commands i l in
+          let value = signed-small (int (p .values) i) (e .value) in
+          omega (arith, r .horizon, r .counts 1 (omega arith))
+
+  pub file-small : Small (fileWords p)
+  unfolding wordsTo sectionWords
+  file-small =
+      rw (words-to p)
+      (small-append (headerWords p) (joined (sectionWords p) sections) header-small
+      (small-joined (sectionWords p) sections (λ k h. small-joined (entryWords p k) (nat (counts p) k) (λ i l. entry-small k i h l))))
