@@ -67,8 +67,9 @@ module _ (p : Plan) (d : List ℕ) (t : ℕ) (q u q₀ u₀ : List ℤ)
   value-kept zero i = source-kept i
   value-kept (suc k) i =
       let a = nat (p .lefts) k in let b = nat (p .rights) k in let ih = value-kept k in
+      let on = dependsWith p d t k in
       choice-kept (eqb i (p .n + p .m + k))
-      (node-kept (nat (p .kinds) k) (int (p .lows) k) (int (p .highs) k) (dependsWith p d t k a) (dependsWith p d t k b) (ih a) (ih b)) (ih i)
+      (node-kept (nat (p .kinds) k) (int (p .lows) k) (int (p .highs) k) (on a) (on b) (ih a) (ih b)) (ih i)
 
   -- over the first e links
   sum-kept : (i e : ℕ) → some (linkReaches p d t i) e ≡ false → sumOver p q u i e ≡ sumOver p q₀ u₀ i e

@@ -20,6 +20,10 @@ use Rattle.machine.specs.Instant.{settingOf, settings}
 use Rattle.machine.specs.Laws.Ascending.{entry-unique}
 use Rattle.machine.specs.Laws.Reach.{sets-means}
 
+pub command-unique : (p : Plan) → PlanRules p → (d e : ℕ) → d < p .commands → e < p .commands → nat (p .ticks) d ≡ nat (p .ticks) e
+    → nat (p .numbers) d ≡ nat (p .numbers) e → d ≡ e
+command-unique p rules = entry-unique (p .ticks) (p .numbers) (p .commands) (λ e h. rules .commands e h .order)
+
 module _ (p : Plan) (rules : PlanRules p) (u : List ℤ) (t : ℕ) where
   setting-at : (j : ℕ) → j < p .m → int (settings p u t) j ≡ settingOf p u t j (p .commands)
   unfolding settings
@@ -29,8 +33,7 @@ module _ (p : Plan) (rules : PlanRules p) (u : List ℤ) (t : ℕ) where
   sets-once : (j e : ℕ) → e < p .commands → nat (p .ticks) e ≡ t → nat (p .numbers) e ≡ j → (k : ℕ) → k < p .commands
       → Means (setsInput p t j k) (k ≡ e)
   sets-once j e h tick number k l = (
-    λ s. let m = sets-means p t j k .0 s in
-        entry-unique (p .ticks) (p .numbers) (p .commands) (λ c q. rules .commands c q .order) k e l h (m .0 ∙ sym tick) (m .1 ∙ sym number),
+    λ s. let m = sets-means p t j k .0 s in command-unique p rules k e l h (m .0 ∙ sym tick) (m .1 ∙ sym number),
     λ q. sets-means p t j k .1 (ap (nat (p .ticks)) q ∙ tick, ap (nat (p .numbers)) q ∙ number),
   )
 

@@ -1,14 +1,14 @@
--- The next instant's tick is the least of all due ticks and the next command's tick, and the next command is the first above the clock. Assumes
--- nothing.
-use mathlib.Core.Path.{_≡_, refl, sym, ap, _∙_}
+-- The next instant's tick is the least of all due ticks and the next command's, and the next command is the first above the clock.
+-- Assumes nothing.
+use mathlib.Core.Path.{_≡_, refl, sym, _∙_}
 use mathlib.Core.Bool.{Bool, true, false, cond}
 use mathlib.Core.Logic.{_⊎_, inl, inr}
 use mathlib.Core.List.{List}
-use Prim.Native.Nat.{ℕ, zero, suc, _+_, _≤_, _<_, min}
-use native.Mathlib.Omega.{arith}
+use Prim.Native.Nat.{ℕ, zero, suc, _≤_, _<_, min}
+use native.Mathlib.Omega.{arith, min-cases}
 use lib.Dec.{ltb}
-use borrow.Author.Tests.{ltb-true, ltb-false, lt-ltb, le-ltb}
-use Rattle.plan.specs.Lists.{nat, firstFrom}
+use borrow.Author.Tests.{ltb-true, ltb-false, lt-ltb}
+use Rattle.plan.specs.Lists.{nat}
 use Rattle.plan.specs.Laws.Searches.{below-suc, First, first}
 use Rattle.plan.specs.declared.Plan.{Plan}
 use Rattle.machine.specs.Due.{never}
@@ -35,16 +35,9 @@ least-above d (suc n) c h f = omega (arith, least-above d n c h (λ i l. f i (om
 least-one : (d : List ℕ) (n : ℕ) → leastDue d n < never → (i : ℕ) × (i < n) × (nat d i ≡ leastDue d n)
 unfolding leastDue
 least-one d zero h = absurd (omega arith)
-least-one d (suc n) h = go (ltb (leastDue d n) (nat d n)) refl (least-one d n)
-  where
-    least : ℕ
-    least = leastDue d n
-
-    go : (b : Bool) → ltb least (nat d n) ≡ b → (least < never → (i : ℕ) × (i < n) × (nat d i ≡ least))
-        → (i : ℕ) × (i < suc n) × (nat d i ≡ min least (nat d n))
-    go true e ih =
-        let l = ltb-true least (nat d n) e in let f = ih (omega arith) in (f .0, omega (arith, f .1), omega (arith, f .2))
-    go false e ih = (n, omega arith, omega (arith, ltb-false least (nat d n) e))
+least-one d (suc n) h =
+    min-cases (leastDue d n) (nat d n) ((i : ℕ) × (i < suc n) × (nat d i ≡ min (leastDue d n) (nat d n)))
+    (λ l e. let f = least-one d n (omega arith) in (f .0, omega (arith, f .1), omega (arith, f .2))) (λ l e. (n, omega arith, omega arith))
 
 -- ---- the next command
 module _ (p : Plan) (c : ℕ) where
@@ -76,7 +69,8 @@ module _ (p : Plan) (d : List ℕ) (next : ℕ) where
   next-command h = rw (lt-ltb next (p .commands) h) (omega arith)
 
   -- what stands at or below all of them
-  next-above : (c : ℕ) → c ≤ never → ((i : ℕ) → i < p .n → c ≤ nat d i) → (next < p .commands → c ≤ nat (p .ticks) next) → c ≤ nextTick p d next
+  next-above : (c : ℕ) → c ≤ never → ((i : ℕ) → i < p .n → c ≤ nat d i) → (next < p .commands → c ≤ nat (p .ticks) next)
+      → c ≤ nextTick p d next
   unfolding nextTick commandTick
   next-above c h f g = go (ltb next (p .commands)) refl
     where
@@ -90,27 +84,24 @@ module _ (p : Plan) (d : List ℕ) (next : ℕ) where
   pub next-one : nextTick p d next < never
       → ((i : ℕ) × (i < p .n) × (nat d i ≡ nextTick p d next)) ⊎ ((next < p .commands) × (nat (p .ticks) next ≡ nextTick p d next))
   unfolding nextTick commandTick
-  next-one = go (ltb next (p .commands)) refl
+  next-one h =
+      min-cases least command (One (min least command)) (λ l e. let f = least-one d (p .n) (omega arith) in inl (f .0, f .1, f .2 ∙ sym e))
+      (λ l e. inr (own (ltb next (p .commands)) refl (omega arith) (sym e)))
     where
       least : ℕ
       least = leastDue d (p .n)
 
+      command : ℕ
+      command = commandTick p next
+
       One : ℕ → Type 0
       One t = ((i : ℕ) × (i < p .n) × (nat d i ≡ t)) ⊎ ((next < p .commands) × (nat (p .ticks) next ≡ t))
 
-      by-due : (t : ℕ) → t ≡ least → t < never → One t
-      by-due t e h = let f = least-one d (p .n) (omega arith) in inl (f .0, f .1, omega (arith, f .2))
-
-      by-command : (t c : ℕ) → next < p .commands → c ≡ nat (p .ticks) next → (b : Bool) → ltb least c ≡ b → t ≡ min least c → t < never → One t
-      by-command t c l k true e m h = by-due t (omega (arith, ltb-true least c e)) h
-      by-command t c l k false e m h = inr (l, omega (arith, ltb-false least c e))
-
-      go : (b : Bool) → ltb next (p .commands) ≡ b → min least (cond b (nat (p .ticks) next) never) < never
-          → One (min least (cond b (nat (p .ticks) next) never))
-      go true e h =
-          by-command (min least (nat (p .ticks) next)) (nat (p .ticks) next) (ltb-true next (p .commands) e) refl
-          (ltb least (nat (p .ticks) next)) refl refl h
-      go false e h = by-due (min least never) (omega (arith, least-most d (p .n))) h
+      -- a command's tick below never is one of a command
+      own : {t : ℕ} (b : Bool) → ltb next (p .commands) ≡ b → cond b (nat (p .ticks) next) never < never
+          → cond b (nat (p .ticks) next) never ≡ t → (next < p .commands) × (nat (p .ticks) next ≡ t)
+      own true e l k = (ltb-true next (p .commands) e, k)
+      own false e l k = absurd (omega arith)
 
 -- where the clock stands below every due tick, time goes on
 pub next-after : (p : Plan) (d : List ℕ) (c : ℕ) → c < never → ((i : ℕ) → i < p .n → c < nat d i) → c < nextTick p d (nextCommand p c)
