@@ -17,3 +17,6 @@ pub mod Agreement
 pub mod Growth
 pub mod PlainRuns
 pub mod Runs
+pub mod Instants
+pub mod Tested
+pub mod Began

@@ -9,6 +9,7 @@ pub mod Entries
 pub mod Findings
 pub mod Refused
 pub mod Answers
+pub mod IdlePlan
 pub mod Joined
 pub mod Layout
 pub mod Small

@@ -4,7 +4,7 @@ use mathlib.Core.List.{List}
 use Prim.Native.Nat.{ℕ}
 use native.Mathlib.Omega.{arith}
 use lib.IntN.{ℤ, pos, _+ℤ_, _-ℤ_}
-use lib.Signed.{_<ℤ_}
+use lib.Signed.{_≤ℤ_, _<ℤ_}
 use Rattle.integers.specs.Parts.{∣_∣, sum, dif, tight, zs}
 use Rattle.plan.specs.Lists.{int}
 use Rattle.plan.specs.declared.Plan.{Plan}
@@ -22,3 +22,7 @@ near-between p q i x =
       λ h. record { above = omega (arith, zs, dif x y, dif y b); below = omega (arith, zs, dif x y, sum y b) },
       λ b′. omega (arith, zs, dif x y, dif y b, sum y b, tight (x -ℤ y), b′ .above, b′ .below),
     )
+
+-- a value is nearer to itself than any quantum
+pub near-itself : (x quantum : ℤ) → pos 1 ≤ℤ quantum → pos ∣ x -ℤ x ∣ <ℤ quantum
+near-itself x quantum h = omega (arith, zs, dif x x, tight (x -ℤ x))

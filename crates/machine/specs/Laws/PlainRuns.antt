@@ -99,6 +99,15 @@ module _ (p : Plan) where
   unfolding plainFrom
   after-next i e = after-more i 1 ∙ rw e
 
+  -- so that many have been taken
+  pub taken-so-far : (i b : ℕ) → i ≤ plainAfter p b .instants → plainAfter p i .instants ≡ i
+  taken-so-far zero b h = omega (arith, takes-most 0)
+  taken-so-far (suc i) b h =
+      let z = paused-before i b h in
+      let one-more : i + 1 ≡ suc i = omega arith in
+      let e = ap (λ m. m .instants) (after-next i z) ∙ instant-counts (plainAfter p i) in
+      rw (← one-more) (omega (arith, takes-all i z))
+
   -- where fewer instants than the budget were taken, it is not paused behind them
   pub stopped-behind : (b : ℕ) → plainAfter p b .instants < b → eqb (plainStatus p (plainAfter p (plainAfter p b .instants))) 0 ≡ false
   stopped-behind b h = go (eqb (plainStatus p (plainAfter p k)) 0) refl

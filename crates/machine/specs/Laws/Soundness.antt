@@ -8,7 +8,7 @@ use lib.IntN.{ℤ, pos, _-ℤ_}
 use lib.Signed.{_<ℤ_}
 use lib.Dec.{eqb}
 use borrow.Author.Tests.{eqb-true}
-use Rattle.integers.specs.Parts.{∣_∣, dif, tight, zs}
+use Rattle.integers.specs.Parts.{∣_∣}
 use Rattle.bitset.specs.Mask.{countOf}
 use Rattle.bitset.specs.Counts.{countOf-le}
 use Rattle.plan.specs.Format.{M}
@@ -23,7 +23,7 @@ use Rattle.machine.specs.Reach.{isDue, reached}
 use Rattle.machine.specs.Instant.{positionAt, settings, moves, outputs, slopeThen, dueThen, takenAt, tickOf, instant}
 use Rattle.machine.specs.Status.{isPaused}
 use Rattle.machine.specs.Sound.{SoundIntegrator, SoundRunning}
-use Rattle.machine.specs.Laws.Between.{Between, near-between}
+use Rattle.machine.specs.Laws.Between.{near-between, near-itself}
 use Rattle.machine.specs.Laws.Due.{due-ahead}
 use Rattle.machine.specs.Laws.Next.{next-due, next-after}
 use Rattle.machine.specs.Laws.Status.{tick-horizon, position-size}
@@ -69,7 +69,7 @@ module _ (p : Plan) (r : Running) (ok : SoundRunning p r) (t : ℕ) (takes : Tak
 
       go : (b c : Bool) → moves i ≡ b → isDue (r .d) t i ≡ c
           → pos ∣ cond b (positionAt r t i) (int (r .x) i) -ℤ cond c (positionAt r t i) (int (r .q) i) ∣ <ℤ int (p .quanta) i
-      go true true e f = let y = positionAt r t i in omega (arith, zs, old, dif y y, tight (y -ℤ y))
+      go true true e f = near-itself (positionAt r t i) (int (p .quanta) i) (ok .plan .integrators i h .least)
       go true false e f = near-between p (r .q) i (positionAt r t i) .1 (between-then p r ok t from (takes .least) i h f)
       go false true e f = absurd (true≢false (sym f ∙ not-due p r ok t from (takes .least) moves covers i h e))
       go false false e f = old

@@ -5,7 +5,7 @@ use mathlib.Core.List.{List}
 use Prim.Native.Nat.{ℕ, zero, suc, _≤_, _<_}
 use native.Mathlib.Omega.{arith}
 use lib.Dec.{leb, ltb, eqb}
-use lib.ListN.{length}
+use lib.ListN.{length, List·getD-eq-default}
 use borrow.Author.Tests.{leb-true, ltb-true, ltb-false, eqb-true, eqb-false}
 use Rattle.plan.specs.Lists.{nat, table, every}
 use Rattle.plan.specs.Format.{sections, largestCounts, headerLength, countIn, planIn}
@@ -16,7 +16,7 @@ use Rattle.plan.specs.Rules.{CountsRule, OffsetRule, SizeRule, PlanRules
 use Rattle.plan.specs.declared.Plan.{Plan}
 use Rattle.plan.specs.declared.Finding.{Finding}
 use Rattle.plan.specs.declared.Finding.the-variants.{Clean, Short, Offsets, Sizes}
-use Rattle.plan.specs.Laws.Rows.{table-at, getD-past}
+use Rattle.plan.specs.Laws.Rows.{table-at}
 use Rattle.plan.specs.Laws.Searches.{every-true}
 use Rattle.plan.specs.Laws.KeptFile.{long-kept, offsets-kept, sizes-kept}
 use Rattle.plan.specs.Laws.Findings.{Judged, clean, faulty, judged-one, first-clean, first-faulty, none-next}
@@ -37,7 +37,7 @@ module _ (file : List ℕ) where
   unfolding numberOf entryOf
   tried-none = record {
     known = omega arith;
-    accepts = λ z. (λ k h e l. absurd (omega (arith, getD-past (ruleEntries file) k 0 h)), refl);
+    accepts = λ z. (λ k h e l. absurd (omega (arith, List·getD-eq-default (ruleEntries file) 0 h)), refl);
     earlier = λ k h l. absurd (omega arith);
     there = λ h. absurd (omega arith);
     lowest = λ e h. absurd (omega arith);
@@ -121,7 +121,7 @@ module _ (file : List ℕ) where
       go true e =
           let h = ltb-true k sections e in let l = every-true (λ j. leb (nat largestCounts j) 256) sections .0 refl k h in
           omega (arith, counts-in r k h .1, leb-true (nat largestCounts k) 256 l)
-      go false e = omega (arith, getD-past (counts (planIn file)) k 0 (ltb-false k sections e))
+      go false e = omega (arith, List·getD-eq-default (counts (planIn file)) 0 (ltb-false k sections e))
 
   entries-below : (k : ℕ) → (3 < k → SizeRule file) → nat (ruleEntries file) k ≤ 256
   unfolding counts

@@ -6,7 +6,7 @@ use Prim.Native.Nat.{ℕ, zero, suc, _≤_, _<_}
 use native.Mathlib.Omega.{arith}
 use native.Mathlib.Nat.{le-of-suc-le-suc, lt-of-lt-of-le}
 use lib.Dec.{ltb}
-use lib.ListN.{length, getD}
+use lib.ListN.{length, getD, List·getD-eq-default}
 use borrow.Author.Tests.{ltb-true, ltb-false, lt-ltb, le-ltb}
 use Rattle.plan.specs.Lists.{table, row}
 
@@ -34,12 +34,6 @@ module _ {ℓ} {A : Type ℓ} where
   table-ext (suc w) f g e =
       ap₂ (λ x xs. x ∷ xs) (e 0 (omega arith)) (table-ext w (λ i. f (suc i)) (λ i. g (suc i)) (λ i h. e (suc i) (omega arith)))
 
-  -- past the end
-  pub getD-past : (xs : List A) (i : ℕ) (z : A) → length xs ≤ i → getD xs i z ≡ z
-  getD-past [] i z h = refl
-  getD-past (x ∷ xs) zero z h = absurd (omega arith)
-  getD-past (x ∷ xs) (suc i) z h = getD-past xs i z (le-of-suc-le-suc h)
-
   pub length-row : (z : A) (w k : ℕ) (f : ℕ → A) → length (row z w k f) ≡ w
   unfolding row
   length-row z w k f = length-table w (λ i. cond (ltb i k) (f i) z)
@@ -55,7 +49,7 @@ module _ {ℓ} {A : Type ℓ} where
     where
       go : (b : Bool) → ltb i w ≡ b → getD (row z w k f) i z ≡ z
       go true e = table-at w (λ j. cond (ltb j k) (f j) z) i z (ltb-true i w e) ∙ rw (le-ltb i k h)
-      go false e = getD-past (row z w k f) i z (rw (length-row z w k f) (ltb-false i w e))
+      go false e = List·getD-eq-default (row z w k f) z (rw (length-row z w k f) (ltb-false i w e))
 
   pub row-ext : (z : A) (w k : ℕ) (f g : ℕ → A) → ((i : ℕ) → i < k → f i ≡ g i) → row z w k f ≡ row z w k g
   unfolding row

@@ -1,0 +1,134 @@
+-- Each instant of a run from Start whose instants are taken by the engines of a list: the state after it, its bytes, how many it moves,
+-- and the update count. Assumes nothing.
+use mathlib.Core.Path.{_≡_, refl, sym, ap, _∙_}
+use mathlib.Core.Bool.{Bool, true, false, cond}
+use mathlib.Core.List.{List, [], _∷_, _++_, append-nil}
+use Prim.Native.Nat.{ℕ, zero, suc, _+_, _-_, _≤_, _<_}
+use native.Mathlib.Omega.{arith}
+use lib.Dec.{ltb, eqb}
+use lib.ListN.{length, getD, take, drop, take-append-drop}
+use lib.Seq.{length-take-le, take-suc, take-all}
+use borrow.Author.Tests.{ltb-true, ltb-false, eq-eqb}
+use Rattle.plan.specs.declared.Plan.{Plan}
+use Rattle.machine.specs.Start.{startOf}
+use Rattle.machine.specs.Instant.{instant, eventsOf}
+use Rattle.machine.specs.Status.{statusOf, isPaused}
+use Rattle.machine.specs.Plain.{Plain, plainStart, plainStatus, plainAfter, plainEvents}
+use Rattle.machine.specs.Updates.{growth, growthUpTo, movedNow}
+use Rattle.machine.specs.Sound.{SoundRunning}
+use Rattle.machine.specs.Laws.Agreement.{Agrees, same-status, start-agrees}
+use Rattle.machine.specs.Laws.Growth.{growth-least, growth-most, instant-updates, instant-moved}
+use Rattle.machine.specs.Laws.PlainRuns.{takes-most, paused-before, taken-so-far, stopped-behind}
+use Rattle.machine.specs.Laws.Runs.{afterBy, eventsBy, after-stopped, after-append, events-append, Together, together}
+use Rattle.plan.specs.Laws.Counts.{counts-of}
+use Rattle.machine.specs.declared.Running.{Running}
+use Rattle.machine.specs.declared.Engine.{Engine}
+use Rattle.machine.specs.declared.Engine.the-variants.{Lazy, Eager}
+
+-- the growth is by the engines of the instants that it counts
+pub growth-mono : (p : Plan) (f g : ℕ → Engine) (k : ℕ)
+    → ((i : ℕ) → i < k → (m : Plain) → growth p (f (i + 1)) m ≤ growth p (g (i + 1)) m) → growthUpTo p f k ≤ growthUpTo p g k
+unfolding growthUpTo
+growth-mono p f g zero h = omega arith
+growth-mono p f g (suc k) h = omega (arith, growth-mono p f g k (λ i l. h i (omega arith)), h k (omega arith) (plainAfter p k))
+
+pub growth-ext : (p : Plan) (f g : ℕ → Engine) (k : ℕ) → ((i : ℕ) → i < k → f (i + 1) ≡ g (i + 1)) → growthUpTo p f k ≡ growthUpTo p g k
+unfolding growthUpTo
+growth-ext p f g zero h = refl
+growth-ext p f g (suc k) h = rw (growth-ext p f g k (λ i l. h i (omega arith)), h k (omega arith))
+
+module _ (p : Plan) (ok : SoundRunning p (startOf p)) (engines : List Engine) where
+  -- the running figures after k instants, and the engine of instant i, counted from 1
+  unfoldable pub stateAt : ℕ → Running
+  stateAt k = afterBy p (take k engines) (startOf p)
+
+  unfoldable pub engineOf : ℕ → Engine
+  engineOf i = getD engines (i - 1) Lazy
+
+  pub run-together : Together p engines (startOf p) (plainStart p)
+  run-together = together p engines (startOf p) (plainStart p) ok (start-agrees p (counts-of p (ok .plan .counts) .n))
+
+  -- it agrees with the plain machine at every instant
+  so-far : (k : ℕ) → k ≤ length engines → SoundRunning p (stateAt k) × Agrees p (stateAt k) (plainAfter p k)
+  unfolding stateAt plainAfter
+  so-far k h =
+      let t = together p (take k engines) (startOf p) (plainStart p) ok (start-agrees p (counts-of p (ok .plan .counts) .n)) in
+      (t .sound, rw (length-take-le k engines h) at (t .agrees))
+
+  pub state-sound : (k : ℕ) → k ≤ length engines → SoundRunning p (stateAt k)
+  state-sound k h = so-far k h .0
+
+  pub state-agrees : (k : ℕ) → k ≤ length engines → Agrees p (stateAt k) (plainAfter p k)
+  state-agrees k h = so-far k h .1
+
+  -- paused or not as the plain machine is
+  paused-as : (k : ℕ) → k ≤ length engines → isPaused p (stateAt k) ≡ eqb (plainStatus p (plainAfter p k)) 0
+  unfolding isPaused
+  paused-as k h = ap (λ s. eqb s 0) (same-status p (stateAt k) (state-sound k h) (plainAfter p k) (state-agrees k h))
+
+  -- ---- instant k + 1, where it is taken
+  module _ (k : ℕ) (taken : k < plainAfter p (length engines) .instants) where
+    inside : k < length engines
+    inside = omega (arith, takes-most p (length engines))
+
+    is-paused : isPaused p (stateAt k) ≡ true
+    is-paused = paused-as k (omega (arith, inside)) ∙ eq-eqb (plainStatus p (plainAfter p k)) 0 (paused-before p k (length engines) taken)
+
+    one-more : take (k + 1) engines ≡ take k engines ++ (engineOf (k + 1) ∷ [])
+    unfolding engineOf
+    one-more =
+        let next : k + 1 ≡ suc k = omega arith in let same : suc k - 1 ≡ k = omega arith in
+        rw (next, same) (take-suc engines k Lazy inside)
+
+    pub state-next : stateAt (k + 1) ≡ instant p (engineOf (k + 1)) (stateAt k)
+    unfolding stateAt afterBy
+    state-next = rw one-more (after-append p (take k engines) (engineOf (k + 1) ∷ []) (startOf p) ∙ rw is-paused)
+
+    pub events-next : eventsBy p (take (k + 1) engines) (startOf p) ≡ eventsBy p (take k engines) (startOf p) ++ eventsOf p (stateAt k)
+    unfolding stateAt eventsBy
+    events-next =
+        rw one-more
+        (events-append p (take k engines) (engineOf (k + 1) ∷ []) (startOf p)
+        ∙ rw (is-paused, append-nil (eventsOf p (afterBy p (take k engines) (startOf p)))))
+
+    pub moved-next : movedNow p (stateAt (k + 1)) ≡ growth p (engineOf (k + 1)) (plainAfter p k)
+    moved-next =
+        let h : k ≤ length engines = omega (arith, inside) in
+        rw state-next (instant-moved p (stateAt k) (state-sound k h) (plainAfter p k) (state-agrees k h) (engineOf (k + 1)))
+
+    updates-next : stateAt (k + 1) .updates ≡ stateAt k .updates + growth p (engineOf (k + 1)) (plainAfter p k)
+    updates-next =
+        let h : k ≤ length engines = omega (arith, inside) in
+        rw state-next (instant-updates p (stateAt k) (state-sound k h) (plainAfter p k) (state-agrees k h) (engineOf (k + 1)))
+
+  -- ---- up to instant k
+  pub instants-at : (k : ℕ) → k ≤ plainAfter p (length engines) .instants → stateAt k .instants ≡ k
+  instants-at k h =
+      state-agrees k (omega (arith, takes-most p (length engines))) .instants ∙ taken-so-far p k (length engines) h
+
+  pub updates-at : (k : ℕ) → k ≤ plainAfter p (length engines) .instants → stateAt k .updates ≡ growthUpTo p engineOf k
+  unfolding stateAt afterBy growthUpTo startOf
+  updates-at zero h = refl
+  updates-at (suc k) h =
+      let next : suc k ≡ k + 1 = omega arith in
+      rw next (updates-next k h ∙ ap (λ (n : ℕ). n + growth p (engineOf (k + 1)) (plainAfter p k)) (updates-at k (omega arith)))
+
+  -- the whole run is over after the instants that it takes
+  pub state-end : afterBy p engines (startOf p) ≡ stateAt (plainAfter p (length engines) .instants)
+  unfolding stateAt
+  state-end = go (ltb k (length engines)) refl
+    where
+      k : ℕ
+      k = plainAfter p (length engines) .instants
+
+      go : (b : Bool) → ltb k (length engines) ≡ b → afterBy p engines (startOf p) ≡ afterBy p (take k engines) (startOf p)
+      go true e =
+          let h = ltb-true k (length engines) e in
+          let stop = paused-as k (omega arith) ∙ stopped-behind p (length engines) h in
+          ap (λ es. afterBy p es (startOf p)) (sym (take-append-drop k engines))
+          ∙ after-append p (take k engines) (drop k engines) (startOf p)
+          ∙ after-stopped p (drop k engines) (stateAt k) stop
+      go false e = ap (λ es. afterBy p es (startOf p)) (sym (take-all k engines (ltb-false k (length engines) e)))
+
+  pub updates-end : afterBy p engines (startOf p) .updates ≡ growthUpTo p engineOf (plainAfter p (length engines) .instants)
+  updates-end = ap (λ r. r .updates) state-end ∙ updates-at (plainAfter p (length engines) .instants) (omega arith)

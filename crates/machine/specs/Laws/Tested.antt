@@ -1,0 +1,96 @@
+-- The test of a sound state means that the state is sound. Assumes nothing.
+use mathlib.Core.Path.{_≡_}
+use mathlib.Core.Bool.{true}
+use mathlib.Core.Logic.{_↔_, Iff·rfl, Iff·trans}
+use Prim.Native.Nat.{ℕ, _*_}
+use native.Mathlib.Omega.{arith}
+use lib.IntN.{ℤ, _-ℤ_}
+use lib.Dec.{eqb}
+use Rattle.integers.specs.Parts.{∣_∣, dif, zs}
+use Rattle.integers.specs.Order.{ltZ-true}
+use Rattle.integers.specs.Range.{within-true}
+use Rattle.plan.specs.Format.{M}
+use Rattle.plan.specs.Lists.{nat, int}
+use Rattle.plan.specs.Rules.{PlanRules}
+use Rattle.plan.specs.Unused.{PlanUnused}
+use Rattle.plan.specs.declared.Plan.{Plan}
+use Rattle.plan.specs.Laws.Means.{Means, leb-means, ltb-means, eqb-means, zero-means, within-means, both, every-means}
+use Rattle.plan.specs.Laws.Entries.{unused-nat, unused-int, plan-unused}
+use Rattle.plan.specs.Laws.Refused.{plan-rules}
+use Rattle.machine.specs.Values.{rateOf}
+use Rattle.machine.specs.Due.{upperLevel, lowerLevel, dueOf}
+use Rattle.machine.specs.Next.{nextCommand}
+use Rattle.machine.specs.Sound.{RunningUnused, SoundIntegrator, Sound}
+use Rattle.machine.specs.SoundTest.{planSound, runningUnused, integratorSound, runningSound, isSound}
+use Rattle.machine.specs.Laws.Between.{near-between}
+use Rattle.machine.specs.declared.Running.{Running}
+use Rattle.machine.specs.declared.State.{State}
+
+same-means : (x y : ℤ) → Means (eqb ∣ x -ℤ y ∣ 0) (x ≡ y)
+same-means x y = Iff·trans (zero-means (x -ℤ y)) (λ e. omega (arith, zs, dif x y), λ e. omega (arith, zs, dif x y))
+
+-- ---- the plan
+plan-means : (p : Plan) → Means (planSound p) (PlanRules p × PlanUnused p)
+unfolding planSound
+plan-means p = both (Iff·trans (both Iff·rfl Iff·rfl) (plan-rules p)) (plan-unused p)
+
+module _ (p : Plan) (r : Running) where
+  unused-means : Means (runningUnused p r) (RunningUnused p r)
+  unfolding runningUnused
+  unused-means =
+      let marks = both (both (unused-int (p .n) (r .x)) (unused-int (p .n) (r .q))) (unused-int (p .n) (r .s)) in
+      let all = both (both (both marks (unused-nat (p .n) (r .l))) (unused-nat (p .n) (r .d))) (unused-int (p .m) (r .inputs)) in (
+        λ t. let h = all .0 t in record {
+          x = h .0 .0 .0 .0 .0;
+          q = h .0 .0 .0 .0 .1;
+          s = h .0 .0 .0 .1;
+          l = h .0 .0 .1;
+          d = h .0 .1;
+          inputs = h .1;
+        },
+        λ u. all .1 (((((u .x, u .q), u .s), u .l), u .d), u .inputs),
+      )
+
+  integrator-means : (i : ℕ) → Means (integratorSound p r i) (SoundIntegrator p r i)
+  unfolding integratorSound
+  integrator-means i =
+      let x = int (r .x) i in let q = int (r .q) i in let s = int (r .s) i in let l = nat (r .l) i in let d = nat (r .d) i in
+      let ticks = both (leb-means l (r .clock)) (ltb-means (r .clock) d) in
+      let levels = both (both (both ticks (within-true M q)) (ltZ-true (lowerLevel p (r .q) i) x)) (ltZ-true x (upperLevel p (r .q) i)) in
+      let all = both (both levels (same-means s (rateOf p (r .q) (r .inputs) i))) (eqb-means d (dueOf p (r .q) i l x s)) in
+      let near = near-between p (r .q) i x in (
+        λ t. let h = all .0 t in let k = h .0 .0 in record {
+          moved = k .0 .0 .0 .0;
+          ahead = k .0 .0 .0 .1;
+          output = k .0 .0 .1;
+          near = near .1 (record { above = k .0 .1; below = k .1 });
+          rate = h .0 .1;
+          due = h .1;
+        },
+        λ h. let k = near .0 (h .near) in all .1 ((((((h .moved, h .ahead), h .output), k .above), k .below), h .rate), h .due),
+      )
+
+pub sound-means : (st : State) → (isSound st ≡ true) ↔ Sound st
+unfolding isSound runningSound
+sound-means st =
+    let p = st .plan in let r = st .run in
+    let integrators = both (leb-means (r .clock) (p .horizon)) (every-means (integrator-means p r) (p .n)) in
+    let inputs = both integrators (every-means (λ j. within-means M (int (r .inputs) j)) (p .m)) in
+    let counted = both (both inputs (eqb-means (r .next) (nextCommand p (r .clock)))) (leb-means (r .instants) (r .clock)) in
+    let all = both (plan-means p) (both (both counted (leb-means (r .updates) (p .n * r .instants))) (unused-means p r)) in (
+      λ t. let h = all .0 t in let c = h .1 .0 .0 in record {
+        plan = h .0 .0;
+        plan-unused = h .0 .1;
+        clock = c .0 .0 .0 .0;
+        integrators = c .0 .0 .0 .1;
+        inputs = c .0 .0 .1;
+        next = c .0 .1;
+        instants = c .1;
+        updates = h .1 .0 .1;
+        running-unused = h .1 .1;
+      },
+      λ s. all .1 (
+        (s .plan, s .plan-unused),
+        ((((((s .clock, s .integrators), s .inputs), s .next), s .instants), s .updates), s .running-unused),
+      ),
+    )
