@@ -20,3 +20,5 @@ pub mod Runs
 pub mod Instants
 pub mod Tested
 pub mod Began
+pub mod Chosen
+pub mod EventWords

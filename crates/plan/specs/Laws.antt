@@ -15,3 +15,5 @@ pub mod Layout
 pub mod Small
 pub mod HeaderBack
 pub mod ReadBack
+pub mod Parts
+pub mod WrittenBack

@@ -3,4 +3,5 @@ pub mod Calls
 pub mod Lists
 pub mod Limits
 pub mod Promises
+pub mod Proofs
 pub mod Examples

@@ -19,7 +19,7 @@ use Rattle.machine.specs.Sound.{SoundRunning}
 use Rattle.machine.specs.Laws.Agreement.{Agrees, same-status, start-agrees}
 use Rattle.machine.specs.Laws.Growth.{growth-least, growth-most, instant-updates, instant-moved}
 use Rattle.machine.specs.Laws.PlainRuns.{takes-most, paused-before, taken-so-far, stopped-behind}
-use Rattle.machine.specs.Laws.Runs.{afterBy, eventsBy, after-stopped, after-append, events-append, Together, together}
+use Rattle.machine.specs.Laws.Runs.{afterBy, eventsBy, after-stopped, after-append, events-append, run-sound, Together, together}
 use Rattle.plan.specs.Laws.Counts.{counts-of}
 use Rattle.machine.specs.declared.Running.{Running}
 use Rattle.machine.specs.declared.Engine.{Engine}
@@ -37,84 +37,82 @@ unfolding growthUpTo
 growth-ext p f g zero h = refl
 growth-ext p f g (suc k) h = rw (growth-ext p f g k (λ i l. h i (omega arith)), h k (omega arith))
 
+-- the engine of instant i, counted from 1, and the running figures after k instants
+unfoldable pub engineOf : List Engine → ℕ → Engine
+engineOf engines i = getD engines (i - 1) Lazy
+
+unfoldable pub stateAt : Plan → List Engine → ℕ → Running
+stateAt p engines k = afterBy p (take k engines) (startOf p)
+
 module _ (p : Plan) (ok : SoundRunning p (startOf p)) (engines : List Engine) where
-  -- the running figures after k instants, and the engine of instant i, counted from 1
-  unfoldable pub stateAt : ℕ → Running
-  stateAt k = afterBy p (take k engines) (startOf p)
-
-  unfoldable pub engineOf : ℕ → Engine
-  engineOf i = getD engines (i - 1) Lazy
-
   pub run-together : Together p engines (startOf p) (plainStart p)
   run-together = together p engines (startOf p) (plainStart p) ok (start-agrees p (counts-of p (ok .plan .counts) .n))
 
   -- it agrees with the plain machine at every instant
-  so-far : (k : ℕ) → k ≤ length engines → SoundRunning p (stateAt k) × Agrees p (stateAt k) (plainAfter p k)
+  state-agrees : (k : ℕ) → k ≤ length engines → Agrees p (stateAt p engines k) (plainAfter p k)
   unfolding stateAt plainAfter
-  so-far k h =
-      let t = together p (take k engines) (startOf p) (plainStart p) ok (start-agrees p (counts-of p (ok .plan .counts) .n)) in
-      (t .sound, rw (length-take-le k engines h) at (t .agrees))
+  state-agrees k h =
+      rw (length-take-le k engines h) at
+      (together p (take k engines) (startOf p) (plainStart p) ok (start-agrees p (counts-of p (ok .plan .counts) .n)) .agrees)
 
-  pub state-sound : (k : ℕ) → k ≤ length engines → SoundRunning p (stateAt k)
-  state-sound k h = so-far k h .0
-
-  pub state-agrees : (k : ℕ) → k ≤ length engines → Agrees p (stateAt k) (plainAfter p k)
-  state-agrees k h = so-far k h .1
+  state-sound : (k : ℕ) → SoundRunning p (stateAt p engines k)
+  unfolding stateAt
+  state-sound k = run-sound p (take k engines) (startOf p) ok
 
   -- paused or not as the plain machine is
-  paused-as : (k : ℕ) → k ≤ length engines → isPaused p (stateAt k) ≡ eqb (plainStatus p (plainAfter p k)) 0
+  paused-as : (k : ℕ) → k ≤ length engines → isPaused p (stateAt p engines k) ≡ eqb (plainStatus p (plainAfter p k)) 0
   unfolding isPaused
-  paused-as k h = ap (λ s. eqb s 0) (same-status p (stateAt k) (state-sound k h) (plainAfter p k) (state-agrees k h))
+  paused-as k h = ap (λ s. eqb s 0) (same-status p (stateAt p engines k) (state-sound k) (plainAfter p k) (state-agrees k h))
 
   -- ---- instant k + 1, where it is taken
   module _ (k : ℕ) (taken : k < plainAfter p (length engines) .instants) where
     inside : k < length engines
     inside = omega (arith, takes-most p (length engines))
 
-    is-paused : isPaused p (stateAt k) ≡ true
+    is-paused : isPaused p (stateAt p engines k) ≡ true
     is-paused = paused-as k (omega (arith, inside)) ∙ eq-eqb (plainStatus p (plainAfter p k)) 0 (paused-before p k (length engines) taken)
 
-    one-more : take (k + 1) engines ≡ take k engines ++ (engineOf (k + 1) ∷ [])
+    one-more : take (k + 1) engines ≡ take k engines ++ (engineOf engines (k + 1) ∷ [])
     unfolding engineOf
     one-more =
         let next : k + 1 ≡ suc k = omega arith in let same : suc k - 1 ≡ k = omega arith in
         rw (next, same) (take-suc engines k Lazy inside)
 
-    pub state-next : stateAt (k + 1) ≡ instant p (engineOf (k + 1)) (stateAt k)
+    pub state-next : stateAt p engines (k + 1) ≡ instant p (engineOf engines (k + 1)) (stateAt p engines k)
     unfolding stateAt afterBy
-    state-next = rw one-more (after-append p (take k engines) (engineOf (k + 1) ∷ []) (startOf p) ∙ rw is-paused)
+    state-next = rw one-more (after-append p (take k engines) (engineOf engines (k + 1) ∷ []) (startOf p) ∙ rw is-paused)
 
-    pub events-next : eventsBy p (take (k + 1) engines) (startOf p) ≡ eventsBy p (take k engines) (startOf p) ++ eventsOf p (stateAt k)
+    pub events-next : eventsBy p (take (k + 1) engines) (startOf p) ≡ eventsBy p (take k engines) (startOf p) ++ eventsOf p (stateAt p engines k)
     unfolding stateAt eventsBy
     events-next =
         rw one-more
-        (events-append p (take k engines) (engineOf (k + 1) ∷ []) (startOf p)
+        (events-append p (take k engines) (engineOf engines (k + 1) ∷ []) (startOf p)
         ∙ rw (is-paused, append-nil (eventsOf p (afterBy p (take k engines) (startOf p)))))
 
-    pub moved-next : movedNow p (stateAt (k + 1)) ≡ growth p (engineOf (k + 1)) (plainAfter p k)
+    pub moved-next : movedNow p (stateAt p engines (k + 1)) ≡ growth p (engineOf engines (k + 1)) (plainAfter p k)
     moved-next =
         let h : k ≤ length engines = omega (arith, inside) in
-        rw state-next (instant-moved p (stateAt k) (state-sound k h) (plainAfter p k) (state-agrees k h) (engineOf (k + 1)))
+        rw state-next (instant-moved p (stateAt p engines k) (state-sound k) (plainAfter p k) (state-agrees k h) (engineOf engines (k + 1)))
 
-    updates-next : stateAt (k + 1) .updates ≡ stateAt k .updates + growth p (engineOf (k + 1)) (plainAfter p k)
+    updates-next : stateAt p engines (k + 1) .updates ≡ stateAt p engines k .updates + growth p (engineOf engines (k + 1)) (plainAfter p k)
     updates-next =
         let h : k ≤ length engines = omega (arith, inside) in
-        rw state-next (instant-updates p (stateAt k) (state-sound k h) (plainAfter p k) (state-agrees k h) (engineOf (k + 1)))
+        rw state-next (instant-updates p (stateAt p engines k) (state-sound k) (plainAfter p k) (state-agrees k h) (engineOf engines (k + 1)))
 
   -- ---- up to instant k
-  pub instants-at : (k : ℕ) → k ≤ plainAfter p (length engines) .instants → stateAt k .instants ≡ k
+  pub instants-at : (k : ℕ) → k ≤ plainAfter p (length engines) .instants → stateAt p engines k .instants ≡ k
   instants-at k h =
       state-agrees k (omega (arith, takes-most p (length engines))) .instants ∙ taken-so-far p k (length engines) h
 
-  pub updates-at : (k : ℕ) → k ≤ plainAfter p (length engines) .instants → stateAt k .updates ≡ growthUpTo p engineOf k
+  pub updates-at : (k : ℕ) → k ≤ plainAfter p (length engines) .instants → stateAt p engines k .updates ≡ growthUpTo p (engineOf engines) k
   unfolding stateAt afterBy growthUpTo startOf
   updates-at zero h = refl
   updates-at (suc k) h =
       let next : suc k ≡ k + 1 = omega arith in
-      rw next (updates-next k h ∙ ap (λ (n : ℕ). n + growth p (engineOf (k + 1)) (plainAfter p k)) (updates-at k (omega arith)))
+      rw next (updates-next k h ∙ ap (λ (n : ℕ). n + growth p (engineOf engines (k + 1)) (plainAfter p k)) (updates-at k (omega arith)))
 
   -- the whole run is over after the instants that it takes
-  pub state-end : afterBy p engines (startOf p) ≡ stateAt (plainAfter p (length engines) .instants)
+  pub state-end : afterBy p engines (startOf p) ≡ stateAt p engines (plainAfter p (length engines) .instants)
   unfolding stateAt
   state-end = go (ltb k (length engines)) refl
     where
@@ -127,8 +125,8 @@ module _ (p : Plan) (ok : SoundRunning p (startOf p)) (engines : List Engine) wh
           let stop = paused-as k (omega arith) ∙ stopped-behind p (length engines) h in
           ap (λ es. afterBy p es (startOf p)) (sym (take-append-drop k engines))
           ∙ after-append p (take k engines) (drop k engines) (startOf p)
-          ∙ after-stopped p (drop k engines) (stateAt k) stop
+          ∙ after-stopped p (drop k engines) (stateAt p engines k) stop
       go false e = ap (λ es. afterBy p es (startOf p)) (sym (take-all k engines (ltb-false k (length engines) e)))
 
-  pub updates-end : afterBy p engines (startOf p) .updates ≡ growthUpTo p engineOf (plainAfter p (length engines) .instants)
+  pub updates-end : afterBy p engines (startOf p) .updates ≡ growthUpTo p (engineOf engines) (plainAfter p (length engines) .instants)
   updates-end = ap (λ r. r .updates) state-end ∙ updates-at (plainAfter p (length engines) .instants) (omega arith)

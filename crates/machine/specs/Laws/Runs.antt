@@ -75,15 +75,28 @@ module _ (p : Plan) where
       go true e ih = rw ih (sym (append-assoc (eventsOf p r) (eventsBy first next) (eventsBy then (afterBy first next))))
       go false e ih = sym (events-stopped then r e)
 
+  -- ---- a run leaves a sound state
+  pub run-sound : (engines : List Engine) (r : Running) → SoundRunning p r → SoundRunning p (afterBy engines r)
+  unfolding afterBy
+  run-sound [] r ok = ok
+  run-sound (engine ∷ engines) r ok = go (isPaused p r) refl (λ e. run-sound engines (instant p engine r) (instant-sound p r ok e engine))
+    where
+      next : Running
+      next = instant p engine r
+
+      go : (b : Bool) → isPaused p r ≡ b → (isPaused p r ≡ true → SoundRunning p (afterBy engines next))
+          → SoundRunning p (cond b (afterBy engines next) r)
+      go true e ih = ih e
+      go false e ih = ok
+
   -- ---- together with the plain machine
   pub record Together (engines : List Engine) (r : Running) (m : Plain) : Type 0 where
-    pub sound : SoundRunning p (afterBy engines r)
     pub agrees : Agrees p (afterBy engines r) (plainFrom p (length engines) m)
     pub bytes : eventsBy engines r ≡ plainEventsFrom p (length engines) m
 
   pub together : (engines : List Engine) (r : Running) (m : Plain) → SoundRunning p r → Agrees p r m → Together engines r m
   unfolding afterBy eventsBy plainFrom plainEventsFrom isPaused
-  together [] r m ok a = record { sound = ok; agrees = a; bytes = refl }
+  together [] r m ok a = record { agrees = a; bytes = refl }
   together (engine ∷ engines) r m ok a =
       go (isPaused p r) refl
       (λ e. together engines (instant p engine r) (plainInstant p m) (instant-sound p r ok e engine) (agrees-then p r ok m a engine))
@@ -96,11 +109,7 @@ module _ (p : Plan) where
       go true e ih =
           let t = ih e in
           let f : eqb (plainStatus p m) 0 ≡ true = sym same ∙ e in
-          record {
-            sound = rw e (t .sound);
-            agrees = rw (e, f) (t .agrees);
-            bytes = rw (e, f) (ap₂ (λ xs ys. xs ++ ys) (same-events p r ok m a) (t .bytes));
-          }
+          record { agrees = rw (e, f) (t .agrees); bytes = rw (e, f) (ap₂ (λ xs ys. xs ++ ys) (same-events p r ok m a) (t .bytes)) }
       go false e ih =
           let f : eqb (plainStatus p m) 0 ≡ false = sym same ∙ e in
-          record { sound = rw e ok; agrees = rw (e, f) a; bytes = rw (e, f) }
+          record { agrees = rw (e, f) a; bytes = rw (e, f) }

@@ -106,7 +106,7 @@ module _ (file : List ℕ) where
 
   -- ---- the counts
   -- those of the plan are those of the file
-  counts-at : (k : ℕ) → k < sections → nat (counts (planIn file)) k ≡ countIn file k
+  pub counts-at : (k : ℕ) → k < sections → nat (counts (planIn file)) k ≡ countIn file k
   unfolding counts planIn table
   counts-at k h = table-at sections (countIn file) k 0 h
 

@@ -1,4 +1,4 @@
--- Unused entries: each test means its proposition, and the plan that a file holds has zeros in them and arrays of full width. Assumes nothing.
+-- Unused entries: the tests mean their propositions; the plan that a file holds has zeros there, and arrays of full width. Assumes nothing.
 use mathlib.Core.Path.{_≡_, refl}
 use mathlib.Core.List.{List}
 use Prim.Native.Nat.{ℕ, _≤_}

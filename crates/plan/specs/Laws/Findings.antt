@@ -13,7 +13,8 @@ use Rattle.plan.specs.Laws.Means.{Means, both}
 -- the finding f of the entries from i up to j, by the rule R of refusal number k
 pub data Judged (R : ℕ → Type 0) (k i j : ℕ) (f : Finding) : Type 0 where
   clean : numberOf f ≡ 0 → entryOf f ≡ 0 → ((e : ℕ) → i ≤ e → e < j → R e) → Judged R k i j f
-  faulty : numberOf f ≡ k → i ≤ entryOf f → entryOf f < j → ((e : ℕ) → i ≤ e → e < entryOf f → R e) → (R (entryOf f) → ⊥) → Judged R k i j f
+  faulty : numberOf f ≡ k → i ≤ entryOf f → entryOf f < j → ((e : ℕ) → i ≤ e → e < entryOf f → R e) → (R (entryOf f) → ⊥)
+      → Judged R k i j f
 
 -- the first finding, or else the next
 pub first-clean : (f g : Finding) → numberOf f ≡ 0 → orElse f g ≡ g

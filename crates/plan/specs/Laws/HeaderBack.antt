@@ -9,7 +9,7 @@ use lib.ListN.{length, getD, length-append, List·getD-append}
 use borrow.Author.Tests.{le-leb, eq-eqb}
 use Rattle.words.specs.Word.{word, flat}
 use Rattle.words.specs.Flat.{word-flat}
-use Rattle.plan.specs.Lists.{nat, every, joined}
+use Rattle.plan.specs.Lists.{nat, joined}
 use Rattle.plan.specs.Format.{sections, entrySizes, leastCounts, largestCounts, headerLength, horizonIn, offsetIn, lengthIn, startIn}
 use Rattle.plan.specs.Format.{countIn, sectionIn}
 use Rattle.plan.specs.Tests.{longEnough, offsetsKept, countKept, sizesKept, counts}

@@ -4,7 +4,7 @@ use mathlib.Core.List.{List, [], _++_, append-assoc, append-nil}
 use Prim.Native.Nat.{ℕ, zero, suc, _+_, _*_, _≤_, _<_}
 use native.Mathlib.Omega.{arith}
 use lib.ListN.{length, getD, take, drop, length-append, List·getD-append}
-use lib.Seq.{take-at, drop-at, take-add, getD-append-add}
+use lib.Seq.{take-add, getD-append-add}
 use Rattle.words.specs.Word.{numberAt, flat}
 use Rattle.words.specs.Reading.{number-behind, number-before}
 use Rattle.words.specs.Flat.{flat-append}
@@ -20,11 +20,6 @@ module _ {A : Type 0} (f : ℕ → List A) where
       below-suc (λ j. (rest : List A) × (joined f (suc n) ≡ joined f j ++ (f j ++ rest))) h
       (λ l. let r = joined-split n k l in (r .0 ++ f n, rw (r .1) (simp append-assoc)))
       ([], rw append-nil)
-
-  pub part-joined : (n k : ℕ) → k < n → take (length (f k)) (drop (length (joined f k)) (joined f n)) ≡ f k
-  part-joined n k h =
-      let r = joined-split n k h in
-      rw (r .1, drop-at (joined f k) (f k ++ r .0) (length (joined f k)) refl) (take-at (f k) (r .0) (length (f k)) refl)
 
   pub getD-joined : (n k c : ℕ) (z : A) → k < n → c < length (f k) → getD (joined f n) (length (joined f k) + c) z ≡ getD (f k) c z
   getD-joined n k c z h l =

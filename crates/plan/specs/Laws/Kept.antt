@@ -14,7 +14,7 @@ use Rattle.plan.specs.Lists.{nat, int}
 use Rattle.plan.specs.Format.{M, sections}
 use Rattle.plan.specs.Tests.{countKept, horizonKept, counts, countsKept, integratorKept, inputKept, kindKept, nodeKept}
 use Rattle.plan.specs.Tests.{linkLimits, linkOrdered, commandLimits, commandOrdered}
-use Rattle.plan.specs.Rules.{CountRule, HorizonRule, CountsRule, IntegratorRule, InputRule, NodeRule, LinkRule, CommandRule}
+use Rattle.plan.specs.Rules.{Within, CountRule, HorizonRule, CountsRule, IntegratorRule, InputRule, NodeRule, LinkRule, CommandRule}
 use Rattle.plan.specs.declared.Plan.{Plan}
 use Rattle.plan.specs.Laws.Means.{Means, leb-means, ltb-means, eqb-means, zero-means, within-means, ascends-means}
 use Rattle.plan.specs.Laws.Means.{both, negated, every-means}
@@ -35,7 +35,8 @@ module _ (p : Plan) where
   pub integrator-kept : (i : ℕ) → Means (integratorKept p i) (IntegratorRule p i)
   unfolding integratorKept
   integrator-kept i =
-      let all = both (both (within-means M (int (p .starts) i)) (leZ-true (pos 1) (int (p .quanta) i))) (leZ-true (int (p .quanta) i) (pos M)) in
+      let quantum = int (p .quanta) i in
+      let all = both (both (within-means M (int (p .starts) i)) (leZ-true (pos 1) quantum)) (leZ-true quantum (pos M)) in
       (λ t. let h = all .0 t in record { start = h .0 .0; least = h .0 .1; most = h .1 }, λ r. all .1 ((r .start, r .least), r .most))
 
   pub input-kept : (j : ℕ) → Means (inputKept p j) (InputRule p j)
@@ -64,6 +65,9 @@ module _ (p : Plan) where
       hi : ℤ
       hi = int (p .highs) j
 
+      limits : Means (within M lo && within M hi) (Within M lo × Within M hi)
+      limits = both (within-means M lo) (within-means M hi)
+
       go : (s t : Bool) → leb kind 1 ≡ s → eqb kind 2 ≡ t
           → Means (ltb a own && cond s (ltb b own && eqb ∣ lo ∣ 0 && eqb ∣ hi ∣ 0)
           (within M lo && within M hi && cond t (eqb b 0 && leZ lo hi) (eqb kind 3 && ltb b own))) (NodeRule p j)
@@ -83,7 +87,7 @@ module _ (p : Plan) where
           )
       go false true e d =
           let is = eqb-true kind 2 d in
-          let all = both (ltb-means a own) (both (both (within-means M lo) (within-means M hi)) (both (eqb-means b 0) (leZ-true lo hi))) in (
+          let all = both (ltb-means a own) (both limits (both (eqb-means b 0) (leZ-true lo hi))) in (
             λ t. let h = all .0 t in record {
               kind = omega arith;
               left = h .0;
@@ -97,7 +101,7 @@ module _ (p : Plan) where
           )
       go false false e d =
           let high = leb-false kind 1 e in let not = eqb-false kind 2 d in
-          let all = both (ltb-means a own) (both (both (within-means M lo) (within-means M hi)) (both (eqb-means kind 3) (ltb-means b own))) in (
+          let all = both (ltb-means a own) (both limits (both (eqb-means kind 3) (ltb-means b own))) in (
             λ t. let h = all .0 t in record {
               kind = omega (arith, h .1 .1 .0);
               left = h .0;
@@ -114,7 +118,8 @@ module _ (p : Plan) where
   unfolding linkLimits linkOrdered
   link-kept e =
       let c = int (p .coefficients) e in
-      let limits = both (both (both (ltb-means _ (p .n)) (ltb-means _ (p .n + p .m + p .k))) (negated (zero-means c))) (within-means 16777216 c) in
+      let names = both (ltb-means _ (p .n)) (ltb-means _ (p .n + p .m + p .k)) in
+      let limits = both (both names (negated (zero-means c))) (within-means 16777216 c) in
       let all = both limits (ascends-means (p .targets) (p .sources) e) in (
         λ t. let h = all .0 t in record {
           target = h .0 .0 .0 .0;
@@ -129,7 +134,8 @@ module _ (p : Plan) where
   pub command-kept : (e : ℕ) → Means (commandLimits p e && commandOrdered p e) (CommandRule p e)
   unfolding commandLimits commandOrdered
   command-kept e =
-      let limits = both (both (both (leb-means 1 _) (leb-means _ (p .horizon))) (ltb-means _ (p .m))) (within-means M (int (p .values) e)) in
+      let tick = both (leb-means 1 _) (leb-means _ (p .horizon)) in
+      let limits = both (both tick (ltb-means _ (p .m))) (within-means M (int (p .values) e)) in
       let all = both limits (ascends-means (p .ticks) (p .numbers) e) in (
         λ t. let h = all .0 t in record {
           least = h .0 .0 .0 .0;

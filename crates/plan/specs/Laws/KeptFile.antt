@@ -19,7 +19,8 @@ module _ (file : List ℕ) where
   pub offsets-kept : Means (offsetsKept file) (OffsetRule file)
   unfolding offsetsKept startIn
   offsets-kept =
-      let all = both (every-means (λ k. eqb-means (offsetIn file k) (startIn file k)) sections) (eqb-means (length file) (startIn file sections)) in (
+      let each = every-means (λ k. eqb-means (offsetIn file k) (startIn file k)) sections in
+      let all = both each (eqb-means (length file) (startIn file sections)) in (
         λ t. let h = all .0 t in record {
           first = h .0 0 (omega arith);
           next = λ k l. h .0 (suc k) l;

@@ -110,7 +110,7 @@ module _ (p : Plan) where
         let d = length-entry k i h in
         rw (← e) (getD-joined (entryWords k) (nat (counts p) k) i c 0 l (omega arith))
 
-    pub section-inside : nat entryWidths k * i + c < length (sectionWords k)
+    section-inside : nat entryWidths k * i + c < length (sectionWords k)
     unfolding sectionWords
     section-inside =
         let e = length-joined (entryWords k) (nat entryWidths k) (nat (counts p) k) (λ j t. length-entry k j h) in

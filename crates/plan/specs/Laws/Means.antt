@@ -1,7 +1,7 @@
--- Tests and the propositions that they mean: numbers, signs, conjunctions, negations, every index, and the order of entries. Assumes nothing.
+-- Tests and the propositions that they mean: of numbers, their connectives, every index, the order of entries. Assumes nothing.
 use mathlib.Core.Path.{_≡_, refl}
 use mathlib.Core.Bool.{Bool, true, false, not, _&&_, _||_, false≢true}
-use mathlib.Core.Logic.{_↔_, _⊎_, inl, inr}
+use mathlib.Core.Logic.{_↔_, Iff·symm, Iff·trans, _⊎_, inl, inr}
 use mathlib.Core.List.{List}
 use Prim.Native.Nat.{ℕ, zero, suc, _-_, _≤_, _<_}
 use native.Mathlib.Omega.{arith}
@@ -55,9 +55,9 @@ pub within-means : (b : ℕ) (z : ℤ) → Means (within b z) (Within b z)
 unfolding within
 within-means b z = both (leZ-true _ z) (leZ-true z _)
 
--- and by the size
+-- within ±b by the size
 pub within-size : (b : ℕ) (z : ℤ) → Within b z ↔ (∣ z ∣ ≤ b)
-within-size b z = (λ h. within-true b z .0 (within-means b z .1 h), λ h. within-means b z .0 (within-true b z .1 h))
+within-size b z = Iff·trans (Iff·symm (within-means b z)) (within-true b z)
 
 -- ---- the order of entries: entry e stands above its predecessor, or has none
 pub ascends-means : (xs ys : List ℕ) (e : ℕ)

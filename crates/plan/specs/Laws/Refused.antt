@@ -1,10 +1,9 @@
 -- The refusals 4 to 9 of a plan: what each stage finds, and that all are clean just where the plan keeps its rules. Assumes nothing.
 use mathlib.Core.Path.{_≡_, refl}
-use mathlib.Core.Bool.{true, _&&_}
+use mathlib.Core.Bool.{true}
 use mathlib.Core.Logic.{_↔_}
 use native.Mathlib.Omega.{arith}
-use Rattle.plan.specs.Tests.{countsKept, horizonKept, integratorKept, inputKept, nodeKept, linkLimits, linkOrdered}
-use Rattle.plan.specs.Tests.{commandLimits, commandOrdered}
+use Rattle.plan.specs.Tests.{countsKept}
 use Rattle.plan.specs.Refusals.{numberOf, entryOf, isClean, horizonFinding, integratorsFinding, inputsFinding, nodesFinding}
 use Rattle.plan.specs.Refusals.{linksFinding, commandsFinding, planFinding}
 use Rattle.plan.specs.Rules.{HorizonRule, IntegratorRule, InputRule, NodeRule, LinkRule, CommandRule, PlanRules}
@@ -16,30 +15,27 @@ use Rattle.plan.specs.Laws.Findings.{Judged, judged-one, judged-all, cle
 module _ (p : Plan) where
   pub horizon-judged : Judged (λ _. HorizonRule p) 4 0 1 (horizonFinding p)
   unfolding horizonFinding numberOf entryOf
-  horizon-judged = judged-one 4 (omega arith) 0 (horizonKept (p .horizon)) Horizon (horizon-kept p) refl refl
+  horizon-judged = judged-one 4 (omega arith) 0 _ Horizon (horizon-kept p) refl refl
 
   pub integrators-judged : Judged (IntegratorRule p) 5 0 (p .n) (integratorsFinding p)
   unfolding integratorsFinding numberOf entryOf
-  integrators-judged =
-      judged-all 5 (omega arith) (integratorKept p) Integrator (integrator-kept p) (λ e. refl) (λ e. refl) (p .n)
+  integrators-judged = judged-all 5 (omega arith) _ Integrator (integrator-kept p) (λ e. refl) (λ e. refl) (p .n)
 
   pub inputs-judged : Judged (InputRule p) 6 0 (p .m) (inputsFinding p)
   unfolding inputsFinding numberOf entryOf
-  inputs-judged = judged-all 6 (omega arith) (inputKept p) Input (input-kept p) (λ e. refl) (λ e. refl) (p .m)
+  inputs-judged = judged-all 6 (omega arith) _ Input (input-kept p) (λ e. refl) (λ e. refl) (p .m)
 
   pub nodes-judged : Judged (NodeRule p) 7 0 (p .k) (nodesFinding p)
   unfolding nodesFinding numberOf entryOf
-  nodes-judged = judged-all 7 (omega arith) (nodeKept p) Node (node-kept p) (λ e. refl) (λ e. refl) (p .k)
+  nodes-judged = judged-all 7 (omega arith) _ Node (node-kept p) (λ e. refl) (λ e. refl) (p .k)
 
   pub links-judged : Judged (LinkRule p) 8 0 (p .links) (linksFinding p)
   unfolding linksFinding numberOf entryOf
-  links-judged =
-      judged-all 8 (omega arith) (λ e. linkLimits p e && linkOrdered p e) Link (link-kept p) (λ e. refl) (λ e. refl) (p .links)
+  links-judged = judged-all 8 (omega arith) _ Link (link-kept p) (λ e. refl) (λ e. refl) (p .links)
 
   pub commands-judged : Judged (CommandRule p) 9 0 (p .commands) (commandsFinding p)
   unfolding commandsFinding numberOf entryOf
-  commands-judged =
-      judged-all 9 (omega arith) (λ e. commandLimits p e && commandOrdered p e) Command (command-kept p) (λ e. refl) (λ e. refl) (p .commands)
+  commands-judged = judged-all 9 (omega arith) _ Command (command-kept p) (λ e. refl) (λ e. refl) (p .commands)
 
   pub plan-rules : ((countsKept p ≡ true) × (isClean (planFinding p) ≡ true)) ↔ PlanRules p
   unfolding planFinding

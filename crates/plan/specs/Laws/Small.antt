@@ -2,14 +2,14 @@
 use mathlib.Core.Bool.{Bool, true, false}
 use mathlib.Core.List.{List, [], _∷_, _++_}
 use mathlib.Core.Path.{_≡_, refl}
-use Prim.Native.Nat.{ℕ, zero, suc, _+_, _-_, _*_, _^_, _≤_, _<_}
+use Prim.Native.Nat.{ℕ, zero, suc, _+_, _^_, _≤_, _<_}
 use native.Mathlib.Omega.{arith}
 use lib.IntN.{ℤ, pos, negsuc}
 use lib.Signed.{mag, _≤ℤ_}
 use lib.Dec.{leb, eqb}
 use lib.ListN.{getD}
 use borrow.Author.Tests.{leb-true, leb-false, eqb-true, eqb-false}
-use Rattle.integers.specs.Parts.{neg, zs}
+use Rattle.integers.specs.Parts.{∣_∣, neg, tight, zs}
 use Rattle.words.specs.Word.{wordOf}
 use Rattle.words.specs.Signs.{unsigned-lt}
 use Rattle.plan.specs.Lists.{nat, int, joined}
@@ -41,14 +41,18 @@ small-joined f zero s = tt
 small-joined f (suc n) s = small-append (joined f n) (f n) (small-joined f n (λ i h. s i (omega arith))) (s n (omega arith))
 
 -- ---- the numbers of an entry
+-- the library's bound of a signed number is at most its size
+pub size-mag : (z : ℤ) → mag z ≤ ∣ z ∣
+size-mag (pos n) = omega arith
+size-mag (negsuc n) = omega arith
+
 pub signed-size : (z : ℤ) → Within M z → mag z < 2 ^ 31
-signed-size (pos n) h = omega (arith, zs)
-signed-size (negsuc n) h = omega (arith, zs, neg (pos M))
+signed-size z h = omega (arith, zs, neg (pos M), tight z, size-mag z)
 
 pub coefficient-within : {z : ℤ} → Within 16777216 z → Within M z
 coefficient-within h = omega (arith, zs, neg (pos 16777216), neg (pos M))
 
-pub quantum-within : {z : ℤ} → pos 1 ≤ℤ z → z ≤ℤ pos M → Within M z
+quantum-within : {z : ℤ} → pos 1 ≤ℤ z → z ≤ℤ pos M → Within M z
 quantum-within h l = omega (arith, zs, neg (pos M))
 
 signed-small : (z : ℤ) → Within M z → wordOf z < 2 ^ 32

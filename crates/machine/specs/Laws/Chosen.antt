@@ -1,0 +1,29 @@
+-- Blocks of one length, one behind the other, of those numbers that pass a test: where each stands. Assumes nothing.
+use mathlib.Core.Path.{_≡_, ap, _∙_}
+use mathlib.Core.Bool.{Bool, true, false, cond}
+use mathlib.Core.List.{List, []}
+use Prim.Native.Nat.{ℕ, zero, suc, _+_, _*_, _≤_, _<_}
+use native.Mathlib.Omega.{arith}
+use lib.ListN.{length, length-append}
+use Rattle.bitset.specs.Mask.{countOf}
+use Rattle.words.specs.Word.{numberAt}
+use Rattle.plan.specs.Lists.{joined}
+use Rattle.plan.specs.Laws.Joined.{number-joined}
+
+module _ (test : ℕ → Bool) (block : ℕ → List ℕ) (w : ℕ) (size : (i : ℕ) → length (block i) ≡ w) where
+  pub length-chosen : (n : ℕ) → length (joined (λ i. cond (test i) (block i) []) n) ≡ w * countOf test n
+  unfolding joined countOf
+  length-chosen zero = omega arith
+  length-chosen (suc n) = rw length-append (go (test n) _ (countOf test n) (length-chosen n))
+    where
+      go : (b : Bool) (l c : ℕ) → l ≡ w * c → l + length (cond b (block n) []) ≡ w * cond b (suc c) c
+      go true l c e = omega (arith, size n)
+      go false l c e = omega arith
+
+  -- a number is read in the block of i as behind the blocks before it
+  pub number-chosen : (bytes n i c : ℕ) → i < n → test i ≡ true → c + bytes ≤ w
+      → numberAt bytes (joined (λ i. cond (test i) (block i) []) n) (w * countOf test i + c) ≡ numberAt bytes (block i) c
+  number-chosen bytes n i c h t l =
+      let chosen : cond (test i) (block i) [] ≡ block i = rw t in
+      let inside : c + bytes ≤ length (cond (test i) (block i) []) = rw (chosen, size i) l in
+      rw (← length-chosen i) (number-joined bytes (λ j. cond (test j) (block j) []) n i c h inside ∙ ap (λ s. numberAt bytes s c) chosen)

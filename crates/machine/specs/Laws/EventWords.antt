@@ -1,0 +1,73 @@
+-- The events of an instant are read as they were written: tick, source and signed value of each. Assumes nothing.
+use mathlib.Core.Path.{_≡_, ap, _∙_}
+use mathlib.Core.Bool.{true}
+use mathlib.Core.List.{List, [], _∷_}
+use Prim.Native.Nat.{ℕ, zero, _+_, _*_, _^_, _≤_, _<_}
+use native.Mathlib.Nat.{add-zero}
+use native.Mathlib.Omega.{arith}
+use lib.IntN.{ℤ}
+use lib.Signed.{mag}
+use lib.ListN.{length}
+use Rattle.integers.specs.Parts.{∣_∣}
+use Rattle.bitset.specs.Mask.{countOf}
+use Rattle.words.specs.Word.{numberAt, signedOf, word, signedWord, wordOf}
+use Rattle.words.specs.Flat.{length-flat, word-flat}
+use Rattle.words.specs.Signs.{signed-unsigned, unsigned-lt}
+use Rattle.plan.specs.Format.{M}
+use Rattle.plan.specs.Laws.Small.{size-mag}
+use Rattle.plan.specs.declared.Plan.{Plan}
+use Rattle.machine.specs.Values.{valueWith}
+use Rattle.machine.specs.Reach.{changes}
+use Rattle.machine.specs.Instant.{eventBytes, eventsAt}
+use Rattle.machine.specs.Laws.Chosen.{length-chosen, number-chosen}
+
+-- ---- one event
+module _ (t source : ℕ) (value : ℤ) where
+  pub length-event : length (eventBytes t source value) ≡ 12
+  unfolding eventBytes
+  length-event = length-flat (t ∷ source ∷ wordOf value ∷ [])
+
+  pub event-tick : t < 2 ^ 32 → word (eventBytes t source value) 0 ≡ t
+  unfolding eventBytes
+  event-tick h = word-flat (t ∷ source ∷ wordOf value ∷ []) 0 (omega arith) h
+
+  pub event-source : source < 2 ^ 32 → word (eventBytes t source value) 4 ≡ source
+  unfolding eventBytes
+  event-source h = word-flat (t ∷ source ∷ wordOf value ∷ []) 1 (omega arith) h
+
+  pub event-value : ∣ value ∣ ≤ M → signedWord (eventBytes t source value) 8 ≡ value
+  unfolding eventBytes
+  event-value h =
+      let small : mag value < 2 ^ 31 = omega (arith, size-mag value) in
+      ap (signedOf 4) (word-flat (t ∷ source ∷ wordOf value ∷ []) 2 (omega arith) (unsigned-lt 4 (omega arith) value small))
+      ∙ signed-unsigned 4 (omega arith) value small
+
+-- ---- the events of an instant
+-- the bytes of source i's event
+abbrev pub eventOf : Plan → ℕ → List ℤ → List ℤ → ℕ → List ℕ
+eventOf p t q u i = eventBytes t i (valueWith p q u zero i)
+
+module _ (p : Plan) (t : ℕ) (d : List ℕ) (q u : List ℤ) where
+  length-one : (i : ℕ) → length (eventOf p t q u i) ≡ 12
+  length-one i = length-event t i (valueWith p q u zero i)
+
+  pub length-events : length (eventsAt p t d q u) ≡ 12 * countOf (changes p d t) (p .n + p .m)
+  unfolding eventsAt
+  length-events = length-chosen (changes p d t) (eventOf p t q u) 12 length-one (p .n + p .m)
+
+  -- the event of source i stands behind those of the sources below it
+  module _ (i : ℕ) (h : i < p .n + p .m) (c : changes p d t i ≡ true) where
+    pub events-number : (bytes at : ℕ) → at + bytes ≤ 12
+        → numberAt bytes (eventsAt p t d q u) (12 * countOf (changes p d t) i + at) ≡ numberAt bytes (eventOf p t q u i) at
+    unfolding eventsAt
+    events-number bytes at l = number-chosen (changes p d t) (eventOf p t q u) 12 length-one bytes (p .n + p .m) i at h c l
+
+    pub events-tick : t < 2 ^ 32 → word (eventsAt p t d q u) (12 * countOf (changes p d t) i) ≡ t
+    events-tick s = rw add-zero at (events-number 4 0 (omega arith)) ∙ event-tick t i (valueWith p q u zero i) s
+
+    pub events-source : i < 2 ^ 32 → word (eventsAt p t d q u) (12 * countOf (changes p d t) i + 4) ≡ i
+    events-source s = events-number 4 4 (omega arith) ∙ event-source t i (valueWith p q u zero i) s
+
+    pub events-value : ∣ valueWith p q u zero i ∣ ≤ M
+        → signedWord (eventsAt p t d q u) (12 * countOf (changes p d t) i + 8) ≡ valueWith p q u zero i
+    events-value s = ap (signedOf 4) (events-number 4 8 (omega arith)) ∙ event-value t i (valueWith p q u zero i) s
