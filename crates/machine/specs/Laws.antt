@@ -22,3 +22,4 @@ pub mod Tested
 pub mod Began
 pub mod Chosen
 pub mod EventWords
+pub mod Lengths

@@ -1,0 +1,38 @@
+-- How many bytes the events of an instant and of a run have at most: 12 for each integrator and input, at each instant. Assumes nothing.
+use mathlib.Core.Bool.{Bool, true, false, cond}
+use mathlib.Core.List.{List, [], _++_}
+use Prim.Native.Nat.{ℕ, zero, suc, _+_, _*_, _≤_}
+use native.Mathlib.Omega.{arith}
+use lib.ListN.{length, length-append}
+use Rattle.bitset.specs.Counts.{countOf-le}
+use Rattle.plan.specs.declared.Plan.{Plan}
+use Rattle.machine.specs.Reach.{changes}
+use Rattle.machine.specs.Instant.{settings, outputs, tickOf, instant, eventsOf}
+use Rattle.machine.specs.Status.{isPaused}
+use Rattle.machine.specs.Runs.{events}
+use Rattle.machine.specs.Laws.EventWords.{length-events}
+use Rattle.machine.specs.declared.Running.{Running}
+use Rattle.machine.specs.declared.Engine.{Engine}
+
+module _ (p : Plan) where
+  pub instant-bytes : (r : Running) → length (eventsOf p r) ≤ (p .n + p .m) * 12
+  unfolding eventsOf
+  instant-bytes r =
+      let t = tickOf p r in
+      omega (
+        arith,
+        length-events p t (r .d) (outputs p r t) (settings p (r .inputs) t),
+        countOf-le (changes p (r .d) t) (p .n + p .m),
+      )
+
+  pub run-bytes : (engine : Engine) (b : ℕ) (r : Running) → length (events p engine b r) ≤ b * (p .n + p .m) * 12
+  unfolding events
+  run-bytes engine zero r = omega arith
+  run-bytes engine (suc b) r = go (isPaused p r) (run-bytes engine b (instant p engine r))
+    where
+      rest : List ℕ
+      rest = events p engine b (instant p engine r)
+
+      go : (c : Bool) → length rest ≤ b * (p .n + p .m) * 12 → length (cond c (eventsOf p r ++ rest) []) ≤ suc b * (p .n + p .m) * 12
+      go true h = omega (arith, length-append (eventsOf p r) rest, instant-bytes r)
+      go false h = omega arith
