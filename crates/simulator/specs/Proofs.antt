@@ -1,7 +1,10 @@
 -- Each promise proved: a term of exactly the type that Promises.antt states.
 pub mod Machine
-pub mod StateLimits
 pub mod Numbers
 pub mod Calls
+pub mod StateLimits
+pub mod Limits
 pub mod Schedule
 pub mod Cuts
+pub mod Plain
+pub mod Demand3
