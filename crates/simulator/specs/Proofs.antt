@@ -8,3 +8,4 @@ pub mod Schedule
 pub mod Cuts
 pub mod Plain
 pub mod Demand3
+pub mod Runs

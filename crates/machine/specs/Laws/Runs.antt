@@ -1,18 +1,19 @@
 -- Runs, instant by instant: a list names the engine of each. Whatever the list, the run leaves a sound state that agrees with the plain
 -- machine run for as many instants, with the same events. Assumes nothing.
 use mathlib.Core.Path.{_≡_, refl, sym, ap, ap₂, _∙_}
-use mathlib.Core.Bool.{Bool, true, false, cond}
+use mathlib.Core.Bool.{Bool, true, false, cond, true≢false}
 use mathlib.Core.List.{List, [], _∷_, _++_, append-assoc}
-use Prim.Native.Nat.{ℕ, zero, suc}
+use Prim.Native.Nat.{ℕ, zero, suc, _≤_, _<_}
+use native.Mathlib.Omega.{arith}
 use lib.Dec.{eqb}
 use lib.ListN.{length, replicate}
 use Rattle.plan.specs.declared.Plan.{Plan}
-use Rattle.machine.specs.Instant.{instant, eventsOf}
+use Rattle.machine.specs.Instant.{takenAt, instant, eventsOf}
 use Rattle.machine.specs.Status.{statusOf, isPaused}
 use Rattle.machine.specs.Runs.{after, events}
 use Rattle.machine.specs.Plain.{Plain, plainInstant, plainEventsOf, plainStatus, plainFrom, plainEventsFrom}
 use Rattle.machine.specs.Sound.{SoundRunning}
-use Rattle.machine.specs.Laws.Soundness.{instant-sound}
+use Rattle.machine.specs.Laws.Soundness.{tick-after, instant-sound}
 use Rattle.machine.specs.Laws.Agreement.{Agrees, same-status, same-events, agrees-then}
 use Rattle.machine.specs.declared.Running.{Running}
 use Rattle.machine.specs.declared.Engine.{Engine}
@@ -88,6 +89,38 @@ module _ (p : Plan) where
           → SoundRunning p (cond b (afterBy engines next) r)
       go true e ih = ih e
       go false e ih = ok
+
+  -- ---- the clock goes on
+  instant-clock : (engine : Engine) (r : Running) → SoundRunning p r → r .clock < instant p engine r .clock
+  unfolding instant takenAt
+  instant-clock engine r ok = tick-after p r ok
+
+  clock-least : (engines : List Engine) (r : Running) → SoundRunning p r → r .clock ≤ afterBy engines r .clock
+  unfolding afterBy
+  clock-least [] r ok = omega arith
+  clock-least (engine ∷ engines) r ok =
+      go (isPaused p r) refl (λ e. clock-least engines (instant p engine r) (instant-sound p r ok e engine))
+    where
+      next : Running
+      next = instant p engine r
+
+      go : (b : Bool) → isPaused p r ≡ b → (isPaused p r ≡ true → next .clock ≤ afterBy engines next .clock)
+          → r .clock ≤ cond b (afterBy engines next) r .clock
+      go true e ih = omega (arith, ih e, instant-clock engine r ok)
+      go false e ih = omega arith
+
+  -- a run that is still paused has moved it
+  pub clock-moves : (engine : Engine) (engines : List Engine) (r : Running) → SoundRunning p r
+      → isPaused p (afterBy (engine ∷ engines) r) ≡ true → r .clock < afterBy (engine ∷ engines) r .clock
+  unfolding afterBy
+  clock-moves engine engines r ok = go (isPaused p r) refl
+    where
+      next : Running
+      next = instant p engine r
+
+      go : (b : Bool) → isPaused p r ≡ b → isPaused p (cond b (afterBy engines next) r) ≡ true → r .clock < cond b (afterBy engines next) r .clock
+      go true e t = omega (arith, instant-clock engine r ok, clock-least engines next (instant-sound p r ok e engine))
+      go false e t = absurd (true≢false (sym t ∙ e))
 
   -- ---- together with the plain machine
   pub record Together (engines : List Engine) (r : Running) (m : Plain) : Type 0 where
