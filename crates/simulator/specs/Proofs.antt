@@ -3,9 +3,13 @@ pub mod Machine
 pub mod Numbers
 pub mod Calls
 pub mod StateLimits
+pub mod Files
 pub mod Limits
+pub mod Sound
+pub mod RoundTrips
+pub mod Events
 pub mod Schedule
 pub mod Cuts
 pub mod Plain
-pub mod Demand3
 pub mod Runs
+pub mod Demand3

@@ -5,11 +5,7 @@ use Prim.Native.Nat.{ℕ, zero, suc, _+_, _-_, _≤_, _<_}
 use native.Mathlib.Omega.{arith}
 use lib.ListN.{length, take, drop, replicate, length-replicate, getD-replicate, take-append-drop}
 use lib.Seq.{length-take-le}
-use borrow.Author.Tests.{eq-eqb}
 use Rattle.plan.specs.Format.{planIn}
-use Rattle.plan.specs.Refusals.{isClean, findingOf, accepted}
-use Rattle.plan.specs.Rules.{PlanRules}
-use Rattle.plan.specs.Unused.{PlanUnused}
 use Rattle.plan.specs.Laws.Answers.{accepted-rules}
 use Rattle.plan.specs.Laws.Entries.{file-unused}
 use Rattle.plan.specs.declared.Plan.{Plan}
@@ -26,10 +22,10 @@ use Rattle.machine.specs.declared.Running.{Running}
 use Rattle.machine.specs.declared.State.{State}
 use Rattle.machine.specs.declared.Engine.{Engine}
 use Rattle.machine.specs.declared.Engine.the-variants.{Lazy, Eager}
-use Rattle.simulator.specs.Calls.{loadOf}
 use Rattle.simulator.specs.Lists.{Call, afterCalls, budgetSum, joinedBytes, engineAt, cutAt, restAt, allBy}
 use Rattle.simulator.specs.Promises.{SameAsPlain, InstantPromise, ListPromise, Demand3}
-use Rattle.simulator.specs.Proofs.Schedule.{at, schedule, calls-state, calls-sum, calls-bytes, calls-sound}
+use Rattle.simulator.specs.Proofs.Files.{load-accepted, every-file}
+use Rattle.simulator.specs.Proofs.Schedule.{at, schedule, calls-state, calls-sum, calls-bytes}
 use Rattle.simulator.specs.Proofs.Cuts.{schedule-cut, schedule-rest, engine-at, schedule-all}
 use Rattle.simulator.specs.Proofs.Plain.{call-promise, same-as-plain}
 
@@ -150,7 +146,8 @@ module _ (p : Plan) (ok : SoundRunning p (startOf p)) where
       }
 
 pub demand-3 : Demand3
-unfolding loadOf accepted isClean startState
+unfolding startState
 demand-3 file bytes loads calls =
-    let clean = eq-eqb _ 0 loads in
-    rw clean (list-promise (planIn file) (start-sound (planIn file) (accepted-rules file clean) (file-unused file)) calls)
+    let p = planIn file in
+    let ok = start-sound p (accepted-rules file (load-accepted file loads)) (file-unused file) in
+    rw (every-file file bytes .started loads) (list-promise p ok calls)

@@ -11,7 +11,6 @@ use lib.ListN.{length}
 use borrow.Author.Tests.{eq-eqb}
 use Rattle.integers.specs.Parts.{∣_∣}
 use Rattle.words.specs.Word.{Bytes}
-use Rattle.plan.specs.Refusals.{numberOf, isClean, findingOf, accepted}
 use Rattle.plan.specs.Laws.Answers.{number-below, entry-below, accepted-offsets, accepted-sizes}
 use Rattle.plan.specs.Laws.Counts.{Counts, counts-of}
 use Rattle.plan.specs.Laws.Layout.{file-most}
@@ -28,14 +27,14 @@ use Rattle.simulator.specs.Calls.{loadOf, writeNumber, writeOf, roomOf, 
 use Rattle.simulator.specs.Calls.{positionedOf}
 use Rattle.simulator.specs.Limits.{RunLimits, AcceptedLimits, FileLimits, AnswerLimits}
 use Rattle.simulator.specs.Promises.{LimitPromise}
+use Rattle.simulator.specs.Proofs.Files.{load-accepted}
 use Rattle.simulator.specs.Proofs.Numbers.{accept-cases, write-most, write-zero, run-most, run-zero, position-most, position-zero}
 use Rattle.simulator.specs.Proofs.StateLimits.{rate-limits, level-limits, room-most, state-limits}
 
 -- ---- files
 accepted-limits : (file : List ℕ) → loadOf file .number ≡ 0 → AcceptedLimits file
-unfolding loadOf accepted isClean
 accepted-limits file e =
-    let yes : accepted file ≡ true = eq-eqb (numberOf (findingOf file)) 0 e in
+    let yes = load-accepted file e in
     let limits = file-limits file (accepted-sizes file yes) (accepted-offsets file yes) in
     record { shortest = limits .0; longest = limits .1 }
 

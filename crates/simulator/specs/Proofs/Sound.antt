@@ -1,0 +1,25 @@
+-- The test that the calls try is the clauses of a sound state; loaded states are sound; the idle state, with its file. Assumes nothing.
+use Rattle.plan.specs.Format.{planIn}
+use Rattle.plan.specs.Tests.{counts}
+use Rattle.plan.specs.Encoding.{lengthOf, offsetOf, fileLength}
+use Rattle.plan.specs.Idle.{idlePlan}
+use Rattle.plan.specs.Laws.Answers.{accepted-rules}
+use Rattle.plan.specs.Laws.Entries.{file-unused}
+use Rattle.plan.specs.Laws.IdlePlan.{idle-rules, idle-unused, idle-shaped}
+use Rattle.plan.specs.Laws.Layout.{length-encode}
+use Rattle.machine.specs.Start.{idleState}
+use Rattle.machine.specs.Sound.{Sound}
+use Rattle.machine.specs.Laws.Began.{start-sound, idle-sound}
+use Rattle.simulator.specs.Promises.{SoundMeans, LoadSound, IdleLoaded}
+use Rattle.simulator.specs.Proofs.Files.{load-either, load-encoded}
+
+pub sound-means : SoundMeans
+sound-means = Rattle.machine.specs.Laws.Tested.sound-means
+
+pub load-sound : LoadSound
+load-sound file bytes =
+    load-either file Sound (λ yes. start-sound (planIn file) (accepted-rules file yes) (file-unused file)) idle-sound
+
+pub idle-loaded : IdleLoaded
+unfolding idleState counts lengthOf offsetOf fileLength
+idle-loaded = (length-encode idlePlan, load-encoded idlePlan idle-rules idle-unused idle-shaped, idle-sound)
