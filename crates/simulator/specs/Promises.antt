@@ -1,4 +1,5 @@
--- The promises, as statements. Each is a type: a proof of it is a term of exactly that type. Nothing is assumed here, and nothing proved.
+-- The promises, as statements. Each is a type: a proof of it is a term of exactly that type, and stands in Proofs. Nothing is assumed here, and
+-- nothing proved.
 use mathlib.Core.Path.{_≡_}
 use mathlib.Core.Bool.{true}
 use mathlib.Core.Logic.{_⊎_}
@@ -228,6 +229,13 @@ LoadSound = (file : List ℕ) → Bytes file → Sound (loadOf file .state)
 abbrev pub RunSound : Type 0
 RunSound = (engine : Engine) (st : State) (budget : ℕ) (buffer : List ℕ) → Sound st → Sound (runOf engine st budget buffer .state)
 
+-- a sound state's next command is determined: it is the only number of which "the first with tick above c, or the command count if none" holds
+abbrev pub NextDetermined : Type 0
+NextDetermined =
+    (st : State) (next : ℕ) → Sound st → next ≤ st .plan .commands → ((e : ℕ) → e < next → nat (st .plan .ticks) e ≤ st .run .clock)
+    → (next < st .plan .commands → st .run .clock < nat (st .plan .ticks) next)
+    → st .run .next ≡ next
+
 -- an accepted run that is paused has moved the clock on
 abbrev pub RunMoves : Type 0
 RunMoves =
@@ -308,3 +316,30 @@ pub record LimitPromise : Type 0 where
       → LevelLimits p q i x s
   pub states : (st : State) → Sound st → StateLimits (st .plan) (st .run)
   pub answers : (st : State) → AnswerLimits st
+
+-- ════ All of them
+pub record EveryPromise : Type 0 where
+  pub every-file : EveryFile
+  pub every-view : EveryView
+  pub load-then-write : LoadThenWrite
+  pub write-then-load : WriteThenLoad
+  pub load-shaped : LoadShaped
+  pub events-read : EventsRead
+  pub next-means : NextMeans
+  pub status-means : StatusMeans
+  pub reach-means : ReachMeans
+  pub frame : Frame
+  pub plain-takes : PlainTakes
+  pub demand-3 : Demand3
+  pub sound-means : SoundMeans
+  pub load-sound : LoadSound
+  pub run-sound : RunSound
+  pub next-determined : NextDetermined
+  pub run-moves : RunMoves
+  pub idle-loaded : IdleLoaded
+  pub every-number : EveryNumber
+  pub every-buffer : EveryBuffer
+  pub declined : Declined
+  pub due-least : DueLeast
+  pub due-between : DueBetween
+  pub limits : LimitPromise

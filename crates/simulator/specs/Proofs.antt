@@ -13,3 +13,4 @@ pub mod Cuts
 pub mod Plain
 pub mod Runs
 pub mod Demand3
+pub mod All

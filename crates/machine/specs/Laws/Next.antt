@@ -7,9 +7,9 @@ use mathlib.Core.List.{List}
 use Prim.Native.Nat.{ℕ, zero, suc, _≤_, _<_, min}
 use native.Mathlib.Omega.{arith, min-cases}
 use lib.Dec.{ltb}
-use borrow.Author.Tests.{ltb-true, ltb-false, lt-ltb}
+use borrow.Author.Tests.{ltb-true, ltb-false, lt-ltb, le-ltb}
 use Rattle.plan.specs.Lists.{nat}
-use Rattle.plan.specs.Laws.Searches.{below-suc, First, first}
+use Rattle.plan.specs.Laws.Searches.{below-suc, First, first, first-unique}
 use Rattle.plan.specs.declared.Plan.{Plan}
 use Rattle.machine.specs.Due.{never}
 use Rattle.machine.specs.Next.{nextCommand, commandTick, leastDue, nextTick}
@@ -53,6 +53,19 @@ module _ (p : Plan) (c : ℕ) where
 
   pub command-most : nextCommand p c ≤ p .commands
   command-most = omega (arith, found .most)
+
+  -- these determine it
+  pub command-is : (next : ℕ) → next ≤ p .commands → ((e : ℕ) → e < next → nat (p .ticks) e ≤ c) → (next < p .commands → c < nat (p .ticks) next)
+      → next ≡ nextCommand p c
+  unfolding nextCommand
+  command-is next h before this =
+      first-unique (λ e. ltb c (nat (p .ticks) e)) 0 (p .commands) next
+      (record {
+        from = omega arith;
+        most = omega arith;
+        earlier = λ e l k. le-ltb c (nat (p .ticks) e) (before e k);
+        passes = λ l. lt-ltb c (nat (p .ticks) next) (this (omega arith));
+      })
 
 -- ---- the next tick
 module _ (p : Plan) (d : List ℕ) (next : ℕ) where

@@ -1,4 +1,5 @@
--- The test that the calls try is the clauses of a sound state; loaded states are sound; the idle state, with its file. Assumes nothing.
+-- The test that the calls try is the clauses of a sound state; loaded states are sound; the idle state, with its file; the next command. Assumes nothing.
+use mathlib.Core.Path.{sym, _∙_}
 use Rattle.plan.specs.Format.{planIn}
 use Rattle.plan.specs.Tests.{counts}
 use Rattle.plan.specs.Encoding.{lengthOf, offsetOf, fileLength}
@@ -10,7 +11,8 @@ use Rattle.plan.specs.Laws.Layout.{length-encode}
 use Rattle.machine.specs.Start.{idleState}
 use Rattle.machine.specs.Sound.{Sound}
 use Rattle.machine.specs.Laws.Began.{start-sound, idle-sound}
-use Rattle.simulator.specs.Promises.{SoundMeans, LoadSound, IdleLoaded}
+use Rattle.machine.specs.Laws.Next.{command-is}
+use Rattle.simulator.specs.Promises.{SoundMeans, LoadSound, IdleLoaded, NextDetermined}
 use Rattle.simulator.specs.Proofs.Files.{load-either, load-encoded}
 
 pub sound-means : SoundMeans
@@ -23,3 +25,6 @@ load-sound file bytes =
 pub idle-loaded : IdleLoaded
 unfolding idleState counts lengthOf offsetOf fileLength
 idle-loaded = (length-encode idlePlan, load-encoded idlePlan idle-rules idle-unused idle-shaped, idle-sound)
+
+pub next-determined : NextDetermined
+next-determined st next ok h before this = ok .next ∙ sym (command-is (st .plan) (st .run .clock) next h before this)

@@ -1,0 +1,40 @@
+-- Every promise holds. Assumes nothing.
+use Rattle.simulator.specs.Promises.{EveryPromise}
+use Rattle.simulator.specs.Proofs.Machine.{next-means, status-means, reach-promise, frame, due-least, due-between, plain-takes}
+use Rattle.simulator.specs.Proofs.Calls.{every-number, every-buffer, declined}
+use Rattle.simulator.specs.Proofs.Files.{every-file, every-view, load-shaped}
+use Rattle.simulator.specs.Proofs.Limits.{limits}
+use Rattle.simulator.specs.Proofs.Sound.{sound-means, load-sound, idle-loaded, next-determined}
+use Rattle.simulator.specs.Proofs.RoundTrips.{load-then-write, write-then-load}
+use Rattle.simulator.specs.Proofs.Events.{events-read}
+use Rattle.simulator.specs.Proofs.Runs.{run-sound, run-moves}
+use Rattle.simulator.specs.Proofs.Demand3.{demand-3}
+
+pub every-promise : EveryPromise
+every-promise =
+    record {
+      every-file = every-file;
+      every-view = every-view;
+      load-then-write = load-then-write;
+      write-then-load = write-then-load;
+      load-shaped = load-shaped;
+      events-read = events-read;
+      next-means = next-means;
+      status-means = status-means;
+      reach-means = reach-promise;
+      frame = frame;
+      plain-takes = plain-takes;
+      demand-3 = demand-3;
+      sound-means = sound-means;
+      load-sound = load-sound;
+      run-sound = run-sound;
+      next-determined = next-determined;
+      run-moves = run-moves;
+      idle-loaded = idle-loaded;
+      every-number = every-number;
+      every-buffer = every-buffer;
+      declined = declined;
+      due-least = due-least;
+      due-between = due-between;
+      limits = limits;
+    }
