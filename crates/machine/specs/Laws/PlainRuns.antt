@@ -31,25 +31,16 @@ module _ (p : Plan) where
       go true e ih = ih
       go false e ih = sym (plain-stopped b m e)
 
-  pub plain-most : (b : ℕ) (m : Plain) → plainFrom p b m .instants ≤ m .instants + b
+  -- it takes no instant back, and no more than its budget
+  plain-range : (b : ℕ) (m : Plain) → (m .instants ≤ plainFrom p b m .instants) × (plainFrom p b m .instants ≤ m .instants + b)
   unfolding plainFrom
-  plain-most zero m = omega arith
-  plain-most (suc b) m = go (eqb (plainStatus p m) 0) (plain-most b (plainInstant p m))
+  plain-range zero m = omega arith
+  plain-range (suc b) m = go (eqb (plainStatus p m) 0) (plainFrom p b (plainInstant p m)) (plain-range b (plainInstant p m))
     where
-      go : (c : Bool) → plainFrom p b (plainInstant p m) .instants ≤ plainInstant p m .instants + b
-          → cond c (plainFrom p b (plainInstant p m)) m .instants ≤ m .instants + suc b
-      go true ih = omega (arith, instant-counts m)
-      go false ih = omega arith
-
-  pub plain-least : (b : ℕ) (m : Plain) → m .instants ≤ plainFrom p b m .instants
-  unfolding plainFrom
-  plain-least zero m = omega arith
-  plain-least (suc b) m = go (eqb (plainStatus p m) 0) (plain-least b (plainInstant p m))
-    where
-      go : (c : Bool) → plainInstant p m .instants ≤ plainFrom p b (plainInstant p m) .instants
-          → m .instants ≤ cond c (plainFrom p b (plainInstant p m)) m .instants
-      go true ih = omega (arith, instant-counts m)
-      go false ih = omega arith
+      go : (c : Bool) (end : Plain) → (plainInstant p m .instants ≤ end .instants) × (end .instants ≤ plainInstant p m .instants + b)
+          → (m .instants ≤ cond c end m .instants) × (cond c end m .instants ≤ m .instants + suc b)
+      go true end ih = omega (arith, ih, instant-counts m)
+      go false end ih = omega arith
 
   -- where it is still paused it took all of its budget
   pub plain-all : (b : ℕ) (m : Plain) → plainStatus p (plainFrom p b m) ≡ 0 → plainFrom p b m .instants ≡ m .instants + b
@@ -71,7 +62,7 @@ module _ (p : Plan) where
   -- "it takes B instants, or fewer if its status is first 1 or 2"
   pub takes-most : (b : ℕ) → plainAfter p b .instants ≤ b
   unfolding plainAfter
-  takes-most b = omega (arith, plain-most b (plainStart p), start-counts)
+  takes-most b = omega (arith, plain-range b (plainStart p), start-counts)
 
   pub takes-all : (b : ℕ) → plainStatus p (plainAfter p b) ≡ 0 → plainAfter p b .instants ≡ b
   unfolding plainAfter
@@ -123,5 +114,5 @@ module _ (p : Plan) where
           let z = eqb-true (plainStatus p (plainAfter p k)) 0 e in
           let one-more = ap (λ m. m .instants) (after-next k z) ∙ instant-counts (plainAfter p k) in
           let whole = ap (λ m. m .instants) (ap (plainAfter p) split ∙ after-more (k + 1) (b - (k + 1))) in
-          absurd (omega (arith, takes-all k z, plain-least (b - (k + 1)) (plainAfter p (k + 1))))
+          absurd (omega (arith, takes-all k z, plain-range (b - (k + 1)) (plainAfter p (k + 1))))
       go false e = refl

@@ -76,19 +76,25 @@ module _ (p : Plan) where
       go true e ih = rw ih (sym (append-assoc (eventsOf p r) (eventsBy first next) (eventsBy then (afterBy first next))))
       go false e ih = sym (events-stopped then r e)
 
-  -- ---- a run leaves a sound state
-  pub run-sound : (engines : List Engine) (r : Running) → SoundRunning p r → SoundRunning p (afterBy engines r)
+  -- ---- what the end of a run has from its beginning, where each instant hands it on
+  along : (P : Running → Running → Type 0) → ((r : Running) → SoundRunning p r → P r r)
+      → ((engine : Engine) (r end : Running) → SoundRunning p r → P (instant p engine r) end → P r end)
+      → (engines : List Engine) (r : Running) → SoundRunning p r → P r (afterBy engines r)
   unfolding afterBy
-  run-sound [] r ok = ok
-  run-sound (engine ∷ engines) r ok = go (isPaused p r) refl (λ e. run-sound engines (instant p engine r) (instant-sound p r ok e engine))
+  along P none one [] r ok = none r ok
+  along P none one (engine ∷ engines) r ok =
+      go (isPaused p r) refl (λ e. along P none one engines (instant p engine r) (instant-sound p r ok e engine))
     where
       next : Running
       next = instant p engine r
 
-      go : (b : Bool) → isPaused p r ≡ b → (isPaused p r ≡ true → SoundRunning p (afterBy engines next))
-          → SoundRunning p (cond b (afterBy engines next) r)
-      go true e ih = ih e
-      go false e ih = ok
+      go : (b : Bool) → isPaused p r ≡ b → (isPaused p r ≡ true → P next (afterBy engines next)) → P r (cond b (afterBy engines next) r)
+      go true e ih = one engine r (afterBy engines next) ok (ih e)
+      go false e ih = none r ok
+
+  -- a run leaves a sound state
+  pub run-sound : (engines : List Engine) (r : Running) → SoundRunning p r → SoundRunning p (afterBy engines r)
+  run-sound = along (λ r end. SoundRunning p end) (λ r ok. ok) (λ engine r end ok ih. ih)
 
   -- ---- the clock goes on
   instant-clock : (engine : Engine) (r : Running) → SoundRunning p r → r .clock < instant p engine r .clock
@@ -96,18 +102,8 @@ module _ (p : Plan) where
   instant-clock engine r ok = tick-after p r ok
 
   clock-least : (engines : List Engine) (r : Running) → SoundRunning p r → r .clock ≤ afterBy engines r .clock
-  unfolding afterBy
-  clock-least [] r ok = omega arith
-  clock-least (engine ∷ engines) r ok =
-      go (isPaused p r) refl (λ e. clock-least engines (instant p engine r) (instant-sound p r ok e engine))
-    where
-      next : Running
-      next = instant p engine r
-
-      go : (b : Bool) → isPaused p r ≡ b → (isPaused p r ≡ true → next .clock ≤ afterBy engines next .clock)
-          → r .clock ≤ cond b (afterBy engines next) r .clock
-      go true e ih = omega (arith, ih e, instant-clock engine r ok)
-      go false e ih = omega arith
+  clock-least =
+      along (λ r end. r .clock ≤ end .clock) (λ r ok. omega arith) (λ engine r end ok ih. omega (arith, instant-clock engine r ok))
 
   -- a run that is still paused has moved it
   pub clock-moves : (engine : Engine) (engines : List Engine) (r : Running) → SoundRunning p r

@@ -10,7 +10,7 @@ use lib.Dec.{leb}
 use lib.ListN.{length, getD, take, drop, replicate, length-append, length-replicate, getD-replicate, replicate-append-replicate}
 use lib.ListN.{List·getD-append}
 use lib.Seq.{take-append-add, drop-append-add, getD-append-add, take-nil, drop-nil}
-use borrow.Author.Tests.{leb-true, leb-false}
+use borrow.Author.Tests.{leb-true, leb-false, le-leb, lt-leb}
 use Rattle.plan.specs.declared.Plan.{Plan}
 use Rattle.machine.specs.Sound.{SoundRunning}
 use Rattle.machine.specs.Laws.Instants.{engineOf}
@@ -59,62 +59,55 @@ module _ (engine : Engine) (later : List Engine) where
 
 -- ---- the lists
 module _ (p : Plan) where
-  pub schedule-cut : (calls : List Call) (r : Running) → SoundRunning p r → (i : ℕ) → schedule p (cutAt (at p r) calls i) ≡ take i (schedule p calls)
+  -- instant i is of the first call, or of a later one
+  by-call : (P : List Call → Running → ℕ → Type 0) → ((r : Running) (i : ℕ) → P [] r i)
+      → ((c : Call) (calls : List Call) (r : Running) → SoundRunning p r → (i : ℕ) → i ≤ fed p c → P (c ∷ calls) r i)
+      → ((c : Call) (calls : List Call) (r : Running) (ok : SoundRunning p r) (i : ℕ) → fed p c < i → P calls (next p r c ok) (i - fed p c)
+      → P (c ∷ calls) r i)
+      → (calls : List Call) (r : Running) → SoundRunning p r → (i : ℕ) → P calls r i
+  by-call P none first later [] r ok i = none r i
+  by-call P none first later (c ∷ calls) r ok i =
+      go (leb i (fed p c)) refl (by-call P none first later calls (next p r c ok) (next-sound p r c ok) (i - fed p c))
+    where
+      go : (b : Bool) → leb i (fed p c) ≡ b → P calls (next p r c ok) (i - fed p c) → P (c ∷ calls) r i
+      go true e ih = first c calls r ok i (leb-true i (fed p c) e)
+      go false e ih = later c calls r ok i (leb-false i (fed p c) e) ih
+
+  pub schedule-cut : (calls : List Call) (r : Running) → SoundRunning p r → (i : ℕ)
+      → schedule p (cutAt (at p r) calls i) ≡ take i (schedule p calls)
   unfolding schedule cutAt
-  schedule-cut [] r ok i = sym (take-nil i)
-  schedule-cut (c ∷ calls) r ok i =
-      rw (fed-by p r c ok, call-after p r c ok)
-      (go (leb i (fed p c)) refl (schedule-cut calls (next p r c ok) (next-sound p r c ok) (i - fed p c)))
-    where
-      cut : Call
-      cut = record { engine = c .engine; budget = i; buffer = c .buffer }
+  schedule-cut =
+      by-call (λ calls r i. schedule p (cutAt (at p r) calls i) ≡ take i (schedule p calls))
+      (λ r i. sym (take-nil i))
+      (λ c calls r ok i h.
+      rw (fed-by p r c ok, le-leb i (fed p c) h, fed-less p c i h, append-nil (replicate i (c .engine)))
+      (sym (take-among (c .engine) (schedule p calls) i (fed p c) h)))
+      (λ c calls r ok i h ih.
+      rw (fed-by p r c ok, lt-leb i (fed p c) h, call-after p r c ok, ih) (sym (take-behind (c .engine) (schedule p calls) i (fed p c) h)))
 
-      later : List Call
-      later = cutAt (at p (next p r c ok)) calls (i - fed p c)
-
-      go : (b : Bool) → leb i (fed p c) ≡ b → schedule p later ≡ take (i - fed p c) (schedule p calls)
-          → schedule p (cond b (cut ∷ []) (c ∷ later)) ≡ take i (replicate (fed p c) (c .engine) ++ schedule p calls)
-      go true e ih =
-          let h = leb-true i (fed p c) e in
-          rw (fed-less p c i h) (append-nil (replicate i (c .engine)) ∙ sym (take-among (c .engine) (schedule p calls) i (fed p c) h))
-      go false e ih = rw ih (sym (take-behind (c .engine) (schedule p calls) i (fed p c) (leb-false i (fed p c) e)))
-
-  pub schedule-rest : (calls : List Call) (r : Running) → SoundRunning p r → (i : ℕ) → schedule p (restAt (at p r) calls i) ≡ drop i (schedule p calls)
+  pub schedule-rest : (calls : List Call) (r : Running) → SoundRunning p r → (i : ℕ)
+      → schedule p (restAt (at p r) calls i) ≡ drop i (schedule p calls)
   unfolding schedule restAt
-  schedule-rest [] r ok i = sym (drop-nil i)
-  schedule-rest (c ∷ calls) r ok i =
-      rw (fed-by p r c ok, call-after p r c ok)
-      (go (leb i (fed p c)) refl (schedule-rest calls (next p r c ok) (next-sound p r c ok) (i - fed p c)))
-    where
-      left : Call
-      left = record { engine = c .engine; budget = fed p c - i; buffer = c .buffer }
+  schedule-rest =
+      by-call (λ calls r i. schedule p (restAt (at p r) calls i) ≡ drop i (schedule p calls))
+      (λ r i. sym (drop-nil i))
+      (λ c calls r ok i h.
+      rw (fed-by p r c ok, le-leb i (fed p c) h, fed-less p c (fed p c - i) (omega arith))
+      (sym (drop-among (c .engine) (schedule p calls) i (fed p c) h)))
+      (λ c calls r ok i h ih.
+      rw (fed-by p r c ok, lt-leb i (fed p c) h, call-after p r c ok, ih) (sym (drop-behind (c .engine) (schedule p calls) i (fed p c) h)))
 
-      later : List Call
-      later = restAt (at p (next p r c ok)) calls (i - fed p c)
-
-      go : (b : Bool) → leb i (fed p c) ≡ b → schedule p later ≡ drop (i - fed p c) (schedule p calls)
-          → schedule p (cond b (left ∷ calls) later) ≡ drop i (replicate (fed p c) (c .engine) ++ schedule p calls)
-      go true e ih =
-          rw (fed-less p c (fed p c - i) (omega arith))
-          (sym (drop-among (c .engine) (schedule p calls) i (fed p c) (leb-true i (fed p c) e)))
-      go false e ih = ih ∙ sym (drop-behind (c .engine) (schedule p calls) i (fed p c) (leb-false i (fed p c) e))
-
-  pub engine-at : (calls : List Call) (r : Running) → SoundRunning p r → (i : ℕ) → 1 ≤ i → engineAt (at p r) calls i ≡ engineOf (schedule p calls) i
+  pub engine-at : (calls : List Call) (r : Running) → SoundRunning p r → (i : ℕ) → 1 ≤ i
+      → engineAt (at p r) calls i ≡ engineOf (schedule p calls) i
   unfolding schedule engineAt engineOf
-  engine-at [] r ok i h = refl
-  engine-at (c ∷ calls) r ok i h =
-      rw (fed-by p r c ok, call-after p r c ok)
-      (go (leb i (fed p c)) refl (engine-at calls (next p r c ok) (next-sound p r c ok) (i - fed p c)))
-    where
-      later : Engine
-      later = engineAt (at p (next p r c ok)) calls (i - fed p c)
-
-      go : (b : Bool) → leb i (fed p c) ≡ b → (1 ≤ i - fed p c → later ≡ engineOf (schedule p calls) (i - fed p c))
-          → cond b (c .engine) later ≡ engineOf (replicate (fed p c) (c .engine) ++ schedule p calls) i
-      go true e ih = sym (engine-among (c .engine) (schedule p calls) i (fed p c) h (leb-true i (fed p c) e))
-      go false e ih =
-          let l = leb-false i (fed p c) e in
-          ih (omega arith) ∙ sym (engine-behind (c .engine) (schedule p calls) i (fed p c) l)
+  engine-at =
+      by-call (λ calls r i. 1 ≤ i → engineAt (at p r) calls i ≡ engineOf (schedule p calls) i)
+      (λ r i l. refl)
+      (λ c calls r ok i h l.
+      rw (fed-by p r c ok, le-leb i (fed p c) h) (sym (engine-among (c .engine) (schedule p calls) i (fed p c) l h)))
+      (λ c calls r ok i h ih l.
+      rw (fed-by p r c ok, lt-leb i (fed p c) h, call-after p r c ok)
+      (ih (omega arith) ∙ sym (engine-behind (c .engine) (schedule p calls) i (fed p c) h)))
 
   -- the same list by one engine
   pub schedule-all : (engine : Engine) (calls : List Call) → schedule p (allBy engine calls) ≡ replicate (length (schedule p calls)) engine
