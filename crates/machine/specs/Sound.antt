@@ -1,7 +1,7 @@
 -- "A sound state": its clauses as propositions, in document 01's order.
 use mathlib.Core.Path.{_≡_}
 use Prim.Native.Nat.{ℕ, _*_, _≤_, _<_}
-use lib.IntN.{ℤ, pos, _-ℤ_}
+use lib.IntN.{pos, _-ℤ_}
 use lib.Signed.{_<ℤ_}
 use Rattle.integers.specs.Parts.{∣_∣}
 use Rattle.plan.specs.Format.{M}

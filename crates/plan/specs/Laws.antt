@@ -17,3 +17,4 @@ pub mod HeaderBack
 pub mod ReadBack
 pub mod Parts
 pub mod WrittenBack
+pub mod View

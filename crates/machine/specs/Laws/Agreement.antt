@@ -1,23 +1,20 @@
 -- An instant of either engine and one of the plain machine, from states that agree, lead to states that agree; and what is read from such
 -- states is the same. Assumes nothing.
-use mathlib.Core.Path.{_≡_, refl, sym, ap, _∙_}
-use mathlib.Core.Bool.{Bool, true, false, cond, true≢false, _||_}
+use mathlib.Core.Path.{_≡_, refl, sym, _∙_}
 use mathlib.Core.List.{List}
 use Prim.Native.Nat.{ℕ, _+_, _-_, _≤_, _<_}
 use native.Mathlib.Omega.{arith}
 use lib.IntN.{ℤ, pos, _+ℤ_, _*ℤ_}
-use Rattle.integers.specs.Parts.{∣_∣, sum, prod, zs}
+use Rattle.integers.specs.Parts.{sum, prod, zs}
 use Rattle.plan.specs.Lists.{nat, int, row}
 use Rattle.plan.specs.Laws.Rows.{row-at, row-ext}
 use Rattle.plan.specs.Laws.Counts.{counts-of}
 use Rattle.plan.specs.declared.Plan.{Plan}
 use Rattle.machine.specs.Values.{rateOf}
-use Rattle.machine.specs.Due.{never, dueOf}
-use Rattle.machine.specs.Next.{nextTick}
+use Rattle.machine.specs.Due.{dueOf}
 use Rattle.machine.specs.Start.{startSlope, startDue, startOf}
-use Rattle.machine.specs.Reach.{isDue, reached}
 use Rattle.machine.specs.Instant.{positionAt, settings, moves, outputs, slopeThen, dueThen, takenAt, tickOf, instant, eventsOf}
-use Rattle.machine.specs.Status.{statusAt, statusOf, integratorOf, isPaused}
+use Rattle.machine.specs.Status.{statusOf, integratorOf}
 use Rattle.machine.specs.Runs.{positionOf}
 use Rattle.machine.specs.Plain.{Plain, settled, plainStart, plainTick, plainPosition, plainOutputs, plainInstant, plainEventsOf}
 use Rattle.machine.specs.Plain.{plainStatus, plainIntegrator}
@@ -27,7 +24,6 @@ use Rattle.machine.specs.Laws.Status.{status-same, integrator-same}
 use Rattle.machine.specs.Laws.Moved.{x-then, slopes-then, dues-then, place-then}
 use Rattle.machine.specs.declared.Running.{Running}
 use Rattle.machine.specs.declared.Engine.{Engine}
-use Rattle.machine.specs.declared.Engine.the-variants.{Lazy, Eager}
 
 -- "Plain machine and engines are compared on everything but l, the stored x and updates": the positions at the clock
 pub record Agrees (p : Plan) (r : Running) (m : Plain) : Type 0 where

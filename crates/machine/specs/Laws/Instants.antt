@@ -1,7 +1,7 @@
 -- Each instant of a run from Start whose instants are taken by the engines of a list: the state after it, its bytes, how many it moves,
 -- and the update count. Assumes nothing.
 use mathlib.Core.Path.{_≡_, refl, sym, ap, _∙_}
-use mathlib.Core.Bool.{Bool, true, false, cond}
+use mathlib.Core.Bool.{Bool, true, false}
 use mathlib.Core.List.{List, [], _∷_, _++_, append-nil}
 use Prim.Native.Nat.{ℕ, zero, suc, _+_, _-_, _≤_, _<_}
 use native.Mathlib.Omega.{arith}
@@ -12,18 +12,18 @@ use borrow.Author.Tests.{ltb-true, ltb-false, eq-eqb}
 use Rattle.plan.specs.declared.Plan.{Plan}
 use Rattle.machine.specs.Start.{startOf}
 use Rattle.machine.specs.Instant.{instant, eventsOf}
-use Rattle.machine.specs.Status.{statusOf, isPaused}
-use Rattle.machine.specs.Plain.{Plain, plainStart, plainStatus, plainAfter, plainEvents}
+use Rattle.machine.specs.Status.{isPaused}
+use Rattle.machine.specs.Plain.{Plain, plainStart, plainStatus, plainAfter}
 use Rattle.machine.specs.Updates.{growth, growthUpTo, movedNow}
 use Rattle.machine.specs.Sound.{SoundRunning}
 use Rattle.machine.specs.Laws.Agreement.{Agrees, same-status, start-agrees}
-use Rattle.machine.specs.Laws.Growth.{growth-least, growth-most, instant-updates, instant-moved}
+use Rattle.machine.specs.Laws.Growth.{instant-updates, instant-moved}
 use Rattle.machine.specs.Laws.PlainRuns.{takes-most, paused-before, taken-so-far, stopped-behind}
 use Rattle.machine.specs.Laws.Runs.{afterBy, eventsBy, after-stopped, after-append, events-append, run-sound, Together, together}
 use Rattle.plan.specs.Laws.Counts.{counts-of}
 use Rattle.machine.specs.declared.Running.{Running}
 use Rattle.machine.specs.declared.Engine.{Engine}
-use Rattle.machine.specs.declared.Engine.the-variants.{Lazy, Eager}
+use Rattle.machine.specs.declared.Engine.the-variants.{Lazy}
 
 -- the growth is by the engines of the instants that it counts
 pub growth-mono : (p : Plan) (f g : ℕ → Engine) (k : ℕ)

@@ -4,7 +4,7 @@ use mathlib.Core.Path.{_≡_, refl, sym, ap, _∙_}
 use mathlib.Core.Bool.{Bool, true, false, cond, _||_}
 use Prim.Native.Nat.{ℕ, _-_, _≤_, _<_}
 use native.Mathlib.Omega.{arith}
-use lib.IntN.{ℤ, pos, _+ℤ_, _*ℤ_, +ℤ-idr, *ℤ-zero}
+use lib.IntN.{pos, _+ℤ_, _*ℤ_, +ℤ-idr, *ℤ-zero}
 use borrow.Author.Tests.{eqb-false}
 use Rattle.plan.specs.Lists.{nat, int, row}
 use Rattle.plan.specs.Laws.Rows.{row-at, row-ext}

@@ -11,7 +11,7 @@ use Rattle.plan.specs.declared.Plan.{Plan}
 use Rattle.machine.specs.Instant.{takenAt, instant, eventsOf}
 use Rattle.machine.specs.Status.{statusOf, isPaused}
 use Rattle.machine.specs.Runs.{after, events}
-use Rattle.machine.specs.Plain.{Plain, plainInstant, plainEventsOf, plainStatus, plainFrom, plainEventsFrom}
+use Rattle.machine.specs.Plain.{Plain, plainInstant, plainStatus, plainFrom, plainEventsFrom}
 use Rattle.machine.specs.Sound.{SoundRunning}
 use Rattle.machine.specs.Laws.Soundness.{tick-after, instant-sound}
 use Rattle.machine.specs.Laws.Agreement.{Agrees, same-status, same-events, agrees-then}

@@ -1,23 +1,19 @@
 -- An instant leaves a sound state, whoever moves besides those due or reached. Assumes nothing.
-use mathlib.Core.Path.{_≡_, refl, sym, ap, _∙_}
+use mathlib.Core.Path.{_≡_, refl, sym, _∙_}
 use mathlib.Core.Bool.{Bool, true, false, cond, true≢false, _||_}
 use mathlib.Core.List.{List}
-use Prim.Native.Nat.{ℕ, zero, suc, _+_, _-_, _*_, _≤_, _<_}
+use Prim.Native.Nat.{ℕ, _≤_, _<_}
 use native.Mathlib.Omega.{arith}
-use lib.IntN.{ℤ, pos, _-ℤ_}
+use lib.IntN.{pos, _-ℤ_}
 use lib.Signed.{_<ℤ_}
-use lib.Dec.{eqb}
 use borrow.Author.Tests.{eqb-true}
 use Rattle.integers.specs.Parts.{∣_∣}
-use Rattle.bitset.specs.Mask.{countOf}
 use Rattle.bitset.specs.Counts.{countOf-le}
 use Rattle.plan.specs.Format.{M}
-use Rattle.plan.specs.Lists.{nat, int, row}
-use Rattle.plan.specs.Rules.{Within}
+use Rattle.plan.specs.Lists.{nat, int}
 use Rattle.plan.specs.Laws.Rows.{row-unused}
 use Rattle.plan.specs.Laws.Means.{within-size}
 use Rattle.plan.specs.declared.Plan.{Plan}
-use Rattle.machine.specs.Values.{rateOf}
 use Rattle.machine.specs.Due.{never, dueOf}
 use Rattle.machine.specs.Reach.{isDue, reached}
 use Rattle.machine.specs.Instant.{positionAt, settings, moves, outputs, slopeThen, dueThen, takenAt, tickOf, instant}

@@ -1,5 +1,5 @@
 -- The limits of a plan's counts, each by its name. Assumes nothing.
-use Prim.Native.Nat.{ℕ, _≤_}
+use Prim.Native.Nat.{_≤_}
 use native.Mathlib.Omega.{arith}
 use Rattle.plan.specs.Tests.{counts}
 use Rattle.plan.specs.Rules.{CountsRule}

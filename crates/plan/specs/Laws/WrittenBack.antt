@@ -14,7 +14,6 @@ use Rattle.words.specs.Signs.{unsigned-signed}
 use Rattle.plan.specs.Lists.{nat, int, joined}
 use Rattle.plan.specs.Format.{sections, entrySizes, largestCounts, headerLength, horizonIn, offsetIn, lengthIn, countIn, part}
 use Rattle.plan.specs.Format.{sectionIn, columnIn, signedsIn, planIn}
-use Rattle.plan.specs.Tests.{counts}
 use Rattle.plan.specs.Rules.{OffsetRule, SizeRule}
 use Rattle.plan.specs.Encoding.{lengthOf, offsetOf, headerWords, integratorWords, inputWords, nodeWords, linkWords}
 use Rattle.plan.specs.Encoding.{commandWords, encode}

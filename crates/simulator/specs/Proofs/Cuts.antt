@@ -1,7 +1,7 @@
 -- A list of run calls cut behind an instant, the rest of it, the engine of an instant, and the list made by one engine: each by the list of
 -- engines of its instants. Assumes nothing.
 use mathlib.Core.Path.{_≡_, refl, sym, ap, _∙_}
-use mathlib.Core.Bool.{Bool, true, false, cond}
+use mathlib.Core.Bool.{Bool, true, false}
 use mathlib.Core.List.{List, [], _∷_, _++_, append-nil}
 use Prim.Native.Nat.{ℕ, zero, suc, _+_, _-_, _≤_, _<_}
 use native.Mathlib.Omega.{arith}
@@ -17,7 +17,7 @@ use Rattle.machine.specs.Laws.Instants.{engineOf}
 use Rattle.machine.specs.declared.Running.{Running}
 use Rattle.machine.specs.declared.Engine.{Engine}
 use Rattle.machine.specs.declared.Engine.the-variants.{Lazy}
-use Rattle.simulator.specs.Lists.{Call, answerOf, fedBy, engineAt, cutAt, restAt, allBy}
+use Rattle.simulator.specs.Lists.{Call, engineAt, cutAt, restAt, allBy}
 use Rattle.simulator.specs.Proofs.Schedule.{at, fed, schedule, fed-less, fed-by, call-after, next, next-sound}
 
 -- ---- b times one engine, then others: cut among the first, or behind them

@@ -1,24 +1,23 @@
 -- Demand 3 whole. Assumes nothing.
-use mathlib.Core.Path.{_≡_, refl, sym, ap, _∙_}
-use mathlib.Core.List.{List, [], _∷_, _++_}
+use mathlib.Core.Path.{_≡_, sym, ap, _∙_}
+use mathlib.Core.List.{List}
 use Prim.Native.Nat.{ℕ, zero, suc, _+_, _-_, _≤_, _<_}
 use native.Mathlib.Omega.{arith}
-use lib.ListN.{length, take, drop, replicate, length-replicate, getD-replicate, take-append-drop}
+use lib.ListN.{length, take, drop, length-replicate, getD-replicate, take-append-drop}
 use lib.Seq.{length-take-le}
 use Rattle.plan.specs.Format.{planIn}
 use Rattle.plan.specs.Laws.Answers.{accepted-rules}
 use Rattle.plan.specs.Laws.Entries.{file-unused}
 use Rattle.plan.specs.declared.Plan.{Plan}
 use Rattle.machine.specs.Start.{startOf, startState}
-use Rattle.machine.specs.Plain.{Plain, plainAfter, plainEvents}
-use Rattle.machine.specs.Updates.{growth, growthUpTo}
+use Rattle.machine.specs.Plain.{plainAfter, plainEvents}
+use Rattle.machine.specs.Updates.{growthUpTo}
 use Rattle.machine.specs.Sound.{SoundRunning}
 use Rattle.machine.specs.Laws.Began.{start-sound}
 use Rattle.machine.specs.Laws.Growth.{growth-least, growth-most}
 use Rattle.machine.specs.Laws.Instants.{engineOf, stateAt, growth-mono, growth-ext, run-together, events-next, moved-next, instants-at, updates-at, updates-end}
 use Rattle.machine.specs.Laws.PlainRuns.{takes-most}
 use Rattle.machine.specs.Laws.Runs.{afterBy, eventsBy, after-append, run-sound}
-use Rattle.machine.specs.declared.Running.{Running}
 use Rattle.machine.specs.declared.State.{State}
 use Rattle.machine.specs.declared.Engine.{Engine}
 use Rattle.machine.specs.declared.Engine.the-variants.{Lazy, Eager}

@@ -1,12 +1,12 @@
 -- Every file is loaded, or refused by number and entry; the section view; a loaded plan is one that a struct can hold. Assumes nothing.
 use mathlib.Core.Path.{_≡_, refl}
-use mathlib.Core.Bool.{Bool, true, false, cond, and-false}
+use mathlib.Core.Bool.{Bool, true, false, cond}
 use mathlib.Core.List.{List}
-use Prim.Native.Nat.{ℕ, _≤_}
+use Prim.Native.Nat.{ℕ}
 use native.Mathlib.Omega.{arith}
-use borrow.Author.Tests.{eq-eqb, ne-eqb, lt-ltb, le-ltb}
-use Rattle.plan.specs.Format.{Shaped, sections, sectionIn, planIn}
-use Rattle.plan.specs.Refusals.{numberOf, entryOf, isClean, findingOf, accepted, sectionOf}
+use borrow.Author.Tests.{eq-eqb, ne-eqb}
+use Rattle.plan.specs.Format.{Shaped, sectionIn, planIn}
+use Rattle.plan.specs.Refusals.{numberOf, entryOf, isClean, findingOf, accepted}
 use Rattle.plan.specs.Rules.{PlanRules}
 use Rattle.plan.specs.Unused.{PlanUnused}
 use Rattle.plan.specs.Encoding.{encode}
@@ -15,6 +15,7 @@ use Rattle.plan.specs.Laws.Answers.{answered, accepted-offsets}
 use Rattle.plan.specs.Laws.Entries.{file-shaped}
 use Rattle.plan.specs.Laws.IdlePlan.{idle-shaped}
 use Rattle.plan.specs.Laws.Parts.{length-section-in}
+use Rattle.plan.specs.Laws.View.{view-shown, view-refused, view-above}
 use Rattle.plan.specs.Laws.ReadBack.{plan-back, clean-back}
 use Rattle.plan.specs.Laws.Refused.{plan-rules}
 use Rattle.machine.specs.Start.{startState, idleState}
@@ -50,16 +51,15 @@ every-file file bytes = record {
 }
 
 pub every-view : EveryView
-unfolding sectionOf sectionIn
+unfolding sectionIn
 every-view file number bytes = record {
-  shown = view;
-  whole = λ e h. rw (view e h) (length-section-in file (accepted-offsets file (load-accepted file e)) number (omega arith));
-  refused = λ e. rw (load-refused file e);
-  above = λ h. rw (le-ltb number sections h, and-false (accepted file));
+  shown = λ e h. view-shown file number (load-accepted file e) (omega arith);
+  whole = λ e h.
+      let yes = load-accepted file e in
+      rw (view-shown file number yes (omega arith)) (length-section-in file (accepted-offsets file yes) number (omega arith));
+  refused = λ e. view-refused file number (load-refused file e);
+  above = λ h. view-above file number h;
 }
-  where
-    view : loadOf file .number ≡ 0 → number ≤ 4 → sectionOf file number ≡ sectionIn file number
-    view e h = rw (load-accepted file e, lt-ltb number sections (omega arith))
 
 pub load-shaped : LoadShaped
 unfolding startState idleState

@@ -1,6 +1,6 @@
 -- The limits of docs/LIMITS.md: of files, of states and of what the calls answer. Assumes nothing.
 use mathlib.Core.Path.{_≡_}
-use mathlib.Core.Bool.{true, cond}
+use mathlib.Core.Bool.{cond}
 use mathlib.Core.List.{List}
 use Prim.Native.Nat.{ℕ, _^_, _≤_, _<_}
 use native.Mathlib.Nat.{le-trans}
@@ -8,7 +8,6 @@ use native.Mathlib.Omega.{arith}
 use lib.IntN.{ℤ}
 use lib.Dec.{eqb}
 use lib.ListN.{length}
-use borrow.Author.Tests.{eq-eqb}
 use Rattle.integers.specs.Parts.{∣_∣}
 use Rattle.words.specs.Word.{Bytes}
 use Rattle.plan.specs.Laws.Answers.{number-below, entry-below, accepted-offsets, accepted-sizes}

@@ -1,16 +1,15 @@
 -- What a run call answers from a sound state, and that a state which agrees with the plain machine is the same as it in everything that is
 -- compared. Assumes nothing.
-use mathlib.Core.Path.{_≡_, refl, sym, ap, _∙_}
+use mathlib.Core.Path.{_≡_, refl}
 use mathlib.Core.Bool.{Bool, true, false, cond}
-use mathlib.Core.List.{List, _++_}
-use Prim.Native.Nat.{ℕ, _≤_, _<_}
+use mathlib.Core.List.{List}
+use Prim.Native.Nat.{ℕ}
 use lib.Dec.{eqb}
 use lib.ListN.{length, drop}
 use lib.Seq.{drop-append-seam}
 use borrow.Author.Tests.{eq-eqb, lt-ltb, le-ltb}
 use Rattle.plan.specs.declared.Plan.{Plan}
 use Rattle.machine.specs.Plain.{Plain}
-use Rattle.machine.specs.Runs.{positionOf}
 use Rattle.machine.specs.Sound.{SoundRunning}
 use Rattle.machine.specs.Laws.Agreement.{Agrees, same-status, same-integrator}
 use Rattle.machine.specs.Laws.Tested.{sound-means}

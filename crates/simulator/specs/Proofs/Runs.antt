@@ -1,15 +1,14 @@
 -- Runs leave sound states, and an accepted run that is paused has moved the clock on. Assumes nothing.
-use mathlib.Core.Path.{_≡_, refl, sym, _∙_}
+use mathlib.Core.Path.{_≡_, sym, _∙_}
 use Prim.Native.Nat.{ℕ, zero, suc, _≤_, _<_}
 use native.Mathlib.Omega.{arith}
-use lib.ListN.{length, replicate}
+use lib.ListN.{replicate}
 use borrow.Author.Tests.{eq-eqb}
 use Rattle.plan.specs.declared.Plan.{Plan}
 use Rattle.machine.specs.Status.{statusOf, isPaused}
 use Rattle.machine.specs.Sound.{SoundRunning}
 use Rattle.machine.specs.Laws.Runs.{afterBy, clock-moves}
 use Rattle.machine.specs.declared.Running.{Running}
-use Rattle.machine.specs.declared.Engine.{Engine}
 use Rattle.simulator.specs.Lists.{Call, answerOf, fedBy}
 use Rattle.simulator.specs.Promises.{RunSound, RunMoves}
 use Rattle.simulator.specs.Proofs.Schedule.{at, fed, fed-by, call-after, next-sound}

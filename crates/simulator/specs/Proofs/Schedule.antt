@@ -1,26 +1,24 @@
 -- A list of run calls from a sound state, instant by instant: which engine takes each. The calls answer what the run by that list of
 -- engines gives. Assumes nothing.
-use mathlib.Core.Path.{_≡_, refl, sym, ap, ap₂, _∙_}
+use mathlib.Core.Path.{_≡_, refl, ap, _∙_}
 use mathlib.Core.Bool.{Bool, true, false, cond}
 use mathlib.Core.List.{List, [], _∷_, _++_}
-use Prim.Native.Nat.{ℕ, _+_, _-_, _*_, _≤_, _<_}
+use Prim.Native.Nat.{ℕ, _+_, _*_, _≤_}
 use native.Mathlib.Omega.{arith}
 use lib.Dec.{leb, eqb}
 use lib.ListN.{length, take, drop, replicate, length-append, length-replicate}
 use lib.Seq.{take-append-seam}
-use borrow.Author.Tests.{leb-true, leb-false, le-leb, eqb-true}
+use borrow.Author.Tests.{leb-true, le-leb}
 use Rattle.plan.specs.declared.Plan.{Plan}
 use Rattle.machine.specs.Runs.{after, events}
 use Rattle.machine.specs.Sound.{SoundRunning, Sound}
-use Rattle.machine.specs.SoundTest.{isSound}
 use Rattle.machine.specs.Laws.Tested.{sound-means}
 use Rattle.machine.specs.Laws.Runs.{afterBy, eventsBy, after-by, events-by, after-append, events-append, run-sound}
 use Rattle.machine.specs.declared.Running.{Running}
 use Rattle.machine.specs.declared.State.{State}
 use Rattle.machine.specs.declared.Engine.{Engine}
 use Rattle.simulator.specs.Calls.{over, roomOf, declineOf, runNumber, ranState, ranEvents, runOf, bufferOfRun}
-use Rattle.simulator.specs.Lists.{Call, answerOf, bufferOf, fedBy, afterCalls, budgetSum, joinedBytes, allBy}
-use Rattle.simulator.specs.declared.Ran.{Ran}
+use Rattle.simulator.specs.Lists.{Call, answerOf, bufferOf, fedBy, afterCalls, budgetSum, joinedBytes}
 
 -- a state of plan p
 abbrev pub at : Plan → Running → State

@@ -1,0 +1,21 @@
+-- The section view: the part of the file by its directory, or an empty part. Assumes nothing.
+use mathlib.Core.Path.{_≡_}
+use mathlib.Core.Bool.{true, false, and-false}
+use mathlib.Core.List.{List, []}
+use Prim.Native.Nat.{ℕ, _≤_, _<_}
+use borrow.Author.Tests.{lt-ltb, le-ltb}
+use Rattle.plan.specs.Format.{sections, sectionIn}
+use Rattle.plan.specs.Refusals.{accepted, sectionOf}
+
+module _ (file : List ℕ) (number : ℕ) where
+  pub view-shown : accepted file ≡ true → number < sections → sectionOf file number ≡ sectionIn file number
+  unfolding sectionOf
+  view-shown e h = rw (e, lt-ltb number sections h)
+
+  pub view-refused : accepted file ≡ false → sectionOf file number ≡ []
+  unfolding sectionOf
+  view-refused e = rw e
+
+  pub view-above : sections ≤ number → sectionOf file number ≡ []
+  unfolding sectionOf
+  view-above h = rw (le-ltb number sections h, and-false (accepted file))
