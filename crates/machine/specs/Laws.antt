@@ -5,8 +5,10 @@ pub mod Next
 pub mod Status
 pub mod Frame
 pub mod Ascending
+pub mod NodeOrder
 pub mod Reach
 pub mod Inputs
+pub mod Values
 pub mod OwnLinks
 pub mod Sizes
 pub mod Levels

@@ -12,10 +12,12 @@ use Rattle.integers.specs.Division.{floored}
 use Rattle.plan.specs.Lists.{nat, int, some}
 use Rattle.plan.specs.Laws.Rows.{row-at}
 use Rattle.plan.specs.Laws.Searches.{or-false}
+use Rattle.plan.specs.Laws.Counts.{Counts}
 use Rattle.plan.specs.declared.Plan.{Plan}
 use Rattle.machine.specs.Values.{nodeOf, valueWith, valueOf, sumOver, rateOf}
 use Rattle.machine.specs.Reach.{isDue, setsInput, isCommanded, changes, dependsWith, linkReaches, reached}
-use Rattle.machine.specs.Instant.{settingOf, settings}
+use Rattle.machine.specs.Instant.{positionAt, settingOf, settings, outputs, slopeThen}
+use Rattle.machine.specs.declared.Running.{Running}
 
 -- an input that no command of the tick sets
 pub setting-kept : (p : Plan) (u : List ℤ) (t j : ℕ) → p .m ≤ 8 → j < p .m → isCommanded p t j ≡ false → int (settings p u t) j ≡ int u j
@@ -92,3 +94,20 @@ module _ (p : Plan) (d : List ℕ) (t : ℕ) (q u q₀ u₀ : List ℤ)
   pub rate-kept : (i : ℕ) → reached p d t i ≡ false → rateOf p q u i ≡ rateOf p q₀ u₀ i
   unfolding reached rateOf
   rate-kept i e = ap floored (sum-kept i (p .links) e)
+
+-- ---- of an instant at tick t
+module _ (p : Plan) (limits : Counts p) (r : Running) (t : ℕ) where
+  pub outputs-at : (i : ℕ) → i < p .n → int (outputs p r t) i ≡ cond (isDue (r .d) t i) (positionAt r t i) (int (r .q) i)
+  unfolding outputs
+  outputs-at i h = row-at (pos 0) 32 (p .n) _ i (limits .n) h
+
+  -- those that are not due keep their outputs
+  pub output-kept : (i : ℕ) → i < p .n → isDue (r .d) t i ≡ false → int (outputs p r t) i ≡ int (r .q) i
+  output-kept i h e = outputs-at i h ∙ rw e
+
+  -- an integrator that is not reached keeps its rate
+  pub slope-frame : (i : ℕ) → reached p (r .d) t i ≡ false → slopeThen p r t i ≡ rateOf p (r .q) (r .inputs) i
+  unfolding slopeThen
+  slope-frame =
+      rate-kept p (r .d) t (outputs p r t) (settings p (r .inputs) t) (r .q) (r .inputs) output-kept
+      (λ j h e. setting-kept p (r .inputs) t j (limits .m) h e)

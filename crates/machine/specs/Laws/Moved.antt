@@ -13,31 +13,23 @@ use Rattle.plan.specs.Laws.Counts.{Counts, counts-of}
 use Rattle.plan.specs.declared.Plan.{Plan}
 use Rattle.machine.specs.Due.{upperLevel, lowerLevel, dueOf}
 use Rattle.machine.specs.Reach.{isDue, reached}
-use Rattle.machine.specs.Instant.{positionAt, settings, outputs, slopeThen, xThen, dueThen, takenAt}
+use Rattle.machine.specs.Instant.{positionAt, outputs, slopeThen, xThen, dueThen, takenAt}
 use Rattle.machine.specs.Sound.{SoundRunning}
 use Rattle.machine.specs.Laws.Between.{Between}
 use Rattle.machine.specs.Laws.Due.{due-later}
-use Rattle.machine.specs.Laws.Frame.{rate-kept, setting-kept}
+use Rattle.machine.specs.Laws.Frame.{outputs-at, output-kept, slope-frame}
 use Rattle.machine.specs.Laws.Positions.{inside, due-is, moved-before, stays-inside}
 use Rattle.machine.specs.declared.Running.{Running}
 
 -- at a tick from the clock on, up to which nothing is due
 module _ (p : Plan) (r : Running) (ok : SoundRunning p r) (t : ℕ) (after : r .clock ≤ t) (least : (i : ℕ) → i < p .n → t ≤ nat (r .d) i) where
-  limits : Counts p
+  pub limits : Counts p
   limits = counts-of p (ok .plan .counts)
-
-  pub outputs-at : (i : ℕ) → i < p .n → int (outputs p r t) i ≡ cond (isDue (r .d) t i) (positionAt r t i) (int (r .q) i)
-  unfolding outputs
-  outputs-at i h = row-at (pos 0) 32 (p .n) _ i (limits .n) h
-
-  -- the outputs of those that are not due are kept
-  pub output-kept : (i : ℕ) → i < p .n → isDue (r .d) t i ≡ false → int (outputs p r t) i ≡ int (r .q) i
-  output-kept i h e = outputs-at i h ∙ rw e
 
   -- "x becomes x+s×(t−l) .. A due integrator gets x = q", which is the same
   pub x-then : (i : ℕ) → i < p .n → xThen p r t i ≡ positionAt r t i
   unfolding xThen
-  x-then i h = go (isDue (r .d) t i) (outputs-at i h)
+  x-then i h = go (isDue (r .d) t i) (outputs-at p limits r t i h)
     where
       go : (b : Bool) → int (outputs p r t) i ≡ cond b (positionAt r t i) (int (r .q) i) → cond b (int (outputs p r t) i) (positionAt r t i) ≡ positionAt r t i
       go true e = e
@@ -60,15 +52,11 @@ module _ (p : Plan) (r : Running) (ok : SoundRunning p r) (t : ℕ) (after : r .
 
   -- an integrator that is not reached keeps its slope; one that is not due either keeps its due tick
   pub slope-kept : (i : ℕ) → i < p .n → reached p (r .d) t i ≡ false → slopeThen p r t i ≡ int (r .s) i
-  unfolding slopeThen
-  slope-kept i h e =
-      rate-kept p (r .d) t (outputs p r t) (settings p (r .inputs) t) (r .q) (r .inputs) output-kept
-      (λ j l c. setting-kept p (r .inputs) t j (limits .m) l c) i e
-      ∙ sym (ok .integrators i h .rate)
+  slope-kept i h e = slope-frame p limits r t i e ∙ sym (ok .integrators i h .rate)
 
   pub due-kept : (i : ℕ) → i < p .n → isDue (r .d) t i ≡ false → reached p (r .d) t i ≡ false → dueThen p r t i ≡ nat (r .d) i
   unfolding dueThen dueOf upperLevel lowerLevel
-  due-kept i h e f = rw (x-then i h, slope-kept i h f, output-kept i h e) (due-same i h e)
+  due-kept i h e f = rw (x-then i h, slope-kept i h f, output-kept p limits r t i h e) (due-same i h e)
 
   -- whoever moves
   module _ (moves : ℕ → Bool) (covers : (i : ℕ) → i < p .n → moves i ≡ false → (isDue (r .d) t i || reached p (r .d) t i) ≡ false) where
@@ -131,4 +119,4 @@ module _ (p : Plan) (r : Running) (ok : SoundRunning p r) (t : ℕ) (after : r .
         go true e = rw (x-then i h)
         go false e =
             due-kept i h (not-due i h e) (not-reached i h e) ∙ ok .integrators i h .due
-            ∙ rw (output-kept i h (not-due i h e), slope-kept i h (not-reached i h e))
+            ∙ rw (output-kept p limits r t i h (not-due i h e), slope-kept i h (not-reached i h e))

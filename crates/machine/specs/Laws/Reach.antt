@@ -11,6 +11,7 @@ use Rattle.plan.specs.Rules.{PlanRules}
 use Rattle.plan.specs.Laws.Means.{Means, eqb-means, both}
 use Rattle.plan.specs.Laws.Searches.{some-found, some-here}
 use Rattle.plan.specs.declared.Plan.{Plan}
+use Rattle.machine.specs.Laws.NodeOrder.{settled-at}
 use Rattle.machine.specs.Reach.{isDue, setsInput, isCommanded, changes, dependsWith, linkReaches, reached}
 use Rattle.machine.specs.Reach.{Changed, due, commanded, Depends, itself, left, right, Reached, link}
 
@@ -52,15 +53,9 @@ module _ (p : Plan) (d : List ℕ) (t : ℕ) where
   changes-means i = (changes-found i, λ c. changes-here c .1)
 
   -- ---- what depends on it: a source below n + m + j has its answer once j nodes are looked at
-  pub depends-same : (j k i : ℕ) → j ≤ k → i < p .n + p .m + j → dependsWith p d t k i ≡ dependsWith p d t j i
+  depends-same : (j k i : ℕ) → j ≤ k → i < p .n + p .m + j → dependsWith p d t k i ≡ dependsWith p d t j i
   unfolding dependsWith
-  depends-same j zero i h l = let same : j ≡ 0 = omega arith in rw same
-  depends-same j (suc k) i h l = go (eqb j (suc k)) refl (depends-same j k i)
-    where
-      go : (b : Bool) → eqb j (suc k) ≡ b → (j ≤ k → i < p .n + p .m + j → dependsWith p d t k i ≡ dependsWith p d t j i)
-          → dependsWith p d t (suc k) i ≡ dependsWith p d t j i
-      go true e ih = rw (eqb-true j (suc k) e)
-      go false e ih = let m : j ≤ k = omega (arith, eqb-false j (suc k) e) in rw (ne-eqb i (p .n + p .m + k) (λ f. omega arith)) (ih m l)
+  depends-same = settled-at (p .n + p .m) (dependsWith p d t) _ (λ j i. refl)
 
   depends-found : (k i : ℕ) → k ≤ p .k → dependsWith p d t k i ≡ true → Depends p d t i
   unfolding dependsWith

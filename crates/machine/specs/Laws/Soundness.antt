@@ -12,6 +12,7 @@ use Rattle.bitset.specs.Counts.{countOf-le}
 use Rattle.plan.specs.Format.{M}
 use Rattle.plan.specs.Lists.{nat, int}
 use Rattle.plan.specs.Laws.Rows.{row-unused}
+use Rattle.plan.specs.Laws.Counts.{counts-of}
 use Rattle.plan.specs.Laws.Means.{within-size}
 use Rattle.plan.specs.declared.Plan.{Plan}
 use Rattle.machine.specs.Due.{never, dueOf}
@@ -24,7 +25,8 @@ use Rattle.machine.specs.Laws.Due.{due-ahead}
 use Rattle.machine.specs.Laws.Next.{next-due, next-after}
 use Rattle.machine.specs.Laws.Status.{tick-horizon, position-size}
 use Rattle.machine.specs.Laws.Inputs.{settings-size}
-use Rattle.machine.specs.Laws.Moved.{outputs-at, between-then, not-due, slope-at, due-at, x-at, l-at, due-by-rule}
+use Rattle.machine.specs.Laws.Frame.{outputs-at}
+use Rattle.machine.specs.Laws.Moved.{between-then, not-due, slope-at, due-at, x-at, l-at, due-by-rule}
 use Rattle.machine.specs.declared.Running.{Running}
 use Rattle.machine.specs.declared.Engine.{Engine}
 use Rattle.machine.specs.declared.Engine.the-variants.{Lazy, Eager}
@@ -49,7 +51,7 @@ module _ (p : Plan) (r : Running) (ok : SoundRunning p r) (t : ℕ) (takes : Tak
   from = omega (arith, takes .after)
 
   output-size : (i : ℕ) → i < p .n → ∣ int (outputs p r t) i ∣ ≤ M
-  output-size i h = rw (outputs-at p r ok t from (takes .least) i h) (go (isDue (r .d) t i) refl)
+  output-size i h = rw (outputs-at p (counts-of p (ok .plan .counts)) r t i h) (go (isDue (r .d) t i) refl)
     where
       go : (b : Bool) → isDue (r .d) t i ≡ b → ∣ cond b (positionAt r t i) (int (r .q) i) ∣ ≤ M
       go true e = takes .within i h e
@@ -58,7 +60,7 @@ module _ (p : Plan) (r : Running) (ok : SoundRunning p r) (t : ℕ) (takes : Tak
   -- a due integrator moves to its output; the others stay between their levels
   near-then : (i : ℕ) → i < p .n → pos ∣ int (takenAt p r t moves .x) i -ℤ int (outputs p r t) i ∣ <ℤ int (p .quanta) i
   near-then i h =
-      rw (x-at p r ok t from (takes .least) moves covers i h, outputs-at p r ok t from (takes .least) i h) (go (moves i) (isDue (r .d) t i) refl refl)
+      rw (x-at p r ok t from (takes .least) moves covers i h, outputs-at p (counts-of p (ok .plan .counts)) r t i h) (go (moves i) (isDue (r .d) t i) refl refl)
     where
       old : pos ∣ int (r .x) i -ℤ int (r .q) i ∣ <ℤ int (p .quanta) i
       old = ok .integrators i h .near

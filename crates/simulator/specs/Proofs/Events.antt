@@ -4,13 +4,12 @@ use mathlib.Core.Bool.{true}
 use mathlib.Core.List.{List}
 use Prim.Native.Nat.{ℕ, _+_, _*_, _≤_, _<_}
 use native.Mathlib.Omega.{arith}
-use lib.IntN.{ℤ, pos}
+use lib.IntN.{ℤ}
 use borrow.Author.Tests.{eq-eqb}
 use Rattle.integers.specs.Parts.{∣_∣}
 use Rattle.bitset.specs.Mask.{countOf}
 use Rattle.plan.specs.Format.{M}
 use Rattle.plan.specs.Lists.{nat, int}
-use Rattle.plan.specs.Laws.Rows.{row-at}
 use Rattle.plan.specs.Laws.Counts.{Counts, counts-of}
 use Rattle.plan.specs.Laws.Means.{within-size}
 use Rattle.plan.specs.declared.Plan.{Plan}
@@ -19,6 +18,7 @@ use Rattle.machine.specs.Reach.{isDue, changes, Changed, due, commanded}
 use Rattle.machine.specs.Instant.{positionAt, settings, outputs, tickOf, eventsOf}
 use Rattle.machine.specs.Status.{statusOf, isPaused}
 use Rattle.machine.specs.Sound.{SoundRunning}
+use Rattle.machine.specs.Laws.Frame.{outputs-at}
 use Rattle.machine.specs.Laws.EventWords.{length-events, events-tick, events-source, events-value}
 use Rattle.machine.specs.Laws.Inputs.{setting-of, output-value, input-value}
 use Rattle.machine.specs.Laws.Reach.{changes-means}
@@ -61,10 +61,10 @@ module _ (p : Plan) (r : Running) (ok : SoundRunning p r) (zero-status : statusO
   -- a due integrator's value is its position
   due-value : (i : ℕ) → i < p .n → nat (r .d) i ≡ tickOf p r
       → valueWith p (outputsThen p r) (inputsThen p r) 0 i ≡ positionAt r (tickOf p r) i
-  unfolding outputs isDue
+  unfolding isDue
   due-value i h e =
       output-value p (outputsThen p r) (inputsThen p r) i h
-      ∙ (row-at (pos 0) 32 (p .n) _ i (limits .n) h ∙ rw (eq-eqb (nat (r .d) i) (tickOf p r) e))
+      ∙ (outputs-at p limits r (tickOf p r) i h ∙ rw (eq-eqb (nat (r .d) i) (tickOf p r) e))
 
   events-promise : EventsPromise p r
   unfolding eventsOf

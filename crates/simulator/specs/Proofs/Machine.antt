@@ -1,15 +1,13 @@
 -- The promises about the machine's rules: next instant, status, reach, due ticks and the plain machine's instants. Assumes nothing.
-use mathlib.Core.Path.{_≡_, _∙_}
+use mathlib.Core.Path.{_≡_}
 use Prim.Native.Nat.{_-_}
 use native.Mathlib.Omega.{arith}
-use lib.IntN.{pos}
-use Rattle.plan.specs.Laws.Rows.{row-at}
 use Rattle.plan.specs.Laws.Counts.{counts-of}
 use Rattle.machine.specs.Due.{upperLevel, lowerLevel, ticksTo, dueOf}
-use Rattle.machine.specs.Instant.{positionAt, slopeThen, tickOf, outputs, settings}
+use Rattle.machine.specs.Instant.{positionAt, tickOf}
 use Rattle.machine.specs.Status.{statusOf, integratorOf}
 use Rattle.machine.specs.Laws.Due.{due-still, due-moving, ticks-least, ticks-rounded, stays-above, stays-below, countdown}
-use Rattle.machine.specs.Laws.Frame.{rate-kept, setting-kept}
+use Rattle.machine.specs.Laws.Frame.{slope-frame}
 use Rattle.machine.specs.Laws.Next.{next-due, next-command, next-never, next-one, command-earlier, command-first, command-most}
 use Rattle.machine.specs.Laws.Status.{status-finished, status-range, status-paused, no-integrator}
 use Rattle.machine.specs.Laws.Reach.{changes-means, reach-means, reached-false}
@@ -42,12 +40,7 @@ pub reach-promise : ReachMeans
 reach-promise p d t i rules = record { change = changes-means p d t i; reach = reach-means p d t i rules }
 
 pub frame : Frame
-unfolding slopeThen outputs
-frame p r t i rules h =
-    let limits = counts-of p (rules .counts) in
-    rate-kept p (r .d) t (outputs p r t) (settings p (r .inputs) t) (r .q) (r .inputs)
-    (λ j l e. row-at (pos 0) 32 (p .n) _ j (limits .n) l ∙ rw e) (λ j l e. setting-kept p (r .inputs) t j (limits .m) l e) i
-    (reached-false p (r .d) t i h)
+frame p r t i rules h = slope-frame p (counts-of p (rules .counts)) r t i (reached-false p (r .d) t i h)
 
 pub due-least : DueLeast
 unfolding dueOf upperLevel lowerLevel

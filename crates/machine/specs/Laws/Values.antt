@@ -1,0 +1,73 @@
+-- The values of sources: integrators give their outputs, inputs their values, and a node what its kind makes of the values of A and B.
+-- Assumes nothing.
+use mathlib.Core.Path.{_≡_, refl, sym, _∙_}
+use mathlib.Core.List.{List}
+use Prim.Native.Nat.{ℕ, _+_, _≤_, _<_}
+use native.Mathlib.Omega.{arith}
+use lib.IntN.{ℤ, _-ℤ_, _*ℤ_}
+use lib.Signed.{_≤ℤ_, _<ℤ_}
+use Rattle.integers.specs.Division.{floored}
+use Rattle.integers.specs.Order.{leZ-true, leZ-false}
+use Rattle.integers.specs.Range.{limited}
+use Rattle.plan.specs.Lists.{nat, int}
+use Rattle.plan.specs.Rules.{PlanRules}
+use Rattle.plan.specs.declared.Plan.{Plan}
+use Rattle.machine.specs.Values.{clipped, nodeOf, valueWith, valueOf}
+use Rattle.machine.specs.Laws.Inputs.{output-value, input-value}
+use Rattle.machine.specs.Laws.NodeOrder.{settled-at, node-at}
+
+module _ (p : Plan) (q u : List ℤ) where
+  -- a source below node j's own number has its value once j nodes are worked out
+  value-settled : (j i : ℕ) → j ≤ p .k → i < p .n + p .m + j → valueOf p q u i ≡ valueWith p q u j i
+  unfolding valueOf valueWith
+  value-settled j i h l = settled-at (p .n + p .m) (valueWith p q u) _ (λ j i. refl) j (p .k) i h l
+
+  pub integrator-value : (i : ℕ) → i < p .n → valueOf p q u i ≡ int q i
+  integrator-value i h = value-settled 0 i (omega arith) (omega arith) ∙ output-value p q u i h
+
+  pub setting-value : (j : ℕ) → j < p .m → valueOf p q u (p .n + j) ≡ int u j
+  setting-value j h = value-settled 0 (p .n + j) (omega arith) (omega arith) ∙ input-value p q u j h
+
+  -- ---- nodes, by the plan's rules
+  module _ (rules : PlanRules p) (j : ℕ) (h : j < p .k) where
+    abbrev own : ℕ
+    own = p .n + p .m + j
+
+    abbrev a : ℤ
+    a = valueOf p q u (nat (p .lefts) j)
+
+    abbrev b : ℤ
+    b = valueOf p q u (nat (p .rights) j)
+
+    -- what its kind makes of the values of A and B as they are when it is worked out
+    worked-out : valueOf p q u own
+        ≡ nodeOf (nat (p .kinds) j) (int (p .lows) j) (int (p .highs) j)
+        (valueWith p q u j (nat (p .lefts) j)) (valueWith p q u j (nat (p .rights) j))
+    unfolding valueOf valueWith
+    worked-out = node-at (p .n + p .m) (valueWith p q u) _ (λ j i. refl) j (p .k) h
+
+    left : valueWith p q u j (nat (p .lefts) j) ≡ a
+    left = sym (value-settled j (nat (p .lefts) j) (omega arith) (rules .nodes j h .left))
+
+    right : (nat (p .kinds) j ≡ 2 → ⊥) → valueWith p q u j (nat (p .rights) j) ≡ b
+    right n = sym (value-settled j (nat (p .rights) j) (omega arith) (rules .nodes j h .right n))
+
+    pub difference-node : nat (p .kinds) j ≡ 0 → valueOf p q u own ≡ clipped (a -ℤ b)
+    unfolding nodeOf
+    difference-node e = worked-out ∙ rw (left, right (λ t. omega arith), e)
+
+    pub product-node : nat (p .kinds) j ≡ 1 → valueOf p q u own ≡ clipped (floored (a *ℤ b))
+    unfolding nodeOf
+    product-node e = worked-out ∙ rw (left, right (λ t. omega arith), e)
+
+    pub limit-node : nat (p .kinds) j ≡ 2 → valueOf p q u own ≡ limited (int (p .lows) j) (int (p .highs) j) a
+    unfolding nodeOf
+    limit-node e = worked-out ∙ rw (left, e)
+
+    pub high-node : nat (p .kinds) j ≡ 3 → b ≤ℤ a → valueOf p q u own ≡ int (p .highs) j
+    unfolding nodeOf
+    high-node e le = worked-out ∙ rw (left, right (λ t. omega arith), e, leZ-true b a .1 le)
+
+    pub low-node : nat (p .kinds) j ≡ 3 → a <ℤ b → valueOf p q u own ≡ int (p .lows) j
+    unfolding nodeOf
+    low-node e lt = worked-out ∙ rw (left, right (λ t. omega arith), e, leZ-false b a .1 lt)
