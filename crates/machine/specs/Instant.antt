@@ -1,5 +1,7 @@
 -- "One instant", steps 1 to 6, and its events.
+use mathlib.Core.Path.{_≡_}
 use mathlib.Core.Bool.{Bool, true, cond, _||_}
+use mathlib.Core.Logic.{_⊎_}
 use mathlib.Core.List.{List, [], _∷_}
 use Prim.Native.Nat.{ℕ, zero, suc, _+_, _-_}
 use lib.IntN.{ℤ, pos, _+ℤ_, _*ℤ_}
@@ -10,7 +12,7 @@ use Rattle.plan.specs.declared.Plan.{Plan}
 use Rattle.machine.specs.Values.{valueWith, rateOf}
 use Rattle.machine.specs.Due.{dueOf}
 use Rattle.machine.specs.Next.{nextCommand, nextTick}
-use Rattle.machine.specs.Reach.{isDue, setsInput, changes, reached}
+use Rattle.machine.specs.Reach.{isDue, setsInput, changes, reached, Reached}
 use Rattle.machine.specs.declared.Running.{Running}
 use Rattle.machine.specs.declared.Engine.{Engine}
 use Rattle.machine.specs.declared.Engine.the-variants.{Lazy, Eager}
@@ -32,6 +34,11 @@ settings p u t = row (pos 0) 8 (p .m) (λ j. settingOf p u t j (p .commands))
 unfoldable pub moves : Plan → Engine → List ℕ → ℕ → ℕ → Bool
 moves p Lazy d t i = isDue d t i || reached p d t i
 moves p Eager d t i = true
+
+-- the same in document 01's words
+abbrev pub Moves : Plan → Engine → List ℕ → ℕ → ℕ → Type 0
+Moves p Lazy d t i = (nat d i ≡ t) ⊎ Reached p d t i
+Moves p Eager d t i = Unit {0}
 
 -- "Events of an instant: due integrators and commanded inputs by ascending source number, 12 bytes each: tick, source, signed value."
 unfoldable pub eventBytes : ℕ → ℕ → ℤ → List ℕ

@@ -3,6 +3,7 @@ pub mod Between
 pub mod Due
 pub mod Next
 pub mod Status
+pub mod Taken
 pub mod Frame
 pub mod Ascending
 pub mod NodeOrder
@@ -13,6 +14,7 @@ pub mod OwnLinks
 pub mod Sizes
 pub mod Levels
 pub mod Positions
+pub mod Steps
 pub mod Moved
 pub mod Soundness
 pub mod Agreement

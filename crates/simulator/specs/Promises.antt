@@ -6,10 +6,11 @@ use mathlib.Core.Logic.{_⊎_}
 use mathlib.Core.List.{List, [], _∷_, _++_}
 use Prim.Native.Nat.{ℕ, _+_, _-_, _*_, _≤_, _<_}
 use lib.IntN.{ℤ, pos, _+ℤ_, _-ℤ_, _*ℤ_}
-use lib.Signed.{_<ℤ_}
+use lib.Signed.{_≤ℤ_, _<ℤ_}
 use lib.ListN.{length, take, drop}
 use Rattle.integers.specs.Parts.{up, ∣_∣}
-use Rattle.integers.specs.Division.{Ceil}
+use Rattle.integers.specs.Division.{floored, Ceil}
+use Rattle.integers.specs.Range.{limited}
 use Rattle.bitset.specs.Mask.{countOf}
 use Rattle.words.specs.Word.{Bytes, word, signedWord}
 use Rattle.plan.specs.Lists.{nat, int}
@@ -19,12 +20,12 @@ use Rattle.plan.specs.Rules.{IntegratorRule, PlanRules, Answered}
 use Rattle.plan.specs.Encoding.{encode}
 use Rattle.plan.specs.Idle.{idlePlan}
 use Rattle.plan.specs.declared.Plan.{Plan}
-use Rattle.machine.specs.Values.{rateOf}
+use Rattle.machine.specs.Values.{clipped, valueOf, sumOver, rateOf}
 use Rattle.machine.specs.Due.{never, upperLevel, lowerLevel, distance, ticksTo, dueOf, LeastTicks}
 use Rattle.machine.specs.Next.{nextCommand, nextTick}
 use Rattle.machine.specs.Start.{startState, idleState}
 use Rattle.machine.specs.Reach.{changes, Changed, reached, Reached}
-use Rattle.machine.specs.Instant.{positionAt, slopeThen, tickOf, eventsOf}
+use Rattle.machine.specs.Instant.{positionAt, moves, Moves, slopeThen, tickOf, instant, eventsOf}
 use Rattle.machine.specs.Status.{statusOf, integratorOf}
 use Rattle.machine.specs.Plain.{Plain, plainAfter, plainEvents, plainStatus, plainIntegrator}
 use Rattle.machine.specs.Updates.{growth, growthUpTo, movedNow}
@@ -104,6 +105,72 @@ pub record EventsPromise (p : Plan) (r : Running) : Type 0 where
 
 abbrev pub EventsRead : Type 0
 EventsRead = (st : State) → Sound st → statusOf (st .plan) (st .run) ≡ 0 → EventsPromise (st .plan) (st .run)
+
+-- "Integrators give q, inputs their value, nodes their value", and what each kind makes of the values of A and B
+pub record ValuePromise (p : Plan) (q u : List ℤ) : Type 0 where
+  pub integrators : (i : ℕ) → i < p .n → valueOf p q u i ≡ int q i
+  pub inputs : (j : ℕ) → j < p .m → valueOf p q u (p .n + j) ≡ int u j
+  -- "0 is a−b; 1 is floor(a×b / 65,536); both then clipped to ±M"
+  pub differences : (j : ℕ) → j < p .k → nat (p .kinds) j ≡ 0
+      → valueOf p q u (p .n + p .m + j) ≡ clipped (valueOf p q u (nat (p .lefts) j) -ℤ valueOf p q u (nat (p .rights) j))
+  pub products : (j : ℕ) → j < p .k → nat (p .kinds) j ≡ 1
+      → valueOf p q u (p .n + p .m + j) ≡ clipped (floored (valueOf p q u (nat (p .lefts) j) *ℤ valueOf p q u (nat (p .rights) j)))
+  -- "2 is a limited to lo..hi"
+  pub limited-values : (j : ℕ) → j < p .k → nat (p .kinds) j ≡ 2
+      → valueOf p q u (p .n + p .m + j) ≡ limited (int (p .lows) j) (int (p .highs) j) (valueOf p q u (nat (p .lefts) j))
+  -- "3 is hi if a ≥ b, else lo"
+  pub high : (j : ℕ) → j < p .k → nat (p .kinds) j ≡ 3 → valueOf p q u (nat (p .rights) j) ≤ℤ valueOf p q u (nat (p .lefts) j)
+      → valueOf p q u (p .n + p .m + j) ≡ int (p .highs) j
+  pub low : (j : ℕ) → j < p .k → nat (p .kinds) j ≡ 3 → valueOf p q u (nat (p .lefts) j) <ℤ valueOf p q u (nat (p .rights) j)
+      → valueOf p q u (p .n + p .m + j) ≡ int (p .lows) j
+  -- "s = floor(sum of coefficient × source value over its links / 65,536)"
+  pub rate-below : (i : ℕ) → (pos 65536 *ℤ rateOf p q u i) ≤ℤ sumOver p q u i (p .links)
+  pub rate-above : (i : ℕ) → sumOver p q u i (p .links) <ℤ (pos 65536 *ℤ (rateOf p q u i +ℤ pos 1))
+
+abbrev pub ValuesMean : Type 0
+ValuesMean = (p : Plan) (q u : List ℤ) → PlanRules p → ValuePromise p q u
+
+-- "Start: x = q = start, l = c = 0, slopes and dues by rule, counts 0"
+pub record StartPromise (p : Plan) (r : Running) : Type 0 where
+  pub x : (i : ℕ) → i < p .n → int (r .x) i ≡ int (p .starts) i
+  pub q : (i : ℕ) → i < p .n → int (r .q) i ≡ int (p .starts) i
+  pub l : (i : ℕ) → i < p .n → nat (r .l) i ≡ 0
+  pub s : (i : ℕ) → i < p .n → int (r .s) i ≡ rateOf p (r .q) (r .inputs) i
+  pub d : (i : ℕ) → i < p .n → nat (r .d) i ≡ dueOf p (r .q) i 0 (int (r .x) i) (int (r .s) i)
+  pub inputs : (j : ℕ) → j < p .m → int (r .inputs) j ≡ int (p .firsts) j
+  pub clock : r .clock ≡ 0
+  pub instants : r .instants ≡ 0
+  pub updates : r .updates ≡ 0
+
+abbrev pub StartMeans : Type 0
+StartMeans = (p : Plan) → PlanRules p → StartPromise p (startState p .run)
+
+-- "One instant", at tick t, from the figures r to the figures r′
+pub record StepPromise (p : Plan) (engine : Engine) (t : ℕ) (r r′ : Running) : Type 0 where
+  -- 1. "The due integrators (d = t) take q = x+s×(t−l)." The others keep theirs
+  pub due : (i : ℕ) → i < p .n → nat (r .d) i ≡ t → int (r′ .q) i ≡ positionAt r t i
+  pub not-due : (i : ℕ) → i < p .n → (nat (r .d) i ≡ t → ⊥) → int (r′ .q) i ≡ int (r .q) i
+  -- 2. "Commands of tick t set their inputs." The others keep theirs
+  pub set : (j e : ℕ) → j < p .m → e < p .commands → nat (p .ticks) e ≡ t → nat (p .numbers) e ≡ j → int (r′ .inputs) j ≡ int (p .values) e
+  pub not-set : (j : ℕ) → j < p .m → ((e : ℕ) → e < p .commands → nat (p .ticks) e ≡ t → nat (p .numbers) e ≡ j → ⊥)
+      → int (r′ .inputs) j ≡ int (r .inputs) j
+  -- 5. "x becomes x+s×(t−l), l = t, then the new slope and due tick", by the new outputs and inputs. "A due integrator gets x = q."
+  pub x : (i : ℕ) → i < p .n → Moves p engine (r .d) t i → int (r′ .x) i ≡ positionAt r t i
+  pub l : (i : ℕ) → i < p .n → Moves p engine (r .d) t i → nat (r′ .l) i ≡ t
+  pub s : (i : ℕ) → i < p .n → Moves p engine (r .d) t i → int (r′ .s) i ≡ rateOf p (r′ .q) (r′ .inputs) i
+  pub d : (i : ℕ) → i < p .n → Moves p engine (r .d) t i → nat (r′ .d) i ≡ dueOf p (r′ .q) i t (int (r′ .x) i) (int (r′ .s) i)
+  pub due-x : (i : ℕ) → i < p .n → nat (r .d) i ≡ t → int (r′ .x) i ≡ int (r′ .q) i
+  -- who does not move keeps all of these
+  pub not-moved : (i : ℕ) → i < p .n → (Moves p engine (r .d) t i → ⊥)
+      → (int (r′ .x) i ≡ int (r .x) i) × (nat (r′ .l) i ≡ nat (r .l) i) × (int (r′ .s) i ≡ int (r .s) i) × (nat (r′ .d) i ≡ nat (r .d) i)
+  -- 6. "c = t; instants grows by 1; updates grows by the number of integrators moved, each counted once"
+  pub clock : r′ .clock ≡ t
+  pub instants : r′ .instants ≡ r .instants + 1
+  pub updates : r′ .updates ≡ r .updates + countOf (moves p engine (r .d) t) (p .n)
+  pub moving : (i : ℕ) → (moves p engine (r .d) t i ≡ true → Moves p engine (r .d) t i) × (Moves p engine (r .d) t i → moves p engine (r .d) t i ≡ true)
+
+abbrev pub StepsMean : Type 0
+StepsMean = (p : Plan) (engine : Engine) (r : Running) → PlanRules p → StepPromise p engine (tickOf p r) r (instant p engine r)
 
 -- "Next instant t: the least of all d and the next command's tick", and "the next command is the first with tick above c"
 pub record NextPromise (p : Plan) (d : List ℕ) (next c : ℕ) : Type 0 where
@@ -325,6 +392,9 @@ pub record EveryPromise : Type 0 where
   pub write-then-load : WriteThenLoad
   pub load-shaped : LoadShaped
   pub events-read : EventsRead
+  pub values-mean : ValuesMean
+  pub start-means : StartMeans
+  pub steps-mean : StepsMean
   pub next-means : NextMeans
   pub status-means : StatusMeans
   pub reach-means : ReachMeans

@@ -1,5 +1,6 @@
 -- Each promise proved: a term of exactly the type that Promises.antt states.
 pub mod Machine
+pub mod Steps
 pub mod Numbers
 pub mod Calls
 pub mod StateLimits

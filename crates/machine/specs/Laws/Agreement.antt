@@ -21,7 +21,8 @@ use Rattle.machine.specs.Plain.{plainStatus, plainIntegrator}
 use Rattle.machine.specs.Sound.{SoundRunning}
 use Rattle.machine.specs.Laws.Soundness.{covers, tick-after, tick-least}
 use Rattle.machine.specs.Laws.Status.{status-same, integrator-same}
-use Rattle.machine.specs.Laws.Moved.{x-then, slopes-then, dues-then, place-then}
+use Rattle.machine.specs.Laws.Taken.{x-then}
+use Rattle.machine.specs.Laws.Moved.{slopes-then, dues-then, place-then}
 use Rattle.machine.specs.declared.Running.{Running}
 use Rattle.machine.specs.declared.Engine.{Engine}
 
@@ -98,7 +99,7 @@ module _ (p : Plan) (r : Running) (ok : SoundRunning p r) where
     same-due : (i : ℕ) → i < p .n → dueThen p r (tickOf p r) i ≡ dueOf p (plainOutputs p m) i (plainTick p m) (int new-x i) (new-slope i)
     unfolding dueThen
     same-due i h =
-        rw (x-then p r ok (tickOf p r) tick-from (tick-least p r ok) i h, same-position i h, same-outputs, same-slope i, new-x-at i h, same-tick)
+        rw (x-then p (counts-of p (ok .plan .counts)) r (tickOf p r) i h, same-position i h, same-outputs, same-slope i, new-x-at i h, same-tick)
 
     pub agrees-then : (engine : Engine) → Agrees p (instant p engine r) (plainInstant p m)
     unfolding instant takenAt plainInstant settled positionOf

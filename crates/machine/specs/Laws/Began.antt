@@ -1,5 +1,5 @@
 -- The start of a plan that keeps the rules is sound, and so is the idle state. Assumes nothing.
-use mathlib.Core.Path.{_≡_, refl}
+use mathlib.Core.Path.{_≡_, refl, _∙_}
 use Prim.Native.Nat.{ℕ, _<_}
 use native.Mathlib.Omega.{arith}
 use lib.IntN.{pos}
@@ -10,29 +10,41 @@ use Rattle.plan.specs.Idle.{idlePlan}
 use Rattle.plan.specs.declared.Plan.{Plan}
 use Rattle.plan.specs.Laws.Rows.{row-at, row-unused}
 use Rattle.plan.specs.Laws.Means.{within-size}
-use Rattle.plan.specs.Laws.Counts.{counts-of}
+use Rattle.plan.specs.Laws.Counts.{Counts, counts-of}
 use Rattle.plan.specs.Laws.IdlePlan.{idle-rules, idle-unused}
+use Rattle.machine.specs.Values.{rateOf}
 use Rattle.machine.specs.Due.{dueOf}
 use Rattle.machine.specs.Start.{startSlope, startDue, startOf, startState, idleState}
 use Rattle.machine.specs.Sound.{SoundIntegrator, Sound}
 use Rattle.machine.specs.Laws.Between.{near-itself}
 use Rattle.machine.specs.Laws.Due.{due-ahead}
 
+-- slopes, last-moved ticks and due ticks, entry by entry
+module _ (p : Plan) (limits : Counts p) (i : ℕ) (h : i < p .n) where
+  pub start-slope : int (startOf p .s) i ≡ rateOf p (p .starts) (p .firsts) i
+  unfolding startOf startSlope
+  start-slope = row-at (pos 0) 32 (p .n) _ i (limits .n) h
+
+  pub start-last : nat (startOf p .l) i ≡ 0
+  unfolding startOf
+  start-last = row-at 0 32 (p .n) _ i (limits .n) h
+
+  pub start-due : nat (startOf p .d) i ≡ dueOf p (p .starts) i 0 (int (p .starts) i) (int (startOf p .s) i)
+  unfolding startOf startSlope startDue
+  start-due = row-at 0 32 (p .n) _ i (limits .n) h ∙ rw start-slope
+
 module _ (p : Plan) (rules : PlanRules p) (unused : PlanUnused p) where
   start-integrator : (i : ℕ) → i < p .n → SoundIntegrator p (startOf p) i
-  unfolding startOf startDue startSlope dueOf
+  unfolding startOf dueOf
   start-integrator i h =
-      let n = counts-of p (rules .counts) .n in let rule = rules .integrators i h in let x = int (p .starts) i in
-      let s : int (startOf p .s) i ≡ startSlope p i = row-at (pos 0) 32 (p .n) (startSlope p) i n h in
-      let l : nat (startOf p .l) i ≡ 0 = row-at 0 32 (p .n) (λ _. 0) i n h in
-      let d : nat (startOf p .d) i ≡ startDue p i = row-at 0 32 (p .n) (startDue p) i n h in
+      let n = counts-of p (rules .counts) in let rule = rules .integrators i h in let x = int (p .starts) i in
       record {
-        moved = omega (arith, l);
-        ahead = rw d (due-ahead 0 x _ _ (startSlope p i) (omega arith));
+        moved = omega (arith, start-last p n i h);
+        ahead = rw (start-due p n i h) (due-ahead 0 x _ _ (int (startOf p .s) i) (omega arith));
         output = within-size _ x .0 (rule .start);
         near = near-itself x (int (p .quanta) i) (rule .least);
-        rate = s;
-        due = rw (s, l, d) refl;
+        rate = start-slope p n i h;
+        due = rw (start-last p n i h) (start-due p n i h);
       }
 
   pub start-sound : Sound (startState p)

@@ -16,7 +16,8 @@ use Rattle.plan.specs.Laws.Counts.{Counts}
 use Rattle.plan.specs.declared.Plan.{Plan}
 use Rattle.machine.specs.Values.{nodeOf, valueWith, valueOf, sumOver, rateOf}
 use Rattle.machine.specs.Reach.{isDue, setsInput, isCommanded, changes, dependsWith, linkReaches, reached}
-use Rattle.machine.specs.Instant.{positionAt, settingOf, settings, outputs, slopeThen}
+use Rattle.machine.specs.Instant.{settingOf, settings, outputs, slopeThen}
+use Rattle.machine.specs.Laws.Taken.{output-kept}
 use Rattle.machine.specs.declared.Running.{Running}
 
 -- an input that no command of the tick sets
@@ -95,19 +96,9 @@ module _ (p : Plan) (d : List ℕ) (t : ℕ) (q u q₀ u₀ : List ℤ)
   unfolding reached rateOf
   rate-kept i e = ap floored (sum-kept i (p .links) e)
 
--- ---- of an instant at tick t
-module _ (p : Plan) (limits : Counts p) (r : Running) (t : ℕ) where
-  pub outputs-at : (i : ℕ) → i < p .n → int (outputs p r t) i ≡ cond (isDue (r .d) t i) (positionAt r t i) (int (r .q) i)
-  unfolding outputs
-  outputs-at i h = row-at (pos 0) 32 (p .n) _ i (limits .n) h
-
-  -- those that are not due keep their outputs
-  pub output-kept : (i : ℕ) → i < p .n → isDue (r .d) t i ≡ false → int (outputs p r t) i ≡ int (r .q) i
-  output-kept i h e = outputs-at i h ∙ rw e
-
-  -- an integrator that is not reached keeps its rate
-  pub slope-frame : (i : ℕ) → reached p (r .d) t i ≡ false → slopeThen p r t i ≡ rateOf p (r .q) (r .inputs) i
-  unfolding slopeThen
-  slope-frame =
-      rate-kept p (r .d) t (outputs p r t) (settings p (r .inputs) t) (r .q) (r .inputs) output-kept
-      (λ j h e. setting-kept p (r .inputs) t j (limits .m) h e)
+-- an integrator that an instant does not reach keeps its rate
+pub slope-frame : (p : Plan) → Counts p → (r : Running) (t i : ℕ) → reached p (r .d) t i ≡ false → slopeThen p r t i ≡ rateOf p (r .q) (r .inputs) i
+unfolding slopeThen
+slope-frame p limits r t =
+    rate-kept p (r .d) t (outputs p r t) (settings p (r .inputs) t) (r .q) (r .inputs) (output-kept p limits r t)
+    (λ j h e. setting-kept p (r .inputs) t j (limits .m) h e)

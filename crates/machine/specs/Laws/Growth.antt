@@ -9,13 +9,14 @@ use borrow.Author.Tests.{eq-eqb, ne-eqb}
 use Rattle.bitset.specs.Mask.{countOf}
 use Rattle.bitset.specs.Counts.{countOf-ext, countOf-all, countOf-le}
 use Rattle.plan.specs.Lists.{nat}
+use Rattle.plan.specs.Laws.Counts.{counts-of}
 use Rattle.plan.specs.declared.Plan.{Plan}
 use Rattle.machine.specs.Instant.{moves, takenAt, tickOf, instant}
 use Rattle.machine.specs.Plain.{Plain, plainTick, lazyCount}
 use Rattle.machine.specs.Updates.{growth, movedNow}
 use Rattle.machine.specs.Sound.{SoundRunning}
-use Rattle.machine.specs.Laws.Moved.{l-at}
-use Rattle.machine.specs.Laws.Soundness.{covers, tick-after, tick-least}
+use Rattle.machine.specs.Laws.Taken.{l-at}
+use Rattle.machine.specs.Laws.Soundness.{tick-after}
 use Rattle.machine.specs.Laws.Agreement.{Agrees, same-tick}
 use Rattle.machine.specs.declared.Running.{Running}
 use Rattle.machine.specs.declared.Engine.{Engine}
@@ -58,7 +59,7 @@ module _ (p : Plan) (r : Running) (ok : SoundRunning p r) (m : Plain) (a : Agree
       who = moves p engine (r .d) t
 
       marked : (i : ℕ) → i < p .n → eqb (nat (takenAt p r t who .l) i) t ≡ who i
-      marked i h = rw (l-at p r ok t (omega (arith, tick-after p r ok)) (tick-least p r ok) who (covers p engine (r .d) t) i h) (go (who i))
+      marked i h = rw (l-at p (counts-of p (ok .plan .counts)) r t who i h) (go (who i))
         where
           go : (b : Bool) → eqb (cond b t (nat (r .l) i)) t ≡ b
           go true = eq-eqb t t refl

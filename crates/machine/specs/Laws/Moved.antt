@@ -13,11 +13,12 @@ use Rattle.plan.specs.Laws.Counts.{Counts, counts-of}
 use Rattle.plan.specs.declared.Plan.{Plan}
 use Rattle.machine.specs.Due.{upperLevel, lowerLevel, dueOf}
 use Rattle.machine.specs.Reach.{isDue, reached}
-use Rattle.machine.specs.Instant.{positionAt, outputs, slopeThen, xThen, dueThen, takenAt}
+use Rattle.machine.specs.Instant.{positionAt, outputs, slopeThen, dueThen, takenAt}
 use Rattle.machine.specs.Sound.{SoundRunning}
 use Rattle.machine.specs.Laws.Between.{Between}
 use Rattle.machine.specs.Laws.Due.{due-later}
-use Rattle.machine.specs.Laws.Frame.{outputs-at, output-kept, slope-frame}
+use Rattle.machine.specs.Laws.Taken.{output-kept, x-then, x-at, l-at}
+use Rattle.machine.specs.Laws.Frame.{slope-frame}
 use Rattle.machine.specs.Laws.Positions.{inside, due-is, moved-before, stays-inside}
 use Rattle.machine.specs.declared.Running.{Running}
 
@@ -25,15 +26,6 @@ use Rattle.machine.specs.declared.Running.{Running}
 module _ (p : Plan) (r : Running) (ok : SoundRunning p r) (t : ℕ) (after : r .clock ≤ t) (least : (i : ℕ) → i < p .n → t ≤ nat (r .d) i) where
   pub limits : Counts p
   limits = counts-of p (ok .plan .counts)
-
-  -- "x becomes x+s×(t−l) .. A due integrator gets x = q", which is the same
-  pub x-then : (i : ℕ) → i < p .n → xThen p r t i ≡ positionAt r t i
-  unfolding xThen
-  x-then i h = go (isDue (r .d) t i) (outputs-at p limits r t i h)
-    where
-      go : (b : Bool) → int (outputs p r t) i ≡ cond b (positionAt r t i) (int (r .q) i) → cond b (int (outputs p r t) i) (positionAt r t i) ≡ positionAt r t i
-      go true e = e
-      go false e = refl
 
   not-yet : (i : ℕ) → i < p .n → isDue (r .d) t i ≡ false → t < nat (r .d) i
   unfolding isDue
@@ -56,7 +48,7 @@ module _ (p : Plan) (r : Running) (ok : SoundRunning p r) (t : ℕ) (after : r .
 
   pub due-kept : (i : ℕ) → i < p .n → isDue (r .d) t i ≡ false → reached p (r .d) t i ≡ false → dueThen p r t i ≡ nat (r .d) i
   unfolding dueThen dueOf upperLevel lowerLevel
-  due-kept i h e f = rw (x-then i h, slope-kept i h f, output-kept p limits r t i h e) (due-same i h e)
+  due-kept i h e f = rw (x-then p limits r t i h, slope-kept i h f, output-kept p limits r t i h e) (due-same i h e)
 
   -- whoever moves
   module _ (moves : ℕ → Bool) (covers : (i : ℕ) → i < p .n → moves i ≡ false → (isDue (r .d) t i || reached p (r .d) t i) ≡ false) where
@@ -88,18 +80,10 @@ module _ (p : Plan) (r : Running) (ok : SoundRunning p r) (t : ℕ) (after : r .
     pub due-at : (i : ℕ) → i < p .n → nat (takenAt p r t moves .d) i ≡ dueThen p r t i
     due-at i h = rw dues-then (row-at 0 32 (p .n) _ i (limits .n) h)
 
-    pub x-at : (i : ℕ) → i < p .n → int (takenAt p r t moves .x) i ≡ cond (moves i) (positionAt r t i) (int (r .x) i)
-    unfolding takenAt
-    x-at i h = row-at (pos 0) 32 (p .n) _ i (limits .n) h ∙ rw (x-then i h)
-
-    pub l-at : (i : ℕ) → i < p .n → nat (takenAt p r t moves .l) i ≡ cond (moves i) t (nat (r .l) i)
-    unfolding takenAt
-    l-at i h = row-at 0 32 (p .n) _ i (limits .n) h
-
     -- the position at the instant's tick does not depend on who moved
     pub place-then : (i : ℕ) → i < p .n → positionAt (takenAt p r t moves) t i ≡ positionAt r t i
     unfolding positionAt
-    place-then i h = rw (x-at i h, l-at i h, slope-at i h) (go (moves i) refl)
+    place-then i h = rw (x-at p limits r t moves i h, l-at p limits r t moves i h, slope-at i h) (go (moves i) refl)
       where
         go : (b : Bool) → moves i ≡ b →
             cond b (positionAt r t i) (int (r .x) i) +ℤ slopeThen p r t i *ℤ pos (t - cond b t (nat (r .l) i)) ≡ positionAt r t i
@@ -116,7 +100,7 @@ module _ (p : Plan) (r : Running) (ok : SoundRunning p r) (t : ℕ) (after : r .
       where
         go : (b : Bool) → moves i ≡ b →
             dueThen p r t i ≡ dueOf p (outputs p r t) i (cond b t (nat (r .l) i)) (cond b (positionAt r t i) (int (r .x) i)) (slopeThen p r t i)
-        go true e = rw (x-then i h)
+        go true e = rw (x-then p limits r t i h)
         go false e =
             due-kept i h (not-due i h e) (not-reached i h e) ∙ ok .integrators i h .due
             ∙ rw (output-kept p limits r t i h (not-due i h e), slope-kept i h (not-reached i h e))

@@ -8,7 +8,7 @@ use lib.Dec.{ltb, eqb}
 use borrow.Author.Tests.{ltb-true, ltb-false, lt-ltb, le-ltb, eqb-true, eqb-false, eq-eqb, ne-eqb}
 use Rattle.plan.specs.Lists.{nat, some}
 use Rattle.plan.specs.Rules.{PlanRules}
-use Rattle.plan.specs.Laws.Means.{Means, eqb-means, both}
+use Rattle.plan.specs.Laws.Means.{Means, means-false, eqb-means, both}
 use Rattle.plan.specs.Laws.Searches.{some-found, some-here}
 use Rattle.plan.specs.declared.Plan.{Plan}
 use Rattle.machine.specs.Laws.NodeOrder.{settled-at}
@@ -108,11 +108,7 @@ module _ (p : Plan) (d : List ℕ) (t : ℕ) where
 
   -- one that is not
   pub reached-false : (i : ℕ) → (Reached p d t i → ⊥) → reached p d t i ≡ false
-  reached-false i h = go (reached p d t i) refl
-    where
-      go : (b : Bool) → reached p d t i ≡ b → b ≡ false
-      go true e = absurd (h (reached-found i e))
-      go false e = refl
+  reached-false i = means-false (reached-found i)
 
   pub reach-means : (i : ℕ) → PlanRules p → (reached p d t i ≡ true → Reached p d t i) × (Reached p d t i → reached p d t i ≡ true)
   unfolding reached

@@ -12,7 +12,7 @@ use Rattle.bitset.specs.Counts.{countOf-le}
 use Rattle.plan.specs.Format.{M}
 use Rattle.plan.specs.Lists.{nat, int}
 use Rattle.plan.specs.Laws.Rows.{row-unused}
-use Rattle.plan.specs.Laws.Counts.{counts-of}
+use Rattle.plan.specs.Laws.Counts.{Counts, counts-of}
 use Rattle.plan.specs.Laws.Means.{within-size}
 use Rattle.plan.specs.declared.Plan.{Plan}
 use Rattle.machine.specs.Due.{never, dueOf}
@@ -25,8 +25,8 @@ use Rattle.machine.specs.Laws.Due.{due-ahead}
 use Rattle.machine.specs.Laws.Next.{next-due, next-after}
 use Rattle.machine.specs.Laws.Status.{tick-horizon, position-size}
 use Rattle.machine.specs.Laws.Inputs.{settings-size}
-use Rattle.machine.specs.Laws.Frame.{outputs-at}
-use Rattle.machine.specs.Laws.Moved.{between-then, not-due, slope-at, due-at, x-at, l-at, due-by-rule}
+use Rattle.machine.specs.Laws.Taken.{outputs-at, x-at, l-at}
+use Rattle.machine.specs.Laws.Moved.{between-then, not-due, slope-at, due-at, due-by-rule}
 use Rattle.machine.specs.declared.Running.{Running}
 use Rattle.machine.specs.declared.Engine.{Engine}
 use Rattle.machine.specs.declared.Engine.the-variants.{Lazy, Eager}
@@ -47,11 +47,14 @@ pub record Takes (p : Plan) (r : Running) (t : ℕ) : Type 0 where
 
 module _ (p : Plan) (r : Running) (ok : SoundRunning p r) (t : ℕ) (takes : Takes p r t)
     (moves : ℕ → Bool) (covers : (i : ℕ) → i < p .n → moves i ≡ false → (isDue (r .d) t i || reached p (r .d) t i) ≡ false) where
+  limits : Counts p
+  limits = counts-of p (ok .plan .counts)
+
   from : r .clock ≤ t
   from = omega (arith, takes .after)
 
   output-size : (i : ℕ) → i < p .n → ∣ int (outputs p r t) i ∣ ≤ M
-  output-size i h = rw (outputs-at p (counts-of p (ok .plan .counts)) r t i h) (go (isDue (r .d) t i) refl)
+  output-size i h = rw (outputs-at p limits r t i h) (go (isDue (r .d) t i) refl)
     where
       go : (b : Bool) → isDue (r .d) t i ≡ b → ∣ cond b (positionAt r t i) (int (r .q) i) ∣ ≤ M
       go true e = takes .within i h e
@@ -60,7 +63,7 @@ module _ (p : Plan) (r : Running) (ok : SoundRunning p r) (t : ℕ) (takes : Tak
   -- a due integrator moves to its output; the others stay between their levels
   near-then : (i : ℕ) → i < p .n → pos ∣ int (takenAt p r t moves .x) i -ℤ int (outputs p r t) i ∣ <ℤ int (p .quanta) i
   near-then i h =
-      rw (x-at p r ok t from (takes .least) moves covers i h, outputs-at p (counts-of p (ok .plan .counts)) r t i h) (go (moves i) (isDue (r .d) t i) refl refl)
+      rw (x-at p limits r t moves i h, outputs-at p limits r t i h) (go (moves i) (isDue (r .d) t i) refl refl)
     where
       old : pos ∣ int (r .x) i -ℤ int (r .q) i ∣ <ℤ int (p .quanta) i
       old = ok .integrators i h .near
@@ -84,7 +87,7 @@ module _ (p : Plan) (r : Running) (ok : SoundRunning p r) (t : ℕ) (takes : Tak
   integrator-then i h =
       let soon : t < never = omega (arith, takes .until, ok .plan .horizon .1) in
       record {
-        moved = rw (l-at p r ok t from (takes .least) moves covers i h) (moved-then i h);
+        moved = rw (l-at p limits r t moves i h) (moved-then i h);
         ahead = rw (due-at p r ok t from (takes .least) moves covers i h) (due-ahead t _ _ _ _ soon);
         output = output-size i h;
         near = near-then i h;
@@ -92,8 +95,8 @@ module _ (p : Plan) (r : Running) (ok : SoundRunning p r) (t : ℕ) (takes : Tak
         due =
             rw (
               due-at p r ok t from (takes .least) moves covers i h,
-              x-at p r ok t from (takes .least) moves covers i h,
-              l-at p r ok t from (takes .least) moves covers i h,
+              x-at p limits r t moves i h,
+              l-at p limits r t moves i h,
               slope-at p r ok t from (takes .least) moves covers i h,
             )
             (due-by-rule p r ok t from (takes .least) moves covers i h);

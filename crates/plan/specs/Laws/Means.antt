@@ -1,6 +1,6 @@
 -- Tests and the propositions that they mean: of numbers, their connectives, every index, the order of entries. Assumes nothing.
 use mathlib.Core.Path.{_≡_, refl}
-use mathlib.Core.Bool.{Bool, true, false, not, _&&_, _||_, false≢true}
+use mathlib.Core.Bool.{not-eq-not, Bool, true, false, not, _&&_, _||_, false≢true}
 use mathlib.Core.Logic.{_↔_, Iff·symm, Iff·trans, _⊎_, inl, inr}
 use mathlib.Core.List.{List}
 use Prim.Native.Nat.{ℕ, zero, suc, _-_, _≤_, _<_}
@@ -19,6 +19,10 @@ use Rattle.plan.specs.Laws.Searches.{every-true}
 -- the test b means the proposition P
 abbrev pub Means : Bool → Type 0 → Type 0
 Means b P = (b ≡ true) ↔ P
+
+-- where the proposition fails, so does the test
+pub means-false : {b : Bool} {P : Type 0} → (b ≡ true → P) → (P → ⊥) → b ≡ false
+means-false f h = not-eq-not {b = false} .0 (λ e. h (f e))
 
 -- ---- numbers
 pub leb-means : (a b : ℕ) → Means (leb a b) (a ≤ b)

@@ -1,6 +1,7 @@
 -- Every promise holds. Assumes nothing.
 use Rattle.simulator.specs.Promises.{EveryPromise}
 use Rattle.simulator.specs.Proofs.Machine.{next-means, status-means, reach-promise, frame, due-least, due-between, plain-takes}
+use Rattle.simulator.specs.Proofs.Steps.{values-mean, start-means, steps-mean}
 use Rattle.simulator.specs.Proofs.Calls.{every-number, every-buffer, declined}
 use Rattle.simulator.specs.Proofs.Files.{every-file, every-view, load-shaped}
 use Rattle.simulator.specs.Proofs.Limits.{limits}
@@ -19,6 +20,9 @@ every-promise =
       write-then-load = write-then-load;
       load-shaped = load-shaped;
       events-read = events-read;
+      values-mean = values-mean;
+      start-means = start-means;
+      steps-mean = steps-mean;
       next-means = next-means;
       status-means = status-means;
       reach-means = reach-promise;

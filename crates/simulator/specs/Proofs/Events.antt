@@ -18,7 +18,7 @@ use Rattle.machine.specs.Reach.{isDue, changes, Changed, due, commanded}
 use Rattle.machine.specs.Instant.{positionAt, settings, outputs, tickOf, eventsOf}
 use Rattle.machine.specs.Status.{statusOf, isPaused}
 use Rattle.machine.specs.Sound.{SoundRunning}
-use Rattle.machine.specs.Laws.Frame.{outputs-at}
+use Rattle.machine.specs.Laws.Taken.{outputs-at}
 use Rattle.machine.specs.Laws.EventWords.{length-events, events-tick, events-source, events-value}
 use Rattle.machine.specs.Laws.Inputs.{setting-of, output-value, input-value}
 use Rattle.machine.specs.Laws.Reach.{changes-means}

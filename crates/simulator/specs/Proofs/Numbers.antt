@@ -6,6 +6,7 @@ use native.Mathlib.Omega.{arith}
 use lib.Dec.{leb, ltb, eqb}
 use borrow.Author.Tests.{leb-true, ltb-true, eqb-true}
 use Rattle.plan.specs.Encoding.{fileLength}
+use Rattle.plan.specs.Laws.Means.{means-false}
 use Rattle.machine.specs.Sound.{Sound}
 use Rattle.machine.specs.SoundTest.{isSound}
 use Rattle.machine.specs.Laws.Tested.{sound-means}
@@ -32,11 +33,7 @@ most false h l = l
 
 module _ (st : State) where
   pub unsound-test : (Sound st → ⊥) → isSound st ≡ false
-  unsound-test h = go (isSound st) refl
-    where
-      go : (b : Bool) → isSound st ≡ b → b ≡ false
-      go true e = absurd (h (sound-means st .0 e))
-      go false e = refl
+  unsound-test = means-false (sound-means st .0)
 
   -- ---- the writer: 10, 13
   pub write-most : (room : ℕ) → writeNumber st room ≤ 14

@@ -1,0 +1,97 @@
+-- One instant in document 01's words, step by step, for a plan that keeps its rules. Assumes nothing.
+use mathlib.Core.Path.{_≡_, refl, _∙_}
+use mathlib.Core.Bool.{true}
+use mathlib.Core.Logic.{inl}
+use mathlib.Core.List.{List}
+use Prim.Native.Nat.{ℕ, _<_}
+use borrow.Author.Tests.{eq-eqb, ne-eqb}
+use Rattle.plan.specs.Lists.{nat, int}
+use Rattle.plan.specs.Rules.{PlanRules}
+use Rattle.plan.specs.Laws.Counts.{Counts, counts-of}
+use Rattle.plan.specs.Laws.Means.{Means, means-false, eqb-means, either}
+use Rattle.plan.specs.declared.Plan.{Plan}
+use Rattle.machine.specs.Values.{rateOf}
+use Rattle.machine.specs.Due.{dueOf}
+use Rattle.machine.specs.Reach.{isDue}
+use Rattle.machine.specs.Instant.{positionAt, moves, Moves, slopeThen, dueThen, takenAt, tickOf, instant}
+use Rattle.machine.specs.Laws.Frame.{setting-kept}
+use Rattle.machine.specs.Laws.Inputs.{setting-of}
+use Rattle.machine.specs.Laws.Reach.{commanded-means, reach-means}
+use Rattle.machine.specs.Laws.Taken.{outputs-at, x-then, x-at, l-at, s-at, d-at}
+use Rattle.machine.specs.declared.Running.{Running}
+use Rattle.machine.specs.declared.Engine.{Engine}
+use Rattle.machine.specs.declared.Engine.the-variants.{Lazy, Eager}
+
+-- 5. "The lazy engine moves those due or reached, the eager engine all"
+pub moves-means : (p : Plan) → PlanRules p → (engine : Engine) (d : List ℕ) (t i : ℕ) → Means (moves p engine d t i) (Moves p engine d t i)
+unfolding moves isDue
+moves-means p rules Lazy d t i = either (eqb-means (nat d i) t) (reach-means p d t i rules)
+moves-means p rules Eager d t i = (λ e. tt, λ u. refl)
+
+pub due-moves : (p : Plan) (engine : Engine) (d : List ℕ) (t i : ℕ) → nat d i ≡ t → Moves p engine d t i
+due-moves p Lazy d t i e = inl e
+due-moves p Eager d t i e = tt
+
+module _ (p : Plan) (rules : PlanRules p) (engine : Engine) (r : Running) where
+  limits : Counts p
+  limits = counts-of p (rules .counts)
+
+  abbrev t : ℕ
+  t = tickOf p r
+
+  abbrev then : Running
+  then = instant p engine r
+
+  -- ---- 1. outputs
+  pub step-due : (i : ℕ) → i < p .n → nat (r .d) i ≡ t → int (then .q) i ≡ positionAt r t i
+  unfolding instant takenAt isDue
+  step-due i h e = outputs-at p limits r t i h ∙ rw (eq-eqb (nat (r .d) i) t e)
+
+  pub step-not-due : (i : ℕ) → i < p .n → (nat (r .d) i ≡ t → ⊥) → int (then .q) i ≡ int (r .q) i
+  unfolding instant takenAt isDue
+  step-not-due i h e = outputs-at p limits r t i h ∙ rw (ne-eqb (nat (r .d) i) t e)
+
+  -- ---- 2. inputs
+  pub step-set : (j e : ℕ) → j < p .m → e < p .commands → nat (p .ticks) e ≡ t → nat (p .numbers) e ≡ j → int (then .inputs) j ≡ int (p .values) e
+  unfolding instant takenAt
+  step-set = setting-of p rules (r .inputs) t
+
+  pub step-not-set : (j : ℕ) → j < p .m → ((e : ℕ) → e < p .commands → nat (p .ticks) e ≡ t → nat (p .numbers) e ≡ j → ⊥)
+      → int (then .inputs) j ≡ int (r .inputs) j
+  unfolding instant takenAt
+  step-not-set j h none =
+      setting-kept p (r .inputs) t j (limits .m) h (means-false (commanded-means p t j .0) (λ f. none (f .0) (f .1) (f .2) (f .3)))
+
+  -- ---- 5. who moves
+  module _ (i : ℕ) (h : i < p .n) (m : Moves p engine (r .d) t i) where
+    moving : moves p engine (r .d) t i ≡ true
+    moving = moves-means p rules engine (r .d) t i .1 m
+
+    pub step-x : int (then .x) i ≡ positionAt r t i
+    unfolding instant
+    step-x = x-at p limits r t (moves p engine (r .d) t) i h ∙ rw moving
+
+    pub step-l : nat (then .l) i ≡ t
+    unfolding instant
+    step-l = l-at p limits r t (moves p engine (r .d) t) i h ∙ rw moving
+
+    pub step-s : int (then .s) i ≡ rateOf p (then .q) (then .inputs) i
+    unfolding instant takenAt slopeThen
+    step-s = s-at p limits r t (moves p engine (r .d) t) i h ∙ rw moving
+
+    pub step-d : nat (then .d) i ≡ dueOf p (then .q) i t (int (then .x) i) (int (then .s) i)
+    unfolding instant takenAt slopeThen dueThen
+    step-d =
+        d-at p limits r t (moves p engine (r .d) t) i h ∙ rw (moving, step-x, step-s, x-then p limits r t i h)
+
+  pub step-not-moved : (i : ℕ) → i < p .n → (Moves p engine (r .d) t i → ⊥)
+      → (int (then .x) i ≡ int (r .x) i) × (nat (then .l) i ≡ nat (r .l) i) × (int (then .s) i ≡ int (r .s) i) × (nat (then .d) i ≡ nat (r .d) i)
+  unfolding instant
+  step-not-moved i h n =
+      let who = moves p engine (r .d) t in
+      let still = means-false (moves-means p rules engine (r .d) t i .0) n in (
+        x-at p limits r t who i h ∙ rw still,
+        l-at p limits r t who i h ∙ rw still,
+        s-at p limits r t who i h ∙ rw still,
+        d-at p limits r t who i h ∙ rw still,
+      )

@@ -1,0 +1,49 @@
+-- The figures of each integrator after an instant, entry by entry, whoever moves. Assumes nothing.
+use mathlib.Core.Path.{_≡_, refl, _∙_}
+use mathlib.Core.Bool.{Bool, true, false, cond}
+use Prim.Native.Nat.{ℕ, _<_}
+use lib.IntN.{pos}
+use Rattle.plan.specs.Lists.{nat, int}
+use Rattle.plan.specs.Laws.Rows.{row-at}
+use Rattle.plan.specs.Laws.Counts.{Counts}
+use Rattle.plan.specs.declared.Plan.{Plan}
+use Rattle.machine.specs.Reach.{isDue}
+use Rattle.machine.specs.Instant.{positionAt, outputs, slopeThen, xThen, dueThen, takenAt}
+use Rattle.machine.specs.declared.Running.{Running}
+
+module _ (p : Plan) (limits : Counts p) (r : Running) (t : ℕ) where
+  pub outputs-at : (i : ℕ) → i < p .n → int (outputs p r t) i ≡ cond (isDue (r .d) t i) (positionAt r t i) (int (r .q) i)
+  unfolding outputs
+  outputs-at i h = row-at (pos 0) 32 (p .n) _ i (limits .n) h
+
+  -- those that are not due keep their outputs
+  pub output-kept : (i : ℕ) → i < p .n → isDue (r .d) t i ≡ false → int (outputs p r t) i ≡ int (r .q) i
+  output-kept i h e = outputs-at i h ∙ rw e
+
+  -- "x becomes x+s×(t−l) .. A due integrator gets x = q", which is the same
+  pub x-then : (i : ℕ) → i < p .n → xThen p r t i ≡ positionAt r t i
+  unfolding xThen
+  x-then i h = go (isDue (r .d) t i) (outputs-at i h)
+    where
+      go : (b : Bool) → int (outputs p r t) i ≡ cond b (positionAt r t i) (int (r .q) i)
+          → cond b (int (outputs p r t) i) (positionAt r t i) ≡ positionAt r t i
+      go true e = e
+      go false e = refl
+
+  -- ---- by who moves
+  module _ (moves : ℕ → Bool) (i : ℕ) (h : i < p .n) where
+    pub x-at : int (takenAt p r t moves .x) i ≡ cond (moves i) (positionAt r t i) (int (r .x) i)
+    unfolding takenAt
+    x-at = row-at (pos 0) 32 (p .n) _ i (limits .n) h ∙ rw (x-then i h)
+
+    pub l-at : nat (takenAt p r t moves .l) i ≡ cond (moves i) t (nat (r .l) i)
+    unfolding takenAt
+    l-at = row-at 0 32 (p .n) _ i (limits .n) h
+
+    pub s-at : int (takenAt p r t moves .s) i ≡ cond (moves i) (slopeThen p r t i) (int (r .s) i)
+    unfolding takenAt
+    s-at = row-at (pos 0) 32 (p .n) _ i (limits .n) h
+
+    pub d-at : nat (takenAt p r t moves .d) i ≡ cond (moves i) (dueThen p r t i) (nat (r .d) i)
+    unfolding takenAt
+    d-at = row-at 0 32 (p .n) _ i (limits .n) h
