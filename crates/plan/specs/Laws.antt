@@ -16,5 +16,6 @@ pub mod Small
 pub mod HeaderBack
 pub mod ReadBack
 pub mod Parts
+pub mod Places
 pub mod WrittenBack
 pub mod View

@@ -51,7 +51,7 @@ pub record AnswerLimits (st : State) : Type 0 where
 
 -- of what a rate is made of, with outputs q and input values u within ±M, for a plan that keeps its rules
 pub record RateLimits (p : Plan) (q u : List ℤ) : Type 0 where
-  pub sources : p .n + p .m + p .k ≤ 56
+  pub sources : (1 ≤ p .n + p .m + p .k) × (p .n + p .m + p .k ≤ 56)
   pub operands : (j : ℕ) → j < p .k → (nat (p .lefts) j ≤ 54) × (nat (p .rights) j ≤ 54)
   -- the value of every source, so of a node's operands; their difference and product before the clip
   pub values : (i : ℕ) → ∣ valueOf p q u i ∣ ≤ M
@@ -87,7 +87,17 @@ module _ (p : Plan) (r : Running) where
     pub due : (nat (r .d) i ≡ never) ⊎ (nat (r .d) i ≤ 2000000000 + (2 ^ 31 - 1))
     -- up to the due tick
     pub elapsed : (t : ℕ) → r .clock ≤ t → t ≤ nat (r .d) i → ∣ int (r .s) i *ℤ pos (t - nat (r .l) i) ∣ < 2 ^ 32 + 2 ^ 44
-    pub value : nat (r .d) i < never → ∣ positionAt r (nat (r .d) i) i ∣ < 2 ^ 32 + 2 ^ 44
+    pub value : ∣ positionAt r (nat (r .d) i) i ∣ < 2 ^ 32 + 2 ^ 44
+
+  -- of the numbers that the listing program prints, by their digits: tick, source and value of an event; clock, instants and updates
+  pub record PrintedLimits : Type 0 where
+    pub tick : statusOf p r ≡ 0 → tickOf p r < 10 ^ 10
+    pub source : p .n + p .m ≤ 10 ^ 2
+    pub output : statusOf p r ≡ 0 → (i : ℕ) → i < p .n → nat (r .d) i ≡ tickOf p r → ∣ positionAt r (tickOf p r) i ∣ < 10 ^ 10
+    pub setting : (e : ℕ) → e < p .commands → ∣ int (p .values) e ∣ < 10 ^ 10
+    pub clock : r .clock < 10 ^ 10
+    pub instants : r .instants < 10 ^ 10
+    pub updates : r .updates < 10 ^ 11
 
   pub record StateLimits : Type 0 where
     pub rates : RateLimits p (r .q) (r .inputs)
@@ -101,3 +111,4 @@ module _ (p : Plan) (r : Running) where
     pub bytes : (engine : Engine) (budget : ℕ) → length (events p engine budget r) ≤ roomOf p budget
     pub room : (budget : ℕ) → budget ≤ 1024 → roomOf p budget ≤ 491520
     pub listing : roomOf p 64 ≤ 30720
+    pub printed : PrintedLimits

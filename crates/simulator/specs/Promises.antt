@@ -5,7 +5,7 @@ use mathlib.Core.Bool.{true}
 use mathlib.Core.Logic.{_⊎_}
 use mathlib.Core.List.{List, [], _∷_, _++_}
 use Prim.Native.Nat.{ℕ, _+_, _-_, _*_, _≤_, _<_}
-use lib.IntN.{ℤ, pos, _+ℤ_, _-ℤ_, _*ℤ_}
+use lib.IntN.{ℤ, pos, negℤ, _+ℤ_, _-ℤ_, _*ℤ_}
 use lib.Signed.{_≤ℤ_, _<ℤ_}
 use lib.ListN.{length, take, drop}
 use Rattle.integers.specs.Parts.{up, ∣_∣}
@@ -20,13 +20,14 @@ use Rattle.plan.specs.Rules.{IntegratorRule, PlanRules, Answered}
 use Rattle.plan.specs.Encoding.{encode}
 use Rattle.plan.specs.Idle.{idlePlan}
 use Rattle.plan.specs.declared.Plan.{Plan}
-use Rattle.machine.specs.Values.{clipped, valueOf, sumOver, rateOf}
+use Rattle.machine.specs.Values.{valueOf, sumOver, rateOf}
 use Rattle.machine.specs.Due.{never, upperLevel, lowerLevel, distance, ticksTo, dueOf, LeastTicks}
 use Rattle.machine.specs.Next.{nextCommand, nextTick}
 use Rattle.machine.specs.Start.{startState, idleState}
 use Rattle.machine.specs.Reach.{changes, Changed, reached, Reached}
 use Rattle.machine.specs.Instant.{positionAt, moves, Moves, slopeThen, tickOf, instant, eventsOf}
 use Rattle.machine.specs.Status.{statusOf, integratorOf}
+use Rattle.machine.specs.Runs.{after, events}
 use Rattle.machine.specs.Plain.{Plain, plainAfter, plainEvents, plainStatus, plainIntegrator}
 use Rattle.machine.specs.Updates.{growth, growthUpTo, movedNow}
 use Rattle.machine.specs.Sound.{Sound}
@@ -48,7 +49,40 @@ pub record LoadPromise (file : List ℕ) : Type 0 where
   pub idle : (loadOf file .number ≡ 0 → ⊥) → loadOf file .state ≡ idleState
 
 abbrev pub EveryFile : Type 0
-EveryFile = (file : List ℕ) → Bytes file → LoadPromise file
+EveryFile = (file : List ℕ) → LoadPromise file
+
+-- where each number of an accepted file stands: the header's words at 0 to 40, then the entries behind their sections' offsets
+pub record PlacePromise (file : List ℕ) (p : Plan) : Type 0 where
+  pub horizon : p .horizon ≡ word file 0
+  pub offset : (k : ℕ) → offsetIn file k ≡ word file (4 + 8 * k)
+  pub size : (k : ℕ) → lengthIn file k ≡ word file (8 + 8 * k)
+  pub n : word file 8 ≡ 8 * p .n
+  pub m : word file 16 ≡ 4 * p .m
+  pub k : word file 24 ≡ 20 * p .k
+  pub links : word file 32 ≡ 12 * p .links
+  pub commands : word file 40 ≡ 12 * p .commands
+  -- "signed start ..; quantum"
+  pub starts : (i : ℕ) → i < p .n → int (p .starts) i ≡ signedWord file (word file 4 + 8 * i)
+  pub quanta : (i : ℕ) → i < p .n → int (p .quanta) i ≡ pos (word file (word file 4 + 8 * i + 4))
+  -- "signed first value"
+  pub firsts : (j : ℕ) → j < p .m → int (p .firsts) j ≡ signedWord file (word file 12 + 4 * j)
+  -- "kind, A, B, signed lo, signed hi"
+  pub kinds : (j : ℕ) → j < p .k → nat (p .kinds) j ≡ word file (word file 20 + 20 * j)
+  pub lefts : (j : ℕ) → j < p .k → nat (p .lefts) j ≡ word file (word file 20 + 20 * j + 4)
+  pub rights : (j : ℕ) → j < p .k → nat (p .rights) j ≡ word file (word file 20 + 20 * j + 8)
+  pub lows : (j : ℕ) → j < p .k → int (p .lows) j ≡ signedWord file (word file 20 + 20 * j + 12)
+  pub highs : (j : ℕ) → j < p .k → int (p .highs) j ≡ signedWord file (word file 20 + 20 * j + 16)
+  -- "target integrator, source, signed coefficient"
+  pub targets : (e : ℕ) → e < p .links → nat (p .targets) e ≡ word file (word file 28 + 12 * e)
+  pub sources : (e : ℕ) → e < p .links → nat (p .sources) e ≡ word file (word file 28 + 12 * e + 4)
+  pub coefficients : (e : ℕ) → e < p .links → int (p .coefficients) e ≡ signedWord file (word file 28 + 12 * e + 8)
+  -- "tick .., input number .., signed value"
+  pub ticks : (e : ℕ) → e < p .commands → nat (p .ticks) e ≡ word file (word file 36 + 12 * e)
+  pub numbers : (e : ℕ) → e < p .commands → nat (p .numbers) e ≡ word file (word file 36 + 12 * e + 4)
+  pub values : (e : ℕ) → e < p .commands → int (p .values) e ≡ signedWord file (word file 36 + 12 * e + 8)
+
+abbrev pub EveryPlace : Type 0
+EveryPlace = (file : List ℕ) → loadOf file .number ≡ 0 → PlacePromise file (loadOf file .state .plan)
 
 -- The section view: "that part of the caller's own file", by the directory, "or an empty part"
 pub record ViewPromise (file : List ℕ) (number : ℕ) : Type 0 where
@@ -58,7 +92,7 @@ pub record ViewPromise (file : List ℕ) (number : ℕ) : Type 0 where
   pub above : 4 < number → sectionOf file number ≡ []
 
 abbrev pub EveryView : Type 0
-EveryView = (file : List ℕ) (number : ℕ) → Bytes file → ViewPromise file number
+EveryView = (file : List ℕ) (number : ℕ) → ViewPromise file number
 
 -- ════ 2. Demand 2: written and loaded plans come back equal; events are those of document 01's machine
 
@@ -112,9 +146,10 @@ pub record ValuePromise (p : Plan) (q u : List ℤ) : Type 0 where
   pub inputs : (j : ℕ) → j < p .m → valueOf p q u (p .n + j) ≡ int u j
   -- "0 is a−b; 1 is floor(a×b / 65,536); both then clipped to ±M"
   pub differences : (j : ℕ) → j < p .k → nat (p .kinds) j ≡ 0
-      → valueOf p q u (p .n + p .m + j) ≡ clipped (valueOf p q u (nat (p .lefts) j) -ℤ valueOf p q u (nat (p .rights) j))
+      → valueOf p q u (p .n + p .m + j) ≡ limited (negℤ (pos M)) (pos M) (valueOf p q u (nat (p .lefts) j) -ℤ valueOf p q u (nat (p .rights) j))
   pub products : (j : ℕ) → j < p .k → nat (p .kinds) j ≡ 1
-      → valueOf p q u (p .n + p .m + j) ≡ clipped (floored (valueOf p q u (nat (p .lefts) j) *ℤ valueOf p q u (nat (p .rights) j)))
+      → valueOf p q u (p .n + p .m + j)
+      ≡ limited (negℤ (pos M)) (pos M) (floored (valueOf p q u (nat (p .lefts) j) *ℤ valueOf p q u (nat (p .rights) j)))
   -- "2 is a limited to lo..hi"
   pub limited-values : (j : ℕ) → j < p .k → nat (p .kinds) j ≡ 2
       → valueOf p q u (p .n + p .m + j) ≡ limited (int (p .lows) j) (int (p .highs) j) (valueOf p q u (nat (p .lefts) j))
@@ -123,7 +158,11 @@ pub record ValuePromise (p : Plan) (q u : List ℤ) : Type 0 where
       → valueOf p q u (p .n + p .m + j) ≡ int (p .highs) j
   pub low : (j : ℕ) → j < p .k → nat (p .kinds) j ≡ 3 → valueOf p q u (nat (p .lefts) j) <ℤ valueOf p q u (nat (p .rights) j)
       → valueOf p q u (p .n + p .m + j) ≡ int (p .lows) j
-  -- "s = floor(sum of coefficient × source value over its links / 65,536)"
+  -- "s = floor(sum of coefficient × source value over its links / 65,536)": the sum over the first e links, of which its own count
+  pub no-link : (i : ℕ) → sumOver p q u i 0 ≡ pos 0
+  pub own-link : (i e : ℕ) → nat (p .targets) e ≡ i
+      → sumOver p q u i (e + 1) ≡ sumOver p q u i e +ℤ int (p .coefficients) e *ℤ valueOf p q u (nat (p .sources) e)
+  pub other-link : (i e : ℕ) → (nat (p .targets) e ≡ i → ⊥) → sumOver p q u i (e + 1) ≡ sumOver p q u i e
   pub rate-below : (i : ℕ) → (pos 65536 *ℤ rateOf p q u i) ≤ℤ sumOver p q u i (p .links)
   pub rate-above : (i : ℕ) → sumOver p q u i (p .links) <ℤ (pos 65536 *ℤ (rateOf p q u i +ℤ pos 1))
 
@@ -201,6 +240,17 @@ pub record StatusPromise (p : Plan) (r : Running) : Type 0 where
 abbrev pub StatusMeans : Type 0
 StatusMeans = (p : Plan) (r : Running) → StatusPromise p r
 
+-- "A run with budget b takes b instants, or fewer if the status is first 1 or 2", from any figures
+pub record RunPromise (p : Plan) (engine : Engine) (r : Running) : Type 0 where
+  pub none : (after p engine 0 r ≡ r) × (events p engine 0 r ≡ [])
+  pub stopped : (b : ℕ) → (statusOf p r ≡ 0 → ⊥) → (after p engine b r ≡ r) × (events p engine b r ≡ [])
+  pub taken : (b : ℕ) → statusOf p r ≡ 0
+      → (after p engine (b + 1) r ≡ after p engine b (instant p engine r))
+      × (events p engine (b + 1) r ≡ eventsOf p r ++ events p engine b (instant p engine r))
+
+abbrev pub RunTakes : Type 0
+RunTakes = (p : Plan) (engine : Engine) (r : Running) → RunPromise p engine r
+
 -- which sources change, and step 4: the tests are the relations in document 01's words
 pub record ReachPromise (p : Plan) (d : List ℕ) (t i : ℕ) : Type 0 where
   pub change : (changes p d t i ≡ true → Changed p d t i) × (Changed p d t i → changes p d t i ≡ true)
@@ -226,7 +276,8 @@ pub record CallPromise (p : Plan) (st : State) (c : Call) : Type 0 where
   -- "Each accepted call answers the status and integrator of the state it returns."
   pub status : answerOf st c .number ≡ 0 → answerOf st c .status ≡ statusOf p (answerOf st c .state .run)
   pub integrator : answerOf st c .number ≡ 0 → answerOf st c .integrator ≡ integratorOf p (answerOf st c .state .run)
-  -- "later bytes keep their value", and there are as many as before
+  -- "bytes written from the buffer's start; later bytes keep their value", and there are as many as before
+  pub written : answerOf st c .written ≤ length (c .buffer)
   pub size : length (bufferOf st c) ≡ length (c .buffer)
   pub later : drop (answerOf st c .written) (bufferOf st c) ≡ drop (answerOf st c .written) (c .buffer)
   -- a refusal changes nothing that was lent
@@ -282,7 +333,7 @@ PlainTakes =
     (p : Plan) (b : ℕ) → (plainAfter p b .instants ≤ b) × (plainStatus p (plainAfter p b) ≡ 0 → plainAfter p b .instants ≡ b)
 
 abbrev pub Demand3 : Type 0
-Demand3 = (file : List ℕ) → Bytes file → loadOf file .number ≡ 0 → (calls : List Call) → ListPromise (planIn file) (loadOf file .state) calls
+Demand3 = (file : List ℕ) → loadOf file .number ≡ 0 → (calls : List Call) → ListPromise (planIn file) (loadOf file .state) calls
 
 -- ════ 4. "Loading and runs leave sound states."
 
@@ -291,7 +342,7 @@ abbrev pub SoundMeans : Type 0
 SoundMeans = (st : State) → (isSound st ≡ true → Sound st) × (Sound st → isSound st ≡ true)
 
 abbrev pub LoadSound : Type 0
-LoadSound = (file : List ℕ) → Bytes file → Sound (loadOf file .state)
+LoadSound = (file : List ℕ) → Sound (loadOf file .state)
 
 abbrev pub RunSound : Type 0
 RunSound = (engine : Engine) (st : State) (budget : ℕ) (buffer : List ℕ) → Sound st → Sound (runOf engine st budget buffer .state)
@@ -332,11 +383,30 @@ pub record NumberPromise (st : State) (buffer : List ℕ) : Type 0 where
 abbrev pub EveryNumber : Type 0
 EveryNumber = (st : State) (buffer : List ℕ) → NumberPromise st buffer
 
--- what an accepted call writes, and that no call changes a buffer's length
-pub record BufferPromise (st : State) (buffer : List ℕ) : Type 0 where
+-- what an accepted call answers and writes, on every sound state, one filled by hand too
+pub record AcceptedPromise (st : State) (buffer : List ℕ) : Type 0 where
   pub write : writeOf st buffer .number ≡ 0
       → (writeOf st buffer .length ≡ length (encode (st .plan))) × (writeOf st buffer .state ≡ st)
       × (bufferOfWrite st buffer ≡ encode (st .plan) ++ drop (length (encode (st .plan))) buffer)
+  pub run : (engine : Engine) (budget : ℕ) → runOf engine st budget buffer .number ≡ 0
+      → (runOf engine st budget buffer .status ≡ statusOf (st .plan) (after (st .plan) engine budget (st .run)))
+      × (runOf engine st budget buffer .integrator ≡ integratorOf (st .plan) (after (st .plan) engine budget (st .run)))
+      × (runOf engine st budget buffer .written ≡ length (events (st .plan) engine budget (st .run)))
+      × (runOf engine st budget buffer .state ≡ record { plan = st .plan; run = after (st .plan) engine budget (st .run) })
+      × (bufferOfRun engine st budget buffer
+      ≡ events (st .plan) engine budget (st .run) ++ drop (length (events (st .plan) engine budget (st .run))) buffer)
+  -- "Position call: x+s×(c−l) for a numbered integrator"
+  pub position : (i : ℕ) → positionedOf st i .number ≡ 0
+      → (positionedOf st i .value ≡ int (st .run .x) i +ℤ int (st .run .s) i *ℤ pos (st .run .clock - nat (st .run .l) i))
+      × (positionedOf st i .state ≡ st)
+
+abbrev pub Accepted : Type 0
+Accepted = (st : State) (buffer : List ℕ) → AcceptedPromise st buffer
+
+-- what is written fits, and no call changes a buffer's length
+pub record BufferPromise (st : State) (buffer : List ℕ) : Type 0 where
+  pub write-fits : writeOf st buffer .length ≤ length buffer
+  pub run-fits : (engine : Engine) (budget : ℕ) → runOf engine st budget buffer .written ≤ length buffer
   pub write-size : length (bufferOfWrite st buffer) ≡ length buffer
   pub run-size : (engine : Engine) (budget : ℕ) → length (bufferOfRun engine st budget buffer) ≡ length buffer
 
@@ -375,7 +445,7 @@ DueBetween = (x upper lower s : ℤ) → (s ≡ pos 0 → ⊥) → lower <ℤ x 
 
 -- ════ 6. The limits, each from the least that it needs, and of states from soundness alone
 pub record LimitPromise : Type 0 where
-  pub accepted-files : (file : List ℕ) → Bytes file → loadOf file .number ≡ 0 → AcceptedLimits file
+  pub accepted-files : (file : List ℕ) → loadOf file .number ≡ 0 → AcceptedLimits file
   pub files : (file : List ℕ) → Bytes file → FileLimits file
   pub rates : (p : Plan) (q u : List ℤ) → PlanRules p → ((i : ℕ) → i < p .n → ∣ int q i ∣ ≤ M) → ((j : ℕ) → j < p .m → ∣ int u j ∣ ≤ M)
       → RateLimits p q u
@@ -387,6 +457,7 @@ pub record LimitPromise : Type 0 where
 -- ════ All of them
 pub record EveryPromise : Type 0 where
   pub every-file : EveryFile
+  pub every-place : EveryPlace
   pub every-view : EveryView
   pub load-then-write : LoadThenWrite
   pub write-then-load : WriteThenLoad
@@ -397,6 +468,7 @@ pub record EveryPromise : Type 0 where
   pub steps-mean : StepsMean
   pub next-means : NextMeans
   pub status-means : StatusMeans
+  pub run-takes : RunTakes
   pub reach-means : ReachMeans
   pub frame : Frame
   pub plain-takes : PlainTakes
@@ -408,6 +480,7 @@ pub record EveryPromise : Type 0 where
   pub run-moves : RunMoves
   pub idle-loaded : IdleLoaded
   pub every-number : EveryNumber
+  pub accepted : Accepted
   pub every-buffer : EveryBuffer
   pub declined : Declined
   pub due-least : DueLeast

@@ -5,6 +5,7 @@ pub mod Numbers
 pub mod Calls
 pub mod StateLimits
 pub mod Files
+pub mod Places
 pub mod Limits
 pub mod Sound
 pub mod RoundTrips

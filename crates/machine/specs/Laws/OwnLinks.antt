@@ -25,13 +25,13 @@ unfolding countOf
 other p i e h = rw (ne-eqb (nat (p .targets) e) i h)
 
 -- what the order says of the links before link e
-record Before (p : Plan) (i e : ℕ) : Type 0 where
+record Earlier (p : Plan) (i e : ℕ) : Type 0 where
   -- link e is the integrator's: the sources of the earlier ones are different numbers below its source
   fewer : nat (p .targets) e ≡ i → ownLinks p i e ≤ nat (p .sources) e
   -- its target is lower: none is the integrator's
   none : nat (p .targets) e < i → ownLinks p i e ≡ 0
 
-next : (p : Plan) (i e : ℕ) → Ascends (p .targets) (p .sources) (suc e) → Before p i e → Before p i (suc e)
+next : (p : Plan) (i e : ℕ) → Ascends (p .targets) (p .sources) (suc e) → Earlier p i e → Earlier p i (suc e)
 next p i e order b = go (order e refl)
   where
     lower : nat (p .targets) e < i → ownLinks p i (suc e) ≡ 0
@@ -39,7 +39,7 @@ next p i e order b = go (order e refl)
 
     go : (nat (p .targets) e < nat (p .targets) (suc e))
         ⊎ ((nat (p .targets) e ≡ nat (p .targets) (suc e)) × (nat (p .sources) e < nat (p .sources) (suc e)))
-        → Before p i (suc e)
+        → Earlier p i (suc e)
     go (inl h) = record { fewer = λ k. omega (arith, lower (omega arith)); none = λ k. lower (omega arith) }
     go (inr h) =
         record {
@@ -51,7 +51,7 @@ module _ (p : Plan) (rules : PlanRules p) where
   pub sources-most : p .n + p .m + p .k ≤ 56
   sources-most = omega (arith, counts-of p (rules .counts))
 
-  before : (i e : ℕ) → e < p .links → Before p i e
+  before : (i e : ℕ) → e < p .links → Earlier p i e
   unfolding countOf
   before i zero h = omega arith
   before i (suc e) h = next p i e (rules .links (suc e) h .order) (before i e (omega arith))

@@ -3,10 +3,11 @@
 use mathlib.Core.Path.{_≡_, refl, sym, ap, ap₂, _∙_}
 use mathlib.Core.Bool.{Bool, true, false, cond, true≢false}
 use mathlib.Core.List.{List, [], _∷_, _++_, append-assoc}
-use Prim.Native.Nat.{ℕ, zero, suc, _≤_, _<_}
+use Prim.Native.Nat.{ℕ, zero, suc, _+_, _≤_, _<_}
 use native.Mathlib.Omega.{arith}
 use lib.Dec.{eqb}
 use lib.ListN.{length, replicate}
+use borrow.Author.Tests.{eq-eqb, ne-eqb}
 use Rattle.plan.specs.declared.Plan.{Plan}
 use Rattle.machine.specs.Instant.{takenAt, instant, eventsOf}
 use Rattle.machine.specs.Status.{statusOf, isPaused}
@@ -17,6 +18,22 @@ use Rattle.machine.specs.Laws.Soundness.{tick-after, instant-sound}
 use Rattle.machine.specs.Laws.Agreement.{Agrees, same-status, same-events, agrees-then}
 use Rattle.machine.specs.declared.Running.{Running}
 use Rattle.machine.specs.declared.Engine.{Engine}
+
+-- a run stops where the status is not 0, and else takes an instant and goes on
+module _ (p : Plan) (engine : Engine) where
+  pub run-stopped : (b : ℕ) (r : Running) → (statusOf p r ≡ 0 → ⊥) → (after p engine b r ≡ r) × (events p engine b r ≡ [])
+  unfolding after events isPaused
+  run-stopped zero r h = (refl, refl)
+  run-stopped (suc b) r h = let e = ne-eqb (statusOf p r) 0 h in (rw e, rw e)
+
+  pub run-taken : (b : ℕ) (r : Running) → statusOf p r ≡ 0
+      → (after p engine (b + 1) r ≡ after p engine b (instant p engine r))
+      × (events p engine (b + 1) r ≡ eventsOf p r ++ events p engine b (instant p engine r))
+  unfolding after events isPaused
+  run-taken b r h =
+      let next : b + 1 ≡ suc b = omega arith in
+      let e = eq-eqb (statusOf p r) 0 h in
+      (rw (next, e), rw (next, e))
 
 module _ (p : Plan) where
   unfoldable pub afterBy : List Engine → Running → Running

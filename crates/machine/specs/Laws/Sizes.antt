@@ -104,5 +104,5 @@ module _ (p : Plan) (q u : List ℤ) (rules : PlanRules p) (outputs : (i : ℕ) 
   unfolding rateOf
   rate-size i = floor-size (sumOver p q u i (p .links)) 65536 (56 * 2 ^ 38) (sum-size i (p .links) (omega arith))
 
-  pub rate-most : (i : ℕ) → ∣ rateOf p q u i ∣ ≤ 2 ^ 44
+  pub rate-most : (i : ℕ) → ∣ rateOf p q u i ∣ < 2 ^ 44
   rate-most i = omega (arith, rate-size i)

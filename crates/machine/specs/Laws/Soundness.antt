@@ -23,7 +23,7 @@ use Rattle.machine.specs.Sound.{SoundIntegrator, SoundRunning}
 use Rattle.machine.specs.Laws.Between.{near-between, near-itself}
 use Rattle.machine.specs.Laws.Due.{due-ahead}
 use Rattle.machine.specs.Laws.Next.{next-due, next-after}
-use Rattle.machine.specs.Laws.Status.{tick-horizon, position-size}
+use Rattle.machine.specs.Laws.Status.{tick-horizon, due-size}
 use Rattle.machine.specs.Laws.Inputs.{settings-size}
 use Rattle.machine.specs.Laws.Taken.{outputs-at, x-at, l-at}
 use Rattle.machine.specs.Laws.Moved.{between-then, not-due, slope-at, due-at, due-by-rule}
@@ -147,6 +147,6 @@ module _ (p : Plan) (r : Running) (ok : SoundRunning p r) where
         after = tick-after;
         until = tick-horizon p r paused;
         least = tick-least;
-        within = λ i h e. position-size p r paused i h (eqb-true (nat (r .d) i) t e);
+        within = λ i h e. due-size p r paused i h (eqb-true (nat (r .d) i) t e);
       } in
       sound-then p r ok t takes (moves p engine (r .d) t) (covers p engine (r .d) t)

@@ -7,7 +7,7 @@ use Prim.Native.Nat.{ℕ, _≤_, _<_}
 use native.Mathlib.Omega.{arith}
 use lib.IntN.{ℤ}
 use lib.Dec.{ltb, eqb}
-use borrow.Author.Tests.{ltb-true, ltb-false, lt-ltb, le-ltb, eqb-true, eqb-false, eq-eqb, ne-eqb}
+use borrow.Author.Tests.{ltb-true, ltb-false, lt-ltb, le-ltb, eqb-true, eq-eqb, ne-eqb}
 use Rattle.integers.specs.Parts.{∣_∣}
 use Rattle.integers.specs.Range.{within, within-true, within-false}
 use Rattle.plan.specs.Format.{M}
@@ -18,7 +18,6 @@ use Rattle.machine.specs.Due.{never}
 use Rattle.machine.specs.Reach.{isDue}
 use Rattle.machine.specs.Status.{bars, barring, statusAt, integratorAt, statusOf, isPaused}
 use Rattle.machine.specs.Instant.{positionAt, tickOf}
-use Rattle.machine.specs.Laws.Next.{next-most}
 use Rattle.machine.specs.declared.Running.{Running}
 
 module _ (d : List ℕ) (t : ℕ) (value : ℕ → ℤ) (i : ℕ) where
@@ -117,9 +116,6 @@ module _ (p : Plan) (d : List ℕ) (t : ℕ) (value : ℕ → ℤ) where
         go false false true e = absurd (omega arith)
         go false false false e = (refl, refl, refl)
 
-    pub paused-soon : t ≤ never → t < never
-    paused-soon h = omega (arith, eqb-false t never (tests .0))
-
     pub paused-horizon : t ≤ p .horizon
     paused-horizon = ltb-false (p .horizon) t (tests .1)
 
@@ -141,17 +137,17 @@ module _ (p : Plan) (d : List ℕ) (t : ℕ) (value value′ : ℕ → ℤ) (sam
   integrator-same = rw (status-same, barring-same)
 
 -- ---- a paused state
+pub is-paused : (p : Plan) (r : Running) → statusOf p r ≡ 0 → isPaused p r ≡ true
+unfolding isPaused
+is-paused p r e = eq-eqb (statusOf p r) 0 e
+
 module _ (p : Plan) (r : Running) (paused : isPaused p r ≡ true) where
   zero-status : statusAt p (r .d) (tickOf p r) (positionAt r (tickOf p r)) ≡ 0
   unfolding isPaused statusOf
   zero-status = eqb-true (statusOf p r) 0 paused
 
-  pub tick-soon : tickOf p r < never
-  unfolding tickOf
-  tick-soon = paused-soon p (r .d) (tickOf p r) (positionAt r (tickOf p r)) zero-status (next-most p (r .d) (r .next))
-
   pub tick-horizon : tickOf p r ≤ p .horizon
   tick-horizon = paused-horizon p (r .d) (tickOf p r) (positionAt r (tickOf p r)) zero-status
 
-  pub position-size : (i : ℕ) → i < p .n → nat (r .d) i ≡ tickOf p r → ∣ positionAt r (tickOf p r) i ∣ ≤ M
-  position-size = paused-size p (r .d) (tickOf p r) (positionAt r (tickOf p r)) zero-status
+  pub due-size : (i : ℕ) → i < p .n → nat (r .d) i ≡ tickOf p r → ∣ positionAt r (tickOf p r) i ∣ ≤ M
+  due-size = paused-size p (r .d) (tickOf p r) (positionAt r (tickOf p r)) zero-status

@@ -1,18 +1,20 @@
--- The values of sources: integrators give their outputs, inputs their values, and a node what its kind makes of the values of A and B.
--- Assumes nothing.
+-- The values of sources: integrators give their outputs, inputs their values, and a node what its kind makes of the values of A and B; and
+-- the rate that an integrator's links make of them. Assumes nothing.
 use mathlib.Core.Path.{_≡_, refl, sym, _∙_}
 use mathlib.Core.List.{List}
-use Prim.Native.Nat.{ℕ, _+_, _≤_, _<_}
+use Prim.Native.Nat.{ℕ, suc, _+_, _≤_, _<_}
 use native.Mathlib.Omega.{arith}
-use lib.IntN.{ℤ, _-ℤ_, _*ℤ_}
+use lib.IntN.{ℤ, pos, negℤ, _+ℤ_, _-ℤ_, _*ℤ_, +ℤ-idr}
 use lib.Signed.{_≤ℤ_, _<ℤ_}
-use Rattle.integers.specs.Division.{floored}
+use borrow.Author.Tests.{eq-eqb, ne-eqb}
+use Rattle.integers.specs.Division.{floored, floor-law}
 use Rattle.integers.specs.Order.{leZ-true, leZ-false}
 use Rattle.integers.specs.Range.{limited}
+use Rattle.plan.specs.Format.{M}
 use Rattle.plan.specs.Lists.{nat, int}
 use Rattle.plan.specs.Rules.{PlanRules}
 use Rattle.plan.specs.declared.Plan.{Plan}
-use Rattle.machine.specs.Values.{clipped, nodeOf, valueWith, valueOf}
+use Rattle.machine.specs.Values.{nodeOf, valueWith, valueOf, sumOver, rateOf}
 use Rattle.machine.specs.Laws.Inputs.{output-value, input-value}
 use Rattle.machine.specs.Laws.NodeOrder.{settled-at, node-at}
 
@@ -27,6 +29,26 @@ module _ (p : Plan) (q u : List ℤ) where
 
   pub setting-value : (j : ℕ) → j < p .m → valueOf p q u (p .n + j) ≡ int u j
   setting-value j h = value-settled 0 (p .n + j) (omega arith) (omega arith) ∙ input-value p q u j h
+
+  -- ---- the rate: the sum over an integrator's own links, by 65,536, rounded towards minus infinity
+  pub sum-none : (i : ℕ) → sumOver p q u i 0 ≡ pos 0
+  unfolding sumOver
+  sum-none i = refl
+
+  pub sum-own : (i e : ℕ) → nat (p .targets) e ≡ i
+      → sumOver p q u i (e + 1) ≡ sumOver p q u i e +ℤ int (p .coefficients) e *ℤ valueOf p q u (nat (p .sources) e)
+  unfolding sumOver
+  sum-own i e own = let next : e + 1 ≡ suc e = omega arith in rw (next, eq-eqb (nat (p .targets) e) i own)
+
+  pub sum-other : (i e : ℕ) → (nat (p .targets) e ≡ i → ⊥) → sumOver p q u i (e + 1) ≡ sumOver p q u i e
+  unfolding sumOver
+  sum-other i e other =
+      let next : e + 1 ≡ suc e = omega arith in rw (next, ne-eqb (nat (p .targets) e) i other) (+ℤ-idr (sumOver p q u i e))
+
+  pub rate-floor : (i : ℕ)
+      → ((pos 65536 *ℤ rateOf p q u i) ≤ℤ sumOver p q u i (p .links)) × (sumOver p q u i (p .links) <ℤ (pos 65536 *ℤ (rateOf p q u i +ℤ pos 1)))
+  unfolding rateOf
+  rate-floor i = floor-law (sumOver p q u i (p .links)) 65536 (omega arith)
 
   -- ---- nodes, by the plan's rules
   module _ (rules : PlanRules p) (j : ℕ) (h : j < p .k) where
@@ -52,11 +74,11 @@ module _ (p : Plan) (q u : List ℤ) where
     right : (nat (p .kinds) j ≡ 2 → ⊥) → valueWith p q u j (nat (p .rights) j) ≡ b
     right n = sym (value-settled j (nat (p .rights) j) (omega arith) (rules .nodes j h .right n))
 
-    pub difference-node : nat (p .kinds) j ≡ 0 → valueOf p q u own ≡ clipped (a -ℤ b)
+    pub difference-node : nat (p .kinds) j ≡ 0 → valueOf p q u own ≡ limited (negℤ (pos M)) (pos M) (a -ℤ b)
     unfolding nodeOf
     difference-node e = worked-out ∙ rw (left, right (λ t. omega arith), e)
 
-    pub product-node : nat (p .kinds) j ≡ 1 → valueOf p q u own ≡ clipped (floored (a *ℤ b))
+    pub product-node : nat (p .kinds) j ≡ 1 → valueOf p q u own ≡ limited (negℤ (pos M)) (pos M) (floored (a *ℤ b))
     unfolding nodeOf
     product-node e = worked-out ∙ rw (left, right (λ t. omega arith), e)
 

@@ -5,10 +5,10 @@ use mathlib.Core.List.{List}
 use Prim.Native.Nat.{ℕ, zero, suc, _≤_, _<_}
 use native.Mathlib.Omega.{arith}
 use lib.Dec.{leb, ltb, eqb}
-use lib.ListN.{length, List·getD-eq-default}
+use lib.ListN.{List·getD-eq-default}
 use borrow.Author.Tests.{leb-true, ltb-true, ltb-false, eqb-true, eqb-false}
 use Rattle.plan.specs.Lists.{nat, table, every}
-use Rattle.plan.specs.Format.{sections, largestCounts, headerLength, countIn, planIn}
+use Rattle.plan.specs.Format.{sections, largestCounts, countIn, planIn}
 use Rattle.plan.specs.Tests.{longEnough, offsetsKept, sizesKept, counts}
 use Rattle.plan.specs.Refusals.{numberOf, entryOf, isClean, orElse}
 use Rattle.plan.specs.Refusals.{commandsFinding, planFinding, findingOf, accepted}
@@ -157,9 +157,6 @@ module _ (file : List ℕ) where
     holds : (k : ℕ) → Holds file k
     unfolding accepted isClean
     holds = answered .accepts (eqb-true (numberOf (findingOf file)) 0 yes) .0
-
-    pub accepted-long : headerLength ≤ length file
-    accepted-long = holds 1 0 (omega arith)
 
     pub accepted-offsets : OffsetRule file
     accepted-offsets = holds 2 0 (omega arith)

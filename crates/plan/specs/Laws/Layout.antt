@@ -4,10 +4,10 @@ use mathlib.Core.List.{List, [], _∷_, _++_, append-assoc}
 use Prim.Native.Nat.{ℕ, zero, suc, _+_, _*_, _^_, _≤_, _<_}
 use native.Mathlib.Nat.{mul-le-mul-left}
 use native.Mathlib.Omega.{arith}
-use lib.ListN.{length, getD, length-append, List·getD-append}
-use lib.Seq.{take-at, drop-at, getD-append-add}
-use Rattle.words.specs.Word.{Bytes, word, flat}
-use Rattle.words.specs.Flat.{length-flat, flat-append, bytes-flat, word-flat}
+use lib.ListN.{length, getD, length-append}
+use lib.Seq.{take-at, drop-at}
+use Rattle.words.specs.Word.{word, flat}
+use Rattle.words.specs.Flat.{length-flat, flat-append, word-flat}
 use Rattle.plan.specs.Lists.{nat, joined}
 use Rattle.plan.specs.Format.{sections, entrySizes, headerLength, part}
 use Rattle.plan.specs.Tests.{counts}
@@ -78,10 +78,6 @@ module _ (p : Plan) where
   unfolding encode fileLength
   length-encode = length-flat (fileWords p) ∙ ap (λ ws. 4 * length ws) words-to ∙ length-to sections (omega arith)
 
-  pub bytes-encode : Bytes (encode p)
-  unfolding encode
-  bytes-encode = bytes-flat (fileWords p)
-
   -- ---- places
   -- section k stands behind the words up to it
   pub words-split : (k : ℕ) → k < sections → (rest : List ℕ) × (fileWords p ≡ wordsTo k ++ (sectionWords k ++ rest))
@@ -115,12 +111,6 @@ module _ (p : Plan) where
     section-inside =
         let e = length-joined (entryWords k) (nat entryWidths k) (nat (counts p) k) (λ j t. length-entry k j h) in
         omega (arith, mul-le-mul-left (nat entryWidths k) l)
-
-    pub file-word : getD (fileWords p) (length (wordsTo k) + (nat entryWidths k * i + c)) 0 ≡ getD (entryWords k i) c 0
-    file-word =
-        let r = words-split k h in
-        rw (r .1, getD-append-add (wordsTo k) (sectionWords k ++ r .0) (nat entryWidths k * i + c) 0)
-        (List·getD-append (sectionWords k) (r .0) 0 (nat entryWidths k * i + c) section-inside ∙ section-word)
 
     -- read from the section's bytes
     pub entry-read : getD (entryWords k i) c 0 < 2 ^ 32

@@ -1,6 +1,6 @@
 -- Laws of the tests over indexes and lists, and of the first index that passes. Assumes nothing.
 use mathlib.Core.Path.{_≡_, refl, sym, _∙_, subst}
-use mathlib.Core.Bool.{not-eq-not, Bool, true, false, cond, _||_, true≢false, false≢true, and-eq-true-iff}
+use mathlib.Core.Bool.{Bool, true, false, cond, _||_, true≢false, false≢true, and-eq-true-iff}
 use mathlib.Core.Logic.{_↔_}
 use mathlib.Core.List.{List, [], _∷_}
 use Prim.Native.Nat.{ℕ, zero, suc, _+_, _≤_, _<_}
@@ -53,14 +53,6 @@ some-here test (suc n) i h e =
     or-right : (a : Bool) {b : Bool} → b ≡ true → (a || b) ≡ true
     or-right true e = refl
     or-right false e = e
-
-pub some-none : (test : ℕ → Bool) (n : ℕ) → some test n ≡ false → (i : ℕ) → i < n → test i ≡ false
-some-none test n e i h = not-eq-not {b = false} .0 (λ t. true≢false (sym (some-here test n i h t) ∙ e))
-
-pub some-ext : (f g : ℕ → Bool) (n : ℕ) → ((i : ℕ) → i < n → f i ≡ g i) → some f n ≡ some g n
-unfolding some
-some-ext f g zero e = refl
-some-ext f g (suc n) e = rw (e n (omega arith), some-ext f g n (λ i h. e i (omega arith)))
 
 -- ---- each entry of a list from index k on, where what stands past the end passes
 pub all-from {ℓ} : {A : Type ℓ} (test : A → Bool) (z : A) → test z ≡ true → (k : ℕ) (xs : List A)

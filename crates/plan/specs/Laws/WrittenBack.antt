@@ -12,15 +12,15 @@ use Rattle.words.specs.Reading.{number-lt, bytes-number}
 use Rattle.words.specs.Flat.{length-flat, flat-append, flat-read}
 use Rattle.words.specs.Signs.{unsigned-signed}
 use Rattle.plan.specs.Lists.{nat, int, joined}
-use Rattle.plan.specs.Format.{sections, entrySizes, largestCounts, headerLength, horizonIn, offsetIn, lengthIn, countIn, part}
-use Rattle.plan.specs.Format.{sectionIn, columnIn, signedsIn, planIn}
+use Rattle.plan.specs.Format.{sections, entrySizes, headerLength, horizonIn, offsetIn, lengthIn, countIn, part}
+use Rattle.plan.specs.Format.{sectionIn, signedsIn, planIn}
 use Rattle.plan.specs.Rules.{OffsetRule, SizeRule}
 use Rattle.plan.specs.Encoding.{lengthOf, offsetOf, headerWords, integratorWords, inputWords, nodeWords, linkWords}
 use Rattle.plan.specs.Encoding.{commandWords, encode}
-use Rattle.plan.specs.Laws.Rows.{row-at}
 use Rattle.plan.specs.Laws.Answers.{counts-at}
 use Rattle.plan.specs.Laws.Joined.{joined-parts, flat-joined}
 use Rattle.plan.specs.Laws.Layout.{each-section, size-width, entryWords, sectionWords, wordsTo, length-entry, words-to}
+use Rattle.plan.specs.Laws.Places.{column-at}
 use Rattle.plan.specs.Laws.Parts.{bytes-section, offsets, length-section-in, length-entries}
 
 -- the words of a list, from its c-th on, are those that stand in s from byte `at` on
@@ -48,19 +48,11 @@ joined-reads s ws at n b e =
 
 module _ (file : List ℕ) (b : Bytes file) (o : OffsetRule file) (z : SizeRule file) where
   -- ---- the words of an entry
-  -- entry i of column c is what stands there
-  column-at : {A : Type 0} (unused : A) (read : List ℕ → ℕ → A) (k i : ℕ) → k < sections → i < countIn file k → (c : ℕ)
-      → getD (columnIn unused read file k c) i unused ≡ read (sectionIn file k) (nat entrySizes k * i + 4 * c)
-  unfolding columnIn
-  column-at unused read k i h l c =
-      let most = z .count k h .1 in
-      row-at unused (nat largestCounts k) (countIn file k) (λ j. read (sectionIn file k) (nat entrySizes k * j + 4 * c)) i most l
-
   signed-at : (k i : ℕ) → k < sections → i < countIn file k → (c : ℕ)
       → wordOf (int (signedsIn file k c) i) ≡ word (sectionIn file k) (nat entrySizes k * i + 4 * c)
   signed-at k i h l c =
       let at = nat entrySizes k * i + 4 * c in
-      ap wordOf (column-at (pos 0) signedWord k i h l c)
+      ap wordOf (column-at file z (pos 0) signedWord k i h l c)
       ∙ unsigned-signed 4 (word (sectionIn file k) at) (number-lt 4 at (bytes-section file b k))
 
   entry-reads : (k i : ℕ) → k < sections → i < countIn file k
@@ -68,11 +60,11 @@ module _ (file : List ℕ) (b : Bytes file) (o : OffsetRule file) (z : SizeRule 
   unfolding planIn unsignedOf entryWords integratorWords inputWords nodeWords linkWords commandWords
   entry-reads k i =
       each-section (λ k. i < countIn file k → Reads (sectionIn file k) (nat entrySizes k * i) 0 (entryWords (planIn file) k i))
-      (λ l. (signed-at 0 i (omega arith) l 0, (ap wordOf (column-at (pos 0) (λ s at. pos (word s at)) 0 i (omega arith) l 1), tt)))
+      (λ l. (signed-at 0 i (omega arith) l 0, (ap wordOf (column-at file z (pos 0) (λ s at. pos (word s at)) 0 i (omega arith) l 1), tt)))
       (λ l. (signed-at 1 i (omega arith) l 0, tt))
-      (λ l. let plain = column-at 0 word 2 i (omega arith) l in (plain 0, (plain 1, (plain 2, limits l))))
-      (λ l. let plain = column-at 0 word 3 i (omega arith) l in (plain 0, (plain 1, (signed-at 3 i (omega arith) l 2, tt))))
-      (λ l. let plain = column-at 0 word 4 i (omega arith) l in (plain 0, (plain 1, (signed-at 4 i (omega arith) l 2, tt))))
+      (λ l. let plain = column-at file z 0 word 2 i (omega arith) l in (plain 0, (plain 1, (plain 2, limits l))))
+      (λ l. let plain = column-at file z 0 word 3 i (omega arith) l in (plain 0, (plain 1, (signed-at 3 i (omega arith) l 2, tt))))
+      (λ l. let plain = column-at file z 0 word 4 i (omega arith) l in (plain 0, (plain 1, (signed-at 4 i (omega arith) l 2, tt))))
       k
     where
       limits : i < countIn file 2

@@ -1,9 +1,10 @@
 -- Every promise holds. Assumes nothing.
 use Rattle.simulator.specs.Promises.{EveryPromise}
 use Rattle.simulator.specs.Proofs.Machine.{next-means, status-means, reach-promise, frame, due-least, due-between, plain-takes}
-use Rattle.simulator.specs.Proofs.Steps.{values-mean, start-means, steps-mean}
-use Rattle.simulator.specs.Proofs.Calls.{every-number, every-buffer, declined}
+use Rattle.simulator.specs.Proofs.Steps.{values-mean, start-means, steps-mean, run-takes}
+use Rattle.simulator.specs.Proofs.Calls.{every-number, accepted, every-buffer, declined}
 use Rattle.simulator.specs.Proofs.Files.{every-file, every-view, load-shaped}
+use Rattle.simulator.specs.Proofs.Places.{every-place}
 use Rattle.simulator.specs.Proofs.Limits.{limits}
 use Rattle.simulator.specs.Proofs.Sound.{sound-means, load-sound, idle-loaded, next-determined}
 use Rattle.simulator.specs.Proofs.RoundTrips.{load-then-write, write-then-load}
@@ -15,6 +16,7 @@ pub every-promise : EveryPromise
 every-promise =
     record {
       every-file = every-file;
+      every-place = every-place;
       every-view = every-view;
       load-then-write = load-then-write;
       write-then-load = write-then-load;
@@ -25,6 +27,7 @@ every-promise =
       steps-mean = steps-mean;
       next-means = next-means;
       status-means = status-means;
+      run-takes = run-takes;
       reach-means = reach-promise;
       frame = frame;
       plain-takes = plain-takes;
@@ -36,6 +39,7 @@ every-promise =
       run-moves = run-moves;
       idle-loaded = idle-loaded;
       every-number = every-number;
+      accepted = accepted;
       every-buffer = every-buffer;
       declined = declined;
       due-least = due-least;

@@ -10,12 +10,14 @@ use lib.ListN.{length, length-append, length-drop}
 use borrow.Author.Tests.{eq-eqb, ne-eqb, le-leb, lt-leb, lt-ltb, le-ltb}
 use Rattle.plan.specs.Encoding.{encode}
 use Rattle.plan.specs.Laws.Layout.{length-encode}
+use Rattle.machine.specs.Instant.{positionAt}
+use Rattle.machine.specs.Runs.{positionOf}
 use Rattle.machine.specs.Laws.Lengths.{run-bytes}
 use Rattle.machine.specs.Laws.Tested.{sound-means}
-use Rattle.simulator.specs.Calls.{over, writeNumber, writeOf, bufferOfWrite, roomOf, declineOf, runNumber, ranEvents, runOf}
+use Rattle.simulator.specs.Calls.{over, writeNumber, writeOf, bufferOfWrite, roomOf, declineOf, runNumber, ranState, ranEvents, runOf}
 use Rattle.simulator.specs.Calls.{bufferOfRun, positionNumber, positionedOf}
-use Rattle.simulator.specs.Promises.{EveryNumber, EveryBuffer, Declined}
-use Rattle.simulator.specs.Proofs.Numbers.{accept-cases, unsound-test, write-zero, run-zero}
+use Rattle.simulator.specs.Promises.{EveryNumber, Accepted, EveryBuffer, Declined}
+use Rattle.simulator.specs.Proofs.Numbers.{accept-cases, figure-most, unsound-test, write-zero, run-zero}
 
 pub every-number : EveryNumber
 unfolding writeOf writeNumber runOf runNumber declineOf roomOf positionedOf positionNumber
@@ -39,11 +41,22 @@ length-then : (number : ℕ) (bytes buffer : List ℕ) → (number ≡ 0 → len
 length-then number bytes buffer h =
     accept-cases {A = List ℕ} (λ b. length b ≡ length buffer) number (λ e. let l = h e in simp (length-append, length-drop) (omega arith)) refl
 
+pub accepted : Accepted
+unfolding writeOf bufferOfWrite runOf ranState bufferOfRun ranEvents positionedOf positionOf positionAt
+accepted st buffer =
+    record {
+      write = λ e. (rw (eq-eqb _ 0 e, length-encode (st .plan)), refl, rw (eq-eqb _ 0 e));
+      run = λ engine budget e. let yes = eq-eqb _ 0 e in (rw yes, rw yes, rw yes, rw yes, rw yes);
+      position = λ i e. (rw (eq-eqb _ 0 e), refl);
+    }
+
 pub every-buffer : EveryBuffer
-unfolding writeOf bufferOfWrite bufferOfRun ranEvents roomOf
+unfolding writeOf bufferOfWrite runOf bufferOfRun ranEvents roomOf
 every-buffer st buffer =
     let room = length buffer in let size = length-encode (st .plan) in record {
-      write = λ e. (rw (eq-eqb _ 0 e, size), refl, rw (eq-eqb _ 0 e));
+      write-fits = figure-most (writeNumber st room) room (λ e. write-zero st room e .1);
+      run-fits = λ engine budget.
+          figure-most (runNumber st budget room) room (λ e. le-trans (run-bytes (st .plan) engine budget (st .run)) (run-zero st budget room e .2));
       write-size = length-then (writeNumber st room) (encode (st .plan)) buffer (λ e. omega (arith, size, write-zero st room e .1));
       run-size = λ engine budget.
           length-then (runNumber st budget room) (ranEvents engine st budget) buffer

@@ -146,7 +146,7 @@ module _ (p : Plan) (ok : SoundRunning p (startOf p)) where
 
 pub demand-3 : Demand3
 unfolding startState
-demand-3 file bytes loads calls =
+demand-3 file loads calls =
     let p = planIn file in
     let ok = start-sound p (accepted-rules file (load-accepted file loads)) (file-unused file) in
-    rw (every-file file bytes .started loads) (list-promise p ok calls)
+    rw (every-file file .started loads) (list-promise p ok calls)

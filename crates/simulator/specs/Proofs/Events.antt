@@ -22,7 +22,7 @@ use Rattle.machine.specs.Laws.Taken.{outputs-at}
 use Rattle.machine.specs.Laws.EventWords.{length-events, events-tick, events-source, events-value}
 use Rattle.machine.specs.Laws.Inputs.{setting-of, output-value, input-value}
 use Rattle.machine.specs.Laws.Reach.{changes-means}
-use Rattle.machine.specs.Laws.Status.{tick-horizon, position-size}
+use Rattle.machine.specs.Laws.Status.{is-paused, tick-horizon, due-size}
 use Rattle.machine.specs.declared.Running.{Running}
 use Rattle.simulator.specs.Promises.{EventAt, EventsPromise, EventsRead}
 
@@ -36,8 +36,7 @@ module _ (p : Plan) (r : Running) where
 
 module _ (p : Plan) (r : Running) (ok : SoundRunning p r) (zero-status : statusOf p r ≡ 0) where
   paused : isPaused p r ≡ true
-  unfolding isPaused
-  paused = eq-eqb (statusOf p r) 0 zero-status
+  paused = is-paused p r zero-status
 
   limits : Counts p
   limits = counts-of p (ok .plan .counts)
@@ -69,7 +68,7 @@ module _ (p : Plan) (r : Running) (ok : SoundRunning p r) (zero-status : statusO
   events-promise : EventsPromise p r
   unfolding eventsOf
   events-promise = record {
-    due = λ i h e. event-at i (positionAt r (tickOf p r) i) (omega arith) (due h e) (due-value i h e) (position-size p r paused i h e);
+    due = λ i h e. event-at i (positionAt r (tickOf p r) i) (omega arith) (due h e) (due-value i h e) (due-size p r paused i h e);
     commanded = λ j e h l tick number.
         event-at (p .n + j) (int (p .values) e) (omega arith) (commanded j e refl h l tick number)
         (input-value p (outputsThen p r) (inputsThen p r) j h ∙ setting-of p (ok .plan) (r .inputs) (tickOf p r) j e h l tick number)

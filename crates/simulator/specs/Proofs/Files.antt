@@ -44,7 +44,7 @@ module _ (file : List ℕ) where
 
 pub every-file : EveryFile
 unfolding loadOf
-every-file file bytes = record {
+every-file file = record {
   answered = answered file;
   started = λ e. rw (load-accepted file e);
   idle = λ e. rw (load-refused file e);
@@ -52,7 +52,7 @@ every-file file bytes = record {
 
 pub every-view : EveryView
 unfolding sectionIn
-every-view file number bytes = record {
+every-view file number = record {
   shown = λ e h. view-shown file number (load-accepted file e) (omega arith);
   whole = λ e h.
       let yes = load-accepted file e in

@@ -1,12 +1,10 @@
 -- The limits of docs/LIMITS.md: of files, of states and of what the calls answer. Assumes nothing.
 use mathlib.Core.Path.{_≡_}
-use mathlib.Core.Bool.{cond}
 use mathlib.Core.List.{List}
-use Prim.Native.Nat.{ℕ, _^_, _≤_, _<_}
+use Prim.Native.Nat.{ℕ, _^_, _<_}
 use native.Mathlib.Nat.{le-trans}
 use native.Mathlib.Omega.{arith}
 use lib.IntN.{ℤ}
-use lib.Dec.{eqb}
 use lib.ListN.{length}
 use Rattle.integers.specs.Parts.{∣_∣}
 use Rattle.words.specs.Word.{Bytes}
@@ -27,7 +25,7 @@ use Rattle.simulator.specs.Calls.{positionedOf}
 use Rattle.simulator.specs.Limits.{RunLimits, AcceptedLimits, FileLimits, AnswerLimits}
 use Rattle.simulator.specs.Promises.{LimitPromise}
 use Rattle.simulator.specs.Proofs.Files.{load-accepted}
-use Rattle.simulator.specs.Proofs.Numbers.{accept-cases, write-most, write-zero, run-most, run-zero, position-most, position-zero}
+use Rattle.simulator.specs.Proofs.Numbers.{accept-cases, figure-most, write-most, write-zero, run-most, run-zero, position-most, position-zero}
 use Rattle.simulator.specs.Proofs.StateLimits.{rate-limits, level-limits, room-most, state-limits}
 
 -- ---- files
@@ -49,10 +47,6 @@ any-limits file b =
     }
 
 -- ---- what the calls answer
--- a figure of an accepted call, else 0
-figure-most : (number : ℕ) {x : ℕ} (k : ℕ) → (number ≡ 0 → x ≤ k) → cond (eqb number 0) x 0 ≤ k
-figure-most number k h = accept-cases (λ x. x ≤ k) number h (omega arith)
-
 module _ (st : State) where
   counts-by : Sound st → Counts (st .plan)
   counts-by s = counts-of (st .plan) (s .plan .counts)
@@ -89,7 +83,7 @@ module _ (st : State) where
 pub limits : LimitPromise
 limits =
     record {
-      accepted-files = λ file b. accepted-limits file;
+      accepted-files = accepted-limits;
       files = any-limits;
       rates = rate-limits;
       levels = λ p q i x s k a above below. level-limits p q i x s k a (record { above = above; below = below });

@@ -21,6 +21,10 @@ accept-cases P number {x} {y} accepted declined = go (eqb number 0) refl
     go true e = accepted (eqb-true number 0 e)
     go false e = declined
 
+-- a figure of an accepted call, else 0
+pub figure-most : (number : ℕ) {x : ℕ} (k : ℕ) → (number ≡ 0 → x ≤ k) → cond (eqb number 0) x 0 ≤ k
+figure-most number k h = accept-cases (λ x. x ≤ k) number h (omega arith)
+
 -- what is not declined passes its test
 passes : (b : Bool) {x n : ℕ} → 0 < n → cond b x n ≡ 0 → (b ≡ true) × (x ≡ 0)
 passes true h e = (refl, e)

@@ -32,6 +32,7 @@ module _ (p : Plan) (r : Running) (ok : SoundRunning p r) where
         status = λ e. rw (eq-eqb (runNumber (at p r) (c .budget) (length (c .buffer))) 0 e);
         integrator = λ e. rw (eq-eqb (runNumber (at p r) (c .budget) (length (c .buffer))) 0 e);
         size = every-buffer (at p r) (c .buffer) .run-size (c .engine) (c .budget);
+        written = every-buffer (at p r) (c .buffer) .run-fits (c .engine) (c .budget);
         later = kept (eqb (runNumber (at p r) (c .budget) (length (c .buffer))) 0) (ranEvents (c .engine) (at p r) (c .budget));
         declined = λ d. let all = declined (at p r) (c .buffer) .run (c .engine) (c .budget) d in (all .3, all .4);
       }

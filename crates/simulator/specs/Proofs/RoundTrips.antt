@@ -7,7 +7,7 @@ use Rattle.plan.specs.Laws.Answers.{accepted-offsets, accepted-sizes}
 use Rattle.plan.specs.Laws.WrittenBack.{file-back}
 use Rattle.simulator.specs.Calls.{writeOf, bufferOfWrite}
 use Rattle.simulator.specs.Promises.{LoadThenWrite, WriteThenLoad}
-use Rattle.simulator.specs.Proofs.Calls.{every-number, every-buffer}
+use Rattle.simulator.specs.Proofs.Calls.{every-number, accepted}
 use Rattle.simulator.specs.Proofs.Files.{load-accepted, load-encoded}
 
 pub load-then-write : LoadThenWrite
@@ -15,7 +15,7 @@ load-then-write file buffer st bytes accepts ok same room =
     let yes = load-accepted file accepts in
     let back : encode (st .plan) ≡ file = ap encode same ∙ file-back file bytes (accepted-offsets file yes) (accepted-sizes file yes) in
     let number = every-number st buffer .write-accepted ok (rw back room) in
-    let written = every-buffer st buffer .write number in
+    let written = accepted st buffer .write number in
     record {
       number = number;
       size = rw back at (written .0);
@@ -30,5 +30,5 @@ write-then-load st buffer shaped ok number =
   where
     file : take (writeOf st buffer .length) (bufferOfWrite st buffer) ≡ encode (st .plan)
     file =
-        let written = every-buffer st buffer .write number in
+        let written = accepted st buffer .write number in
         rw (written .0, written .2) (take-append-seam (encode (st .plan)) (drop (length (encode (st .plan))) buffer))

@@ -5,8 +5,9 @@ use native.Mathlib.Omega.{arith}
 use lib.ListN.{replicate}
 use borrow.Author.Tests.{eq-eqb}
 use Rattle.plan.specs.declared.Plan.{Plan}
-use Rattle.machine.specs.Status.{statusOf, isPaused}
+use Rattle.machine.specs.Status.{statusOf}
 use Rattle.machine.specs.Sound.{SoundRunning}
+use Rattle.machine.specs.Laws.Status.{is-paused}
 use Rattle.machine.specs.Laws.Runs.{afterBy, clock-moves}
 use Rattle.machine.specs.declared.Running.{Running}
 use Rattle.simulator.specs.Lists.{Call, answerOf, fedBy}
@@ -21,9 +22,9 @@ run-sound engine st budget buffer ok =
     rw (call-after (st .plan) (st .run) c ok) (next-sound (st .plan) (st .run) c ok)
 
 module _ (p : Plan) (r : Running) (ok : SoundRunning p r) (c : Call) where
-  moves : answerOf (at p r) c .number ≡ 0 → 1 ≤ c .budget → answerOf (at p r) c .status ≡ 0 → r .clock < answerOf (at p r) c .state .run .clock
-  unfolding fedBy isPaused
-  moves accepts some paused =
+  clock-then : answerOf (at p r) c .number ≡ 0 → 1 ≤ c .budget → answerOf (at p r) c .status ≡ 0 → r .clock < answerOf (at p r) c .state .run .clock
+  unfolding fedBy
+  clock-then accepts some paused =
       rw (call-after p r c ok) (by (fed p c) fed-is (rw (call-after p r c ok) at (sym (call-promise p r ok c .status accepts) ∙ paused)))
     where
       fed-is : c .budget ≡ fed p c
@@ -31,9 +32,9 @@ module _ (p : Plan) (r : Running) (ok : SoundRunning p r) (c : Call) where
 
       by : (k : ℕ) → c .budget ≡ k → statusOf p (afterBy p (replicate k (c .engine)) r) ≡ 0 → r .clock < afterBy p (replicate k (c .engine)) r .clock
       by zero e s = absurd (omega arith)
-      by (suc k) e s = clock-moves p (c .engine) (replicate k (c .engine)) r ok (eq-eqb _ 0 s)
+      by (suc k) e s = clock-moves p (c .engine) (replicate k (c .engine)) r ok (is-paused p (afterBy p (replicate (suc k) (c .engine)) r) s)
 
 pub run-moves : RunMoves
 unfolding answerOf
 run-moves engine st budget buffer ok accepts some paused =
-    moves (st .plan) (st .run) ok (record { engine = engine; budget = budget; buffer = buffer }) accepts some paused
+    clock-then (st .plan) (st .run) ok (record { engine = engine; budget = budget; buffer = buffer }) accepts some paused

@@ -121,6 +121,3 @@ module _ (p : Plan) where
   calls-bytes (c ∷ calls) r ok =
       rw (call-events r c ok, call-after r c ok, events-append p (replicate (fed p c) (c .engine)) (schedule p calls) r)
       (ap (λ (ys : List ℕ). eventsBy p (replicate (fed p c) (c .engine)) r ++ ys) (calls-bytes calls (next r c ok) (next-sound r c ok)))
-
-  pub calls-sound : (calls : List Call) (r : Running) → SoundRunning p r → Sound (afterCalls (at p r) calls)
-  calls-sound calls r ok = rw (calls-state calls r ok) (run-sound p (schedule p calls) r ok)

@@ -19,7 +19,7 @@ pub sound-means : SoundMeans
 sound-means = Rattle.machine.specs.Laws.Tested.sound-means
 
 pub load-sound : LoadSound
-load-sound file bytes =
+load-sound file =
     load-either file Sound (λ yes. start-sound (planIn file) (accepted-rules file yes) (file-unused file)) idle-sound
 
 pub idle-loaded : IdleLoaded

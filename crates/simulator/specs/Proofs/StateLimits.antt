@@ -4,7 +4,6 @@ use Prim.Native.Nat.{ℕ, _+_, _*_, _≤_, _<_}
 use native.Mathlib.Nat.{mul-le-mul}
 use native.Mathlib.Omega.{arith}
 use lib.IntN.{ℤ}
-use borrow.Author.Tests.{eq-eqb}
 use Rattle.integers.specs.Parts.{∣_∣}
 use Rattle.plan.specs.Format.{M}
 use Rattle.plan.specs.Lists.{int}
@@ -14,7 +13,6 @@ use Rattle.plan.specs.Laws.Means.{within-size}
 use Rattle.plan.specs.declared.Plan.{Plan}
 use Rattle.machine.specs.Due.{upperLevel, lowerLevel}
 use Rattle.machine.specs.Sound.{SoundRunning}
-use Rattle.machine.specs.Status.{statusOf, isPaused}
 use Rattle.machine.specs.Laws.Between.{Between}
 use Rattle.machine.specs.Laws.Levels.{upper-size, lower-size, inside-size, distance-least, distance-most, ticks-positive, ticks-most}
 use Rattle.machine.specs.Laws.Lengths.{instant-bytes, run-bytes}
@@ -23,16 +21,16 @@ use Rattle.machine.specs.Laws.OwnLinks.{sources-most, own-links}
 use Rattle.machine.specs.Laws.Positions.{inside, position-size, stays-inside, slope-size, due-most, elapsed-size, value-at-due}
 use Rattle.machine.specs.Laws.Sizes.{operands-most, value-size, difference-size, product-size, term-size, sum-size, rate-size}
 use Rattle.machine.specs.Laws.Soundness.{tick-after}
-use Rattle.machine.specs.Laws.Status.{tick-horizon}
+use Rattle.machine.specs.Laws.Status.{is-paused, tick-horizon, due-size}
 use Rattle.machine.specs.declared.Running.{Running}
 use Rattle.simulator.specs.Calls.{roomOf}
-use Rattle.simulator.specs.Limits.{RateLimits, LevelLimits, IntegratorLimits, StateLimits}
+use Rattle.simulator.specs.Limits.{RateLimits, LevelLimits, IntegratorLimits, PrintedLimits, StateLimits}
 
 pub rate-limits : (p : Plan) (q u : List ℤ) → PlanRules p → ((i : ℕ) → i < p .n → ∣ int q i ∣ ≤ M) → ((j : ℕ) → j < p .m → ∣ int u j ∣ ≤ M)
     → RateLimits p q u
 rate-limits p q u k a b =
     record {
-      sources = sources-most p k;
+      sources = (omega (arith, counts-of p (k .counts)), sources-most p k);
       operands = operands-most p k;
       values = value-size p q u k a b;
       differences = difference-size p q u k a b;
@@ -76,17 +74,29 @@ module _ (p : Plan) (r : Running) (sound : SoundRunning p r) where
         slope = slope-size p r sound i h;
         due = due-most p r sound i h;
         elapsed = elapsed-size p r sound i h;
-        value = λ _. value-at-due p r sound i h;
+        value = value-at-due p r sound i h;
+      }
+
+  printed-limits : PrintedLimits p r
+  printed-limits =
+      let ticks : p .horizon ≤ 2000000000 = sound .plan .horizon .1 in record {
+        tick = λ e. omega (arith, tick-horizon p r (is-paused p r e));
+        source = omega (arith, limits);
+        output = λ e i h d. omega (arith, due-size p r (is-paused p r e) i h d);
+        setting = λ e h. omega (arith, within-size M (int (p .values) e) .0 (sound .plan .commands e h .value));
+        clock = omega (arith, sound .clock);
+        instants = omega (arith, sound .instants, sound .clock);
+        updates = omega (arith, sound .updates, mul-le-mul (limits .n) (sound .instants), sound .clock);
       }
 
   pub state-limits : StateLimits p r
-  unfolding isPaused roomOf
+  unfolding roomOf
   state-limits =
       let instants : r .instants ≤ 2000000000 = omega (arith, sound .instants, sound .clock, sound .plan .horizon) in record {
         rates = rate-limits p (r .q) (r .inputs) (sound .plan) (λ i h. sound .integrators i h .output)
             (λ j h. within-size M (int (r .inputs) j) .0 (sound .inputs j h));
         integrators = integrator-limits;
-        tick = λ e. (tick-after p r sound, tick-horizon p r (eq-eqb (statusOf p r) 0 e));
+        tick = λ e. (tick-after p r sound, tick-horizon p r (is-paused p r e));
         next = omega (arith, sound .next, command-most p (r .clock), limits .commands);
         instants = instants;
         updates = omega (arith, sound .updates, mul-le-mul (limits .n) instants);
@@ -94,4 +104,5 @@ module _ (p : Plan) (r : Running) (sound : SoundRunning p r) where
         bytes = λ engine budget. run-bytes p engine budget r;
         room = λ budget h. room-most p limits budget 1024 h;
         listing = room-most p limits 64 64 (omega arith);
+        printed = printed-limits;
       }

@@ -1,19 +1,18 @@
--- The promises about values, Start and the steps of one instant. Assumes nothing.
+-- The promises about values, Start, the steps of one instant, and runs. Assumes nothing.
 use mathlib.Core.Path.{refl, sym, _∙_}
-use native.Mathlib.Omega.{arith}
-use Rattle.integers.specs.Division.{floor-law}
 use Rattle.plan.specs.Laws.Counts.{counts-of}
-use Rattle.machine.specs.Values.{sumOver, rateOf}
 use Rattle.machine.specs.Start.{startOf, startState}
 use Rattle.machine.specs.Instant.{takenAt, tickOf, instant}
+use Rattle.machine.specs.Runs.{after, events}
+use Rattle.machine.specs.Laws.Runs.{run-stopped, run-taken}
 use Rattle.machine.specs.Laws.Began.{start-slope, start-last, start-due}
 use Rattle.machine.specs.Laws.Steps.{moves-means, due-moves, step-due, step-not-due, step-set, step-not-set, step-x, step-l, step-s, step-d}
 use Rattle.machine.specs.Laws.Steps.{step-not-moved}
 use Rattle.machine.specs.Laws.Values.{integrator-value, setting-value, difference-node, product-node, limit-node, high-node, low-node}
-use Rattle.simulator.specs.Promises.{ValuesMean, StartMeans, StepsMean}
+use Rattle.machine.specs.Laws.Values.{sum-none, sum-own, sum-other, rate-floor}
+use Rattle.simulator.specs.Promises.{ValuesMean, RunTakes, StartMeans, StepsMean}
 
 pub values-mean : ValuesMean
-unfolding rateOf
 values-mean p q u rules =
     record {
       integrators = integrator-value p q u;
@@ -23,9 +22,17 @@ values-mean p q u rules =
       limited-values = limit-node p q u rules;
       high = high-node p q u rules;
       low = low-node p q u rules;
-      rate-below = λ i. floor-law (sumOver p q u i (p .links)) 65536 (omega arith) .0;
-      rate-above = λ i. floor-law (sumOver p q u i (p .links)) 65536 (omega arith) .1;
+      no-link = sum-none p q u;
+      own-link = sum-own p q u;
+      other-link = sum-other p q u;
+      rate-below = λ i. rate-floor p q u i .0;
+      rate-above = λ i. rate-floor p q u i .1;
     }
+
+pub run-takes : RunTakes
+unfolding after events
+run-takes p engine r =
+    record { none = (refl, refl); stopped = λ b. run-stopped p engine b r; taken = λ b. run-taken p engine b r }
 
 pub start-means : StartMeans
 unfolding startState startOf
