@@ -124,8 +124,3 @@ pub first-ext : (f g : ℕ → Bool) (i n : ℕ) → ((j : ℕ) → j < i + n �
 unfolding firstFrom
 first-ext f g i zero e = refl
 first-ext f g i (suc n) e = rw (e i (omega arith), first-ext f g (i + 1) n (λ j h. e j (omega arith)))
-
-pub joined-ext {ℓ} : {A : Type ℓ} (f g : ℕ → List A) (n : ℕ) → ((i : ℕ) → i < n → f i ≡ g i) → joined f n ≡ joined g n
-unfolding joined
-joined-ext f g zero e = refl
-joined-ext f g (suc n) e = rw (e n (omega arith), joined-ext f g n (λ i h. e i (omega arith)))
