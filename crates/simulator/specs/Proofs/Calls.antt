@@ -16,7 +16,7 @@ use Rattle.machine.specs.Laws.Lengths.{run-bytes}
 use Rattle.machine.specs.Laws.Tested.{sound-means}
 use Rattle.simulator.specs.Calls.{over, writeNumber, writeOf, bufferOfWrite, roomOf, declineOf, runNumber, ranState, ranEvents, runOf}
 use Rattle.simulator.specs.Calls.{bufferOfRun, positionNumber, positionedOf}
-use Rattle.simulator.specs.Promises.{EveryNumber, Accepted, EveryBuffer, Declined}
+use Rattle.simulator.specs.Promises.States.{EveryNumber, Accepted, EveryBuffer, Declined}
 use Rattle.simulator.specs.Proofs.Numbers.{accept-cases, figure-most, unsound-test, write-zero, run-zero}
 
 pub every-number : EveryNumber

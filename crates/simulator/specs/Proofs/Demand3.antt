@@ -22,7 +22,7 @@ use Rattle.machine.specs.declared.State.{State}
 use Rattle.machine.specs.declared.Engine.{Engine}
 use Rattle.machine.specs.declared.Engine.the-variants.{Lazy, Eager}
 use Rattle.simulator.specs.Lists.{Call, afterCalls, budgetSum, joinedBytes, engineAt, cutAt, restAt, allBy}
-use Rattle.simulator.specs.Promises.{SameAsPlain, InstantPromise, ListPromise, Demand3}
+use Rattle.simulator.specs.Promises.Lists.{SameAsPlain, InstantPromise, ListPromise, Demand3}
 use Rattle.simulator.specs.Proofs.Files.{load-accepted, every-file}
 use Rattle.simulator.specs.Proofs.Schedule.{at, schedule, calls-state, calls-sum, calls-bytes}
 use Rattle.simulator.specs.Proofs.Cuts.{schedule-cut, schedule-rest, engine-at, schedule-all}

@@ -24,7 +24,7 @@ use Rattle.machine.specs.Laws.Inputs.{setting-of, output-value, input-value}
 use Rattle.machine.specs.Laws.Reach.{changes-means}
 use Rattle.machine.specs.Laws.Status.{is-paused, tick-horizon, due-size}
 use Rattle.machine.specs.declared.Running.{Running}
-use Rattle.simulator.specs.Promises.{EventAt, EventsPromise, EventsRead}
+use Rattle.simulator.specs.Promises.Machine.{EventAt, EventsPromise, EventsRead}
 
 -- the outputs and the input values after the next instant
 module _ (p : Plan) (r : Running) where

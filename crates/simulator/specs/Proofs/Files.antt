@@ -21,7 +21,7 @@ use Rattle.plan.specs.Laws.Refused.{plan-rules}
 use Rattle.machine.specs.Start.{startState, idleState}
 use Rattle.machine.specs.declared.State.{State}
 use Rattle.simulator.specs.Calls.{loadOf}
-use Rattle.simulator.specs.Promises.{EveryFile, EveryView, LoadShaped}
+use Rattle.simulator.specs.Promises.Files.{EveryFile, EveryView, LoadShaped}
 
 -- the number tells whether the file is accepted
 module _ (file : List ℕ) where

@@ -23,7 +23,7 @@ use Rattle.machine.specs.declared.Engine.{Engine}
 use Rattle.simulator.specs.Calls.{loadOf, writeNumber, writeOf, roomOf, runNumber, ranState, ranEvents, runOf, positionNumber}
 use Rattle.simulator.specs.Calls.{positionedOf}
 use Rattle.simulator.specs.Limits.{RunLimits, AcceptedLimits, FileLimits, AnswerLimits}
-use Rattle.simulator.specs.Promises.{LimitPromise}
+use Rattle.simulator.specs.Promises.Limits.{LimitPromise}
 use Rattle.simulator.specs.Proofs.Files.{load-accepted}
 use Rattle.simulator.specs.Proofs.Numbers.{accept-cases, figure-most, write-most, write-zero, run-most, run-zero, position-most, position-zero}
 use Rattle.simulator.specs.Proofs.StateLimits.{rate-limits, level-limits, room-most, state-limits}

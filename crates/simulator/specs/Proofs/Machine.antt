@@ -12,7 +12,7 @@ use Rattle.machine.specs.Laws.Next.{next-due, next-command, next-never, next-on
 use Rattle.machine.specs.Laws.Status.{status-finished, status-range, status-paused, no-integrator}
 use Rattle.machine.specs.Laws.Reach.{changes-means, reach-means, reached-false}
 use Rattle.machine.specs.Laws.PlainRuns.{takes-most, takes-all}
-use Rattle.simulator.specs.Promises.{NextMeans, StatusMeans, ReachMeans, Frame, DueLeast, DueBetween, PlainTakes}
+use Rattle.simulator.specs.Promises.Machine.{NextMeans, StatusMeans, ReachMeans, Frame, DueLeast, DueBetween, PlainTakes}
 
 pub next-means : NextMeans
 next-means p d next c =

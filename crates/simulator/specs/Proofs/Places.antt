@@ -11,7 +11,7 @@ use Rattle.plan.specs.Laws.Answers.{accepted-sizes}
 use Rattle.plan.specs.Laws.Parts.{length-entries}
 use Rattle.plan.specs.Laws.Places.{column-place}
 use Rattle.machine.specs.Start.{startState}
-use Rattle.simulator.specs.Promises.{PlacePromise, EveryPlace}
+use Rattle.simulator.specs.Promises.Files.{PlacePromise, EveryPlace}
 use Rattle.simulator.specs.Proofs.Files.{load-accepted, every-file}
 
 places : (file : List ℕ) → SizeRule file → PlacePromise file (planIn file)

@@ -16,7 +16,7 @@ use Rattle.machine.specs.Laws.Tested.{sound-means}
 use Rattle.machine.specs.declared.Running.{Running}
 use Rattle.simulator.specs.Calls.{over, runNumber, ranState, ranEvents, runOf, bufferOfRun, positionNumber, positionedOf}
 use Rattle.simulator.specs.Lists.{Call, answerOf, bufferOf}
-use Rattle.simulator.specs.Promises.{CallPromise, SameAsPlain}
+use Rattle.simulator.specs.Promises.Lists.{CallPromise, SameAsPlain}
 use Rattle.simulator.specs.Proofs.Calls.{every-number, every-buffer, declined}
 use Rattle.simulator.specs.Proofs.Schedule.{at}
 

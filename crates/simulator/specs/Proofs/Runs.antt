@@ -11,7 +11,7 @@ use Rattle.machine.specs.Laws.Status.{is-paused}
 use Rattle.machine.specs.Laws.Runs.{afterBy, clock-moves}
 use Rattle.machine.specs.declared.Running.{Running}
 use Rattle.simulator.specs.Lists.{Call, answerOf, fedBy}
-use Rattle.simulator.specs.Promises.{RunSound, RunMoves}
+use Rattle.simulator.specs.Promises.States.{RunSound, RunMoves}
 use Rattle.simulator.specs.Proofs.Schedule.{at, fed, fed-by, call-after, next-sound}
 use Rattle.simulator.specs.Proofs.Plain.{call-promise}
 

@@ -12,7 +12,7 @@ use Rattle.machine.specs.Start.{idleState}
 use Rattle.machine.specs.Sound.{Sound}
 use Rattle.machine.specs.Laws.Began.{start-sound, idle-sound}
 use Rattle.machine.specs.Laws.Next.{command-is}
-use Rattle.simulator.specs.Promises.{SoundMeans, LoadSound, IdleLoaded, NextDetermined}
+use Rattle.simulator.specs.Promises.States.{SoundMeans, LoadSound, IdleLoaded, NextDetermined}
 use Rattle.simulator.specs.Proofs.Files.{load-either, load-encoded}
 
 pub sound-means : SoundMeans

@@ -2,7 +2,7 @@
 use mathlib.Core.Path.{refl, sym, _∙_}
 use Rattle.plan.specs.Laws.Counts.{counts-of}
 use Rattle.machine.specs.Start.{startOf, startState}
-use Rattle.machine.specs.Instant.{takenAt, tickOf, instant}
+use Rattle.machine.specs.Instant.{positionAt, takenAt, tickOf, instant}
 use Rattle.machine.specs.Runs.{after, events}
 use Rattle.machine.specs.Laws.Runs.{run-stopped, run-taken}
 use Rattle.machine.specs.Laws.Began.{start-slope, start-last, start-due}
@@ -10,7 +10,7 @@ use Rattle.machine.specs.Laws.Steps.{moves-means, due-moves, step-due, step-not
 use Rattle.machine.specs.Laws.Steps.{step-not-moved}
 use Rattle.machine.specs.Laws.Values.{integrator-value, setting-value, difference-node, product-node, limit-node, high-node, low-node}
 use Rattle.machine.specs.Laws.Values.{sum-none, sum-own, sum-other, rate-floor}
-use Rattle.simulator.specs.Promises.{ValuesMean, RunTakes, StartMeans, StepsMean}
+use Rattle.simulator.specs.Promises.Machine.{ValuesMean, RunTakes, StartMeans, StepsMean}
 
 pub values-mean : ValuesMean
 values-mean p q u rules =
@@ -51,10 +51,11 @@ start-means p rules =
     }
 
 pub steps-mean : StepsMean
-unfolding instant takenAt
+unfolding instant takenAt positionAt
 steps-mean p engine r rules =
     let t = tickOf p r in
     record {
+      position = λ i. refl;
       due = step-due p rules engine r;
       not-due = step-not-due p rules engine r;
       set = step-set p rules engine r;

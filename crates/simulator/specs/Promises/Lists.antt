@@ -1,0 +1,84 @@
+-- Demand 3, "a single claim about the list": for every accepted file and every list of run calls, lazy and eager in any mix, declined ones
+-- included, the outcome is that of the plain machine for the sum of the accepted budgets, and the update count is exact. A statement; the proof
+-- stands in Proofs.
+use mathlib.Core.Path.{_≡_}
+use mathlib.Core.List.{List, _∷_, _++_}
+use Prim.Native.Nat.{ℕ, _+_, _-_, _*_, _≤_, _<_}
+use lib.IntN.{pos}
+use lib.ListN.{length, drop}
+use Rattle.plan.specs.Lists.{int}
+use Rattle.plan.specs.Format.{planIn}
+use Rattle.plan.specs.Refusals.{accepted}
+use Rattle.plan.specs.declared.Plan.{Plan}
+use Rattle.machine.specs.Instant.{eventsOf}
+use Rattle.machine.specs.Status.{statusOf, integratorOf}
+use Rattle.machine.specs.Plain.{Plain, plainAfter, plainEvents, plainStatus, plainIntegrator}
+use Rattle.machine.specs.Updates.{growth, growthUpTo, movedNow}
+use Rattle.machine.specs.declared.State.{State}
+use Rattle.machine.specs.declared.Engine.{Engine}
+use Rattle.machine.specs.declared.Engine.the-variants.{Lazy, Eager}
+use Rattle.simulator.specs.Calls.{loadOf, positionedOf}
+use Rattle.simulator.specs.Lists.{Call, answerOf, bufferOf, afterCalls, budgetSum, joinedBytes, engineAt, cutAt, restAt, allBy}
+
+-- what a call of a list answers in itself
+pub record CallPromise (p : Plan) (st : State) (c : Call) : Type 0 where
+  -- "There a call is declined by 11 or 12 only", and by these exactly as they are named; never by 10
+  pub above : 1024 < c .budget → answerOf st c .number ≡ 11
+  pub short : c .budget ≤ 1024 → length (c .buffer) < c .budget * (p .n + p .m) * 12 → answerOf st c .number ≡ 12
+  pub accepted : c .budget ≤ 1024 → c .budget * (p .n + p .m) * 12 ≤ length (c .buffer) → answerOf st c .number ≡ 0
+  -- "Each accepted call answers the status and integrator of the state it returns."
+  pub status : answerOf st c .number ≡ 0 → answerOf st c .status ≡ statusOf p (answerOf st c .state .run)
+  pub integrator : answerOf st c .number ≡ 0 → answerOf st c .integrator ≡ integratorOf p (answerOf st c .state .run)
+  -- "bytes written from the buffer's start; later bytes keep their value", and there are as many as before
+  pub written : answerOf st c .written ≤ length (c .buffer)
+  pub size : length (bufferOf st c) ≡ length (c .buffer)
+  pub later : drop (answerOf st c .written) (bufferOf st c) ≡ drop (answerOf st c .written) (c .buffer)
+  -- a refusal changes nothing that was lent
+  pub declined : (answerOf st c .number ≡ 0 → ⊥) → (answerOf st c .state ≡ st) × (bufferOf st c ≡ c .buffer)
+
+-- "Plain machine and engines are compared on everything but l, the stored x and updates"
+pub record SameAsPlain (p : Plan) (st : State) (m : Plain) : Type 0 where
+  pub plan : st .plan ≡ p
+  pub q : st .run .q ≡ m .q
+  pub s : st .run .s ≡ m .s
+  pub d : st .run .d ≡ m .d
+  pub inputs : st .run .inputs ≡ m .inputs
+  pub clock : st .run .clock ≡ m .clock
+  pub next : st .run .next ≡ m .next
+  pub instants : st .run .instants ≡ m .instants
+  -- "that takes in status and its integrator by the rule above, the position call for every integrator"
+  pub status : statusOf p (st .run) ≡ plainStatus p m
+  pub integrator : integratorOf p (st .run) ≡ plainIntegrator p m
+  pub position : (i : ℕ) → i < p .n → positionedOf st i ≡ record { number = 0; value = int (m .x) i; state = st }
+  pub no-position : (i : ℕ) → p .n ≤ i → positionedOf st i ≡ record { number = 14; value = pos 0; state = st }
+
+-- instant i of a list, by the list cut behind it: the state after it is that list's end, and the rest of the list goes on from there
+pub record InstantPromise (p : Plan) (st : State) (calls : List Call) (i : ℕ) : Type 0 where
+  pub sum : budgetSum st (cutAt st calls i) ≡ i
+  pub taken : afterCalls st (cutAt st calls i) .run .instants ≡ i
+  pub resumed : afterCalls (afterCalls st (cutAt st calls i)) (restAt st calls i) ≡ afterCalls st calls
+  -- its bytes are the events of the state before it
+  pub bytes : joinedBytes st (cutAt st calls i)
+      ≡ joinedBytes st (cutAt st calls (i - 1)) ++ eventsOf p (afterCalls st (cutAt st calls (i - 1)) .run)
+  -- "this is the number of integrators with l = c after it"
+  pub moved : movedNow p (afterCalls st (cutAt st calls i) .run) ≡ growth p (engineAt st calls i) (plainAfter p (i - 1))
+  pub grown : afterCalls st (cutAt st calls i) .run .updates ≡ growthUpTo p (engineAt st calls) i
+
+-- the claim about a list, from the loaded state
+pub record ListPromise (p : Plan) (st : State) (calls : List Call) : Type 0 where
+  pub each : (earlier : List Call) (c : Call) (later : List Call) → calls ≡ earlier ++ (c ∷ later) → CallPromise p (afterCalls st earlier) c
+  pub state : SameAsPlain p (afterCalls st calls) (plainAfter p (budgetSum st calls))
+  -- "and the bytes that accepted calls answer as written, joined in call order"
+  pub bytes : joinedBytes st calls ≡ plainEvents p (budgetSum st calls)
+  pub instants : (i : ℕ) → 1 ≤ i → i ≤ plainAfter p (budgetSum st calls) .instants → InstantPromise p st calls i
+  pub updates : afterCalls st calls .run .updates ≡ growthUpTo p (engineAt st calls) (plainAfter p (budgetSum st calls) .instants)
+  -- lists with an equal sum end alike: as the same plain machine, by the same bytes
+  pub alike : (others : List Call) → budgetSum st others ≡ budgetSum st calls
+      → SameAsPlain p (afterCalls st others) (plainAfter p (budgetSum st calls)) × (joinedBytes st others ≡ joinedBytes st calls)
+  -- the same list made all lazy, or all eager, has the same sum, and bounds the updates
+  pub same-sum : (engine : Engine) → budgetSum st (allBy engine calls) ≡ budgetSum st calls
+  pub fewest : afterCalls st (allBy Lazy calls) .run .updates ≤ afterCalls st calls .run .updates
+  pub most : afterCalls st calls .run .updates ≤ afterCalls st (allBy Eager calls) .run .updates
+
+abbrev pub Demand3 : Type 0
+Demand3 = (file : List ℕ) → loadOf file .number ≡ 0 → (calls : List Call) → ListPromise (planIn file) (loadOf file .state) calls

@@ -1,0 +1,200 @@
+-- The promises about the machine, in document 01's order and words: its definitions do what the sentences say. Statements; the proofs stand in
+-- Proofs.
+use mathlib.Core.Path.{_≡_}
+use mathlib.Core.Bool.{true}
+use mathlib.Core.Logic.{_⊎_}
+use mathlib.Core.List.{List, [], _++_}
+use Prim.Native.Nat.{ℕ, _+_, _-_, _*_, _≤_, _<_}
+use lib.IntN.{ℤ, pos, negℤ, _+ℤ_, _-ℤ_, _*ℤ_}
+use lib.Signed.{_≤ℤ_, _<ℤ_}
+use lib.ListN.{length}
+use Rattle.integers.specs.Parts.{up, ∣_∣}
+use Rattle.integers.specs.Division.{floored, Ceil}
+use Rattle.integers.specs.Range.{limited}
+use Rattle.bitset.specs.Mask.{countOf}
+use Rattle.words.specs.Word.{word, signedWord}
+use Rattle.plan.specs.Lists.{nat, int}
+use Rattle.plan.specs.Format.{M}
+use Rattle.plan.specs.Rules.{PlanRules}
+use Rattle.plan.specs.declared.Plan.{Plan}
+use Rattle.machine.specs.Values.{valueOf, sumOver, rateOf}
+use Rattle.machine.specs.Due.{never, distance, ticksTo, dueOf, LeastTicks}
+use Rattle.machine.specs.Next.{nextCommand, nextTick}
+use Rattle.machine.specs.Start.{startState}
+use Rattle.machine.specs.Reach.{changes, Changed, reached, Reached}
+use Rattle.machine.specs.Instant.{positionAt, moves, Moves, slopeThen, tickOf, instant, eventsOf}
+use Rattle.machine.specs.Status.{statusOf, integratorOf}
+use Rattle.machine.specs.Runs.{after, events}
+use Rattle.machine.specs.Plain.{plainAfter, plainStatus}
+use Rattle.machine.specs.Sound.{Sound}
+use Rattle.machine.specs.declared.Running.{Running}
+use Rattle.machine.specs.declared.State.{State}
+use Rattle.machine.specs.declared.Engine.{Engine}
+
+-- "Integrators give q, inputs their value, nodes their value", and what each kind makes of the values of A and B
+pub record ValuePromise (p : Plan) (q u : List ℤ) : Type 0 where
+  pub integrators : (i : ℕ) → i < p .n → valueOf p q u i ≡ int q i
+  pub inputs : (j : ℕ) → j < p .m → valueOf p q u (p .n + j) ≡ int u j
+  -- "0 is a−b; 1 is floor(a×b / 65,536); both then clipped to ±M"
+  pub differences : (j : ℕ) → j < p .k → nat (p .kinds) j ≡ 0
+      → valueOf p q u (p .n + p .m + j) ≡ limited (negℤ (pos M)) (pos M) (valueOf p q u (nat (p .lefts) j) -ℤ valueOf p q u (nat (p .rights) j))
+  pub products : (j : ℕ) → j < p .k → nat (p .kinds) j ≡ 1
+      → valueOf p q u (p .n + p .m + j)
+      ≡ limited (negℤ (pos M)) (pos M) (floored (valueOf p q u (nat (p .lefts) j) *ℤ valueOf p q u (nat (p .rights) j)))
+  -- "2 is a limited to lo..hi"
+  pub limited-values : (j : ℕ) → j < p .k → nat (p .kinds) j ≡ 2
+      → valueOf p q u (p .n + p .m + j) ≡ limited (int (p .lows) j) (int (p .highs) j) (valueOf p q u (nat (p .lefts) j))
+  -- "3 is hi if a ≥ b, else lo"
+  pub high : (j : ℕ) → j < p .k → nat (p .kinds) j ≡ 3 → valueOf p q u (nat (p .rights) j) ≤ℤ valueOf p q u (nat (p .lefts) j)
+      → valueOf p q u (p .n + p .m + j) ≡ int (p .highs) j
+  pub low : (j : ℕ) → j < p .k → nat (p .kinds) j ≡ 3 → valueOf p q u (nat (p .lefts) j) <ℤ valueOf p q u (nat (p .rights) j)
+      → valueOf p q u (p .n + p .m + j) ≡ int (p .lows) j
+  -- "s = floor(sum of coefficient × source value over its links / 65,536)": the sum over the first e links, of which its own count
+  pub no-link : (i : ℕ) → sumOver p q u i 0 ≡ pos 0
+  pub own-link : (i e : ℕ) → nat (p .targets) e ≡ i
+      → sumOver p q u i (e + 1) ≡ sumOver p q u i e +ℤ int (p .coefficients) e *ℤ valueOf p q u (nat (p .sources) e)
+  pub other-link : (i e : ℕ) → (nat (p .targets) e ≡ i → ⊥) → sumOver p q u i (e + 1) ≡ sumOver p q u i e
+  pub rate-below : (i : ℕ) → (pos 65536 *ℤ rateOf p q u i) ≤ℤ sumOver p q u i (p .links)
+  pub rate-above : (i : ℕ) → sumOver p q u i (p .links) <ℤ (pos 65536 *ℤ (rateOf p q u i +ℤ pos 1))
+
+abbrev pub ValuesMean : Type 0
+ValuesMean = (p : Plan) (q u : List ℤ) → PlanRules p → ValuePromise p q u
+
+-- "Due": "d−l is the least T ≥ 1", for both directions and every x, by the levels q+D and q−D; "for s = 0 d is never"
+pub record DuePromise (p : Plan) (q : List ℤ) (i l : ℕ) (x s : ℤ) : Type 0 where
+  pub still : s ≡ pos 0 → dueOf p q i l x s ≡ never
+  pub moving : (s ≡ pos 0 → ⊥)
+      → LeastTicks x (int q i +ℤ int (p .quanta) i) (int q i -ℤ int (p .quanta) i) s (dueOf p q i l x s - l)
+
+abbrev pub DueLeast : Type 0
+DueLeast = (p : Plan) (q : List ℤ) (i l : ℕ) (x s : ℤ) → DuePromise p q i l x s
+
+-- strictly between the levels, T is the distance rounded up, and moving for t ticks, fewer than T, takes t off it and stays between
+pub record BetweenPromise (x upper lower s : ℤ) : Type 0 where
+  pub rounded : Ceil (up (distance x upper lower s)) ∣ s ∣ (ticksTo x upper lower s)
+  pub countdown : (t : ℕ) → t < ticksTo x upper lower s → ticksTo x upper lower s ≡ ticksTo (x +ℤ s *ℤ pos t) upper lower s + t
+  pub above : (t : ℕ) → t < ticksTo x upper lower s → lower <ℤ (x +ℤ s *ℤ pos t)
+  pub below : (t : ℕ) → t < ticksTo x upper lower s → (x +ℤ s *ℤ pos t) <ℤ upper
+
+abbrev pub DueBetween : Type 0
+DueBetween = (x upper lower s : ℤ) → (s ≡ pos 0 → ⊥) → lower <ℤ x → x <ℤ upper → BetweenPromise x upper lower s
+
+-- "Start: x = q = start, l = c = 0, slopes and dues by rule, counts 0"
+pub record StartPromise (p : Plan) (r : Running) : Type 0 where
+  pub x : (i : ℕ) → i < p .n → int (r .x) i ≡ int (p .starts) i
+  pub q : (i : ℕ) → i < p .n → int (r .q) i ≡ int (p .starts) i
+  pub l : (i : ℕ) → i < p .n → nat (r .l) i ≡ 0
+  pub s : (i : ℕ) → i < p .n → int (r .s) i ≡ rateOf p (r .q) (r .inputs) i
+  pub d : (i : ℕ) → i < p .n → nat (r .d) i ≡ dueOf p (r .q) i 0 (int (r .x) i) (int (r .s) i)
+  pub inputs : (j : ℕ) → j < p .m → int (r .inputs) j ≡ int (p .firsts) j
+  pub clock : r .clock ≡ 0
+  pub instants : r .instants ≡ 0
+  pub updates : r .updates ≡ 0
+
+abbrev pub StartMeans : Type 0
+StartMeans = (p : Plan) → PlanRules p → StartPromise p (startState p .run)
+
+-- "Next instant t: the least of all d and the next command's tick", and "the next command is the first with tick above c"
+pub record NextPromise (p : Plan) (d : List ℕ) (next c : ℕ) : Type 0 where
+  pub due : (i : ℕ) → i < p .n → nextTick p d next ≤ nat d i
+  pub command : next < p .commands → nextTick p d next ≤ nat (p .ticks) next
+  pub no-instant : ((i : ℕ) → i < p .n → never ≤ nat d i) → p .commands ≤ next → nextTick p d next ≡ never
+  pub one : nextTick p d next < never
+      → ((i : ℕ) × (i < p .n) × (nat d i ≡ nextTick p d next)) ⊎ ((next < p .commands) × (nat (p .ticks) next ≡ nextTick p d next))
+  pub earlier : (e : ℕ) → e < nextCommand p c → nat (p .ticks) e ≤ c
+  pub first : nextCommand p c < p .commands → c < nat (p .ticks) (nextCommand p c)
+  pub none : nextCommand p c ≤ p .commands
+
+abbrev pub NextMeans : Type 0
+NextMeans = (p : Plan) (d : List ℕ) (next c : ℕ) → NextPromise p d next c
+
+-- "One instant", at tick t, from the figures r to the figures r′
+pub record StepPromise (p : Plan) (engine : Engine) (t : ℕ) (r r′ : Running) : Type 0 where
+  -- "x+s×(t−l)", where integrator i is at t
+  pub position : (i : ℕ) → positionAt r t i ≡ int (r .x) i +ℤ int (r .s) i *ℤ pos (t - nat (r .l) i)
+  -- 1. "The due integrators (d = t) take q = x+s×(t−l)." The others keep theirs
+  pub due : (i : ℕ) → i < p .n → nat (r .d) i ≡ t → int (r′ .q) i ≡ positionAt r t i
+  pub not-due : (i : ℕ) → i < p .n → (nat (r .d) i ≡ t → ⊥) → int (r′ .q) i ≡ int (r .q) i
+  -- 2. "Commands of tick t set their inputs." The others keep theirs
+  pub set : (j e : ℕ) → j < p .m → e < p .commands → nat (p .ticks) e ≡ t → nat (p .numbers) e ≡ j → int (r′ .inputs) j ≡ int (p .values) e
+  pub not-set : (j : ℕ) → j < p .m → ((e : ℕ) → e < p .commands → nat (p .ticks) e ≡ t → nat (p .numbers) e ≡ j → ⊥)
+      → int (r′ .inputs) j ≡ int (r .inputs) j
+  -- 5. "x becomes x+s×(t−l), l = t, then the new slope and due tick", by the new outputs and inputs. "A due integrator gets x = q."
+  pub x : (i : ℕ) → i < p .n → Moves p engine (r .d) t i → int (r′ .x) i ≡ positionAt r t i
+  pub l : (i : ℕ) → i < p .n → Moves p engine (r .d) t i → nat (r′ .l) i ≡ t
+  pub s : (i : ℕ) → i < p .n → Moves p engine (r .d) t i → int (r′ .s) i ≡ rateOf p (r′ .q) (r′ .inputs) i
+  pub d : (i : ℕ) → i < p .n → Moves p engine (r .d) t i → nat (r′ .d) i ≡ dueOf p (r′ .q) i t (int (r′ .x) i) (int (r′ .s) i)
+  pub due-x : (i : ℕ) → i < p .n → nat (r .d) i ≡ t → int (r′ .x) i ≡ int (r′ .q) i
+  -- who does not move keeps all of these
+  pub not-moved : (i : ℕ) → i < p .n → (Moves p engine (r .d) t i → ⊥)
+      → (int (r′ .x) i ≡ int (r .x) i) × (nat (r′ .l) i ≡ nat (r .l) i) × (int (r′ .s) i ≡ int (r .s) i) × (nat (r′ .d) i ≡ nat (r .d) i)
+  -- 6. "c = t; instants grows by 1; updates grows by the number of integrators moved, each counted once"
+  pub clock : r′ .clock ≡ t
+  pub instants : r′ .instants ≡ r .instants + 1
+  pub updates : r′ .updates ≡ r .updates + countOf (moves p engine (r .d) t) (p .n)
+  pub moving : (i : ℕ) → (moves p engine (r .d) t i ≡ true → Moves p engine (r .d) t i) × (Moves p engine (r .d) t i → moves p engine (r .d) t i ≡ true)
+
+abbrev pub StepsMean : Type 0
+StepsMean = (p : Plan) (engine : Engine) (r : Running) → PlanRules p → StepPromise p engine (tickOf p r) r (instant p engine r)
+
+-- which sources change, and step 4: the tests are the relations in document 01's words
+pub record ReachPromise (p : Plan) (d : List ℕ) (t i : ℕ) : Type 0 where
+  pub change : (changes p d t i ≡ true → Changed p d t i) × (Changed p d t i → changes p d t i ≡ true)
+  pub reach : (reached p d t i ≡ true → Reached p d t i) × (Reached p d t i → reached p d t i ≡ true)
+
+abbrev pub ReachMeans : Type 0
+ReachMeans = (p : Plan) (d : List ℕ) (t i : ℕ) → PlanRules p → ReachPromise p d t i
+
+-- an integrator that is not reached keeps its rate
+abbrev pub Frame : Type 0
+Frame =
+    (p : Plan) (r : Running) (t i : ℕ) → PlanRules p → (Reached p (r .d) t i → ⊥) → slopeThen p r t i ≡ rateOf p (r .q) (r .inputs) i
+
+-- 12 bytes from `at` on read back as an event's tick, source and value
+pub record EventAt (bytes : List ℕ) (at t source : ℕ) (value : ℤ) : Type 0 where
+  pub tick : word bytes at ≡ t
+  pub number : word bytes (at + 4) ≡ source
+  pub signed : signedWord bytes (at + 8) ≡ value
+
+-- "Events of an instant: due integrators and commanded inputs by ascending source number, 12 bytes each: tick, source, signed value": an
+-- event stands behind those of the lower sources that have one, and there are no others
+pub record EventsPromise (p : Plan) (r : Running) : Type 0 where
+  pub due : (i : ℕ) → i < p .n → nat (r .d) i ≡ tickOf p r
+      → EventAt (eventsOf p r) (12 * countOf (changes p (r .d) (tickOf p r)) i) (tickOf p r) i (positionAt r (tickOf p r) i)
+  pub commanded : (j e : ℕ) → j < p .m → e < p .commands → nat (p .ticks) e ≡ tickOf p r → nat (p .numbers) e ≡ j
+      → EventAt (eventsOf p r) (12 * countOf (changes p (r .d) (tickOf p r)) (p .n + j)) (tickOf p r) (p .n + j) (int (p .values) e)
+  pub no-other : length (eventsOf p r) ≡ 12 * countOf (changes p (r .d) (tickOf p r)) (p .n + p .m)
+
+abbrev pub EventsRead : Type 0
+EventsRead = (st : State) → Sound st → statusOf (st .plan) (st .run) ≡ 0 → EventsPromise (st .plan) (st .run)
+
+-- "1 finished if t is never or above the horizon; else 2 range if step 1 bars the instant (with the lowest such integrator); else 0 paused"
+pub record StatusPromise (p : Plan) (r : Running) : Type 0 where
+  pub finished : (tickOf p r ≡ never) ⊎ (p .horizon < tickOf p r) → statusOf p r ≡ 1
+  pub range : (tickOf p r ≡ never → ⊥) → tickOf p r ≤ p .horizon → (i : ℕ) → i < p .n → nat (r .d) i ≡ tickOf p r
+      → M < ∣ positionAt r (tickOf p r) i ∣
+      → ((j : ℕ) → j < i → nat (r .d) j ≡ tickOf p r → ∣ positionAt r (tickOf p r) j ∣ ≤ M)
+      → (statusOf p r ≡ 2) × (integratorOf p r ≡ i)
+  pub paused : (tickOf p r ≡ never → ⊥) → tickOf p r ≤ p .horizon
+      → ((i : ℕ) → i < p .n → nat (r .d) i ≡ tickOf p r → ∣ positionAt r (tickOf p r) i ∣ ≤ M)
+      → statusOf p r ≡ 0
+  pub no-integrator : (statusOf p r ≡ 2 → ⊥) → integratorOf p r ≡ 0
+
+abbrev pub StatusMeans : Type 0
+StatusMeans = (p : Plan) (r : Running) → StatusPromise p r
+
+-- "A run with budget b takes b instants, or fewer if the status is first 1 or 2", from any figures
+pub record RunPromise (p : Plan) (engine : Engine) (r : Running) : Type 0 where
+  pub none : (after p engine 0 r ≡ r) × (events p engine 0 r ≡ [])
+  pub stopped : (b : ℕ) → (statusOf p r ≡ 0 → ⊥) → (after p engine b r ≡ r) × (events p engine b r ≡ [])
+  pub taken : (b : ℕ) → statusOf p r ≡ 0
+      → (after p engine (b + 1) r ≡ after p engine b (instant p engine r))
+      × (events p engine (b + 1) r ≡ eventsOf p r ++ events p engine b (instant p engine r))
+
+abbrev pub RunTakes : Type 0
+RunTakes = (p : Plan) (engine : Engine) (r : Running) → RunPromise p engine r
+
+-- "it takes B instants, or fewer if its status is first 1 or 2"
+abbrev pub PlainTakes : Type 0
+PlainTakes =
+    (p : Plan) (b : ℕ) → (plainAfter p b .instants ≤ b) × (plainStatus p (plainAfter p b) ≡ 0 → plainAfter p b .instants ≡ b)
