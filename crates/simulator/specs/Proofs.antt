@@ -1,4 +1,4 @@
--- Each promise proved: a term of exactly the type that Promises.antt states.
+-- Each promise proved: a term of exactly the type that Promises states.
 pub mod Machine
 pub mod Steps
 pub mod Numbers
