@@ -51,41 +51,41 @@ module _ (p : Plan) (r : Running) (ok : SoundRunning p r) (t : ℕ) (after : r .
   due-kept i h e f = rw (x-then p limits r t i h, slope-kept i h f, output-kept p limits r t i h e) (due-same i h e)
 
   -- whoever moves
-  module _ (moves : ℕ → Bool) (covers : (i : ℕ) → i < p .n → moves i ≡ false → (isDue (r .d) t i || reached p (r .d) t i) ≡ false) where
-    pub not-due : (i : ℕ) → i < p .n → moves i ≡ false → isDue (r .d) t i ≡ false
+  module _ (moved : ℕ → Bool) (covers : (i : ℕ) → i < p .n → moved i ≡ false → (isDue (r .d) t i || reached p (r .d) t i) ≡ false) where
+    pub not-due : (i : ℕ) → i < p .n → moved i ≡ false → isDue (r .d) t i ≡ false
     not-due i h e = or-false (isDue (r .d) t i) (reached p (r .d) t i) (covers i h e) .0
 
-    not-reached : (i : ℕ) → i < p .n → moves i ≡ false → reached p (r .d) t i ≡ false
+    not-reached : (i : ℕ) → i < p .n → moved i ≡ false → reached p (r .d) t i ≡ false
     not-reached i h e = or-false (isDue (r .d) t i) (reached p (r .d) t i) (covers i h e) .1
 
-    pub slopes-then : takenAt p r t moves .s ≡ row (pos 0) 32 (p .n) (slopeThen p r t)
+    pub slopes-then : takenAt p r t moved .s ≡ row (pos 0) 32 (p .n) (slopeThen p r t)
     unfolding takenAt
-    slopes-then = row-ext (pos 0) 32 (p .n) _ _ (λ i h. go i h (moves i) refl)
+    slopes-then = row-ext (pos 0) 32 (p .n) _ _ (λ i h. go i h (moved i) refl)
       where
-        go : (i : ℕ) → i < p .n → (b : Bool) → moves i ≡ b → cond b (slopeThen p r t i) (int (r .s) i) ≡ slopeThen p r t i
+        go : (i : ℕ) → i < p .n → (b : Bool) → moved i ≡ b → cond b (slopeThen p r t i) (int (r .s) i) ≡ slopeThen p r t i
         go i h true e = refl
         go i h false e = sym (slope-kept i h (not-reached i h e))
 
-    pub dues-then : takenAt p r t moves .d ≡ row 0 32 (p .n) (dueThen p r t)
+    pub dues-then : takenAt p r t moved .d ≡ row 0 32 (p .n) (dueThen p r t)
     unfolding takenAt
-    dues-then = row-ext 0 32 (p .n) _ _ (λ i h. go i h (moves i) refl)
+    dues-then = row-ext 0 32 (p .n) _ _ (λ i h. go i h (moved i) refl)
       where
-        go : (i : ℕ) → i < p .n → (b : Bool) → moves i ≡ b → cond b (dueThen p r t i) (nat (r .d) i) ≡ dueThen p r t i
+        go : (i : ℕ) → i < p .n → (b : Bool) → moved i ≡ b → cond b (dueThen p r t i) (nat (r .d) i) ≡ dueThen p r t i
         go i h true e = refl
         go i h false e = sym (due-kept i h (not-due i h e) (not-reached i h e))
 
-    pub slope-at : (i : ℕ) → i < p .n → int (takenAt p r t moves .s) i ≡ slopeThen p r t i
+    pub slope-at : (i : ℕ) → i < p .n → int (takenAt p r t moved .s) i ≡ slopeThen p r t i
     slope-at i h = rw slopes-then (row-at (pos 0) 32 (p .n) _ i (limits .n) h)
 
-    pub due-at : (i : ℕ) → i < p .n → nat (takenAt p r t moves .d) i ≡ dueThen p r t i
+    pub due-at : (i : ℕ) → i < p .n → nat (takenAt p r t moved .d) i ≡ dueThen p r t i
     due-at i h = rw dues-then (row-at 0 32 (p .n) _ i (limits .n) h)
 
     -- the position at the instant's tick does not depend on who moved
-    pub place-then : (i : ℕ) → i < p .n → positionAt (takenAt p r t moves) t i ≡ positionAt r t i
+    pub place-then : (i : ℕ) → i < p .n → positionAt (takenAt p r t moved) t i ≡ positionAt r t i
     unfolding positionAt
-    place-then i h = rw (x-at p limits r t moves i h, l-at p limits r t moves i h, slope-at i h) (go (moves i) refl)
+    place-then i h = rw (x-at p limits r t moved i h, l-at p limits r t moved i h, slope-at i h) (go (moved i) refl)
       where
-        go : (b : Bool) → moves i ≡ b →
+        go : (b : Bool) → moved i ≡ b →
             cond b (positionAt r t i) (int (r .x) i) +ℤ slopeThen p r t i *ℤ pos (t - cond b t (nat (r .l) i)) ≡ positionAt r t i
         go true e =
             let z : t - t ≡ 0 = omega arith in
@@ -94,11 +94,11 @@ module _ (p : Plan) (r : Running) (ok : SoundRunning p r) (t : ℕ) (after : r .
 
     -- and the due tick is by rule from where and when the integrator was moved last
     pub due-by-rule : (i : ℕ) → i < p .n →
-        dueThen p r t i ≡ dueOf p (outputs p r t) i (cond (moves i) t (nat (r .l) i)) (cond (moves i) (positionAt r t i) (int (r .x) i)) (slopeThen p r t i)
+        dueThen p r t i ≡ dueOf p (outputs p r t) i (cond (moved i) t (nat (r .l) i)) (cond (moved i) (positionAt r t i) (int (r .x) i)) (slopeThen p r t i)
     unfolding dueThen dueOf upperLevel lowerLevel
-    due-by-rule i h = go (moves i) refl
+    due-by-rule i h = go (moved i) refl
       where
-        go : (b : Bool) → moves i ≡ b →
+        go : (b : Bool) → moved i ≡ b →
             dueThen p r t i ≡ dueOf p (outputs p r t) i (cond b t (nat (r .l) i)) (cond b (positionAt r t i) (int (r .x) i)) (slopeThen p r t i)
         go true e = rw (x-then p limits r t i h)
         go false e =

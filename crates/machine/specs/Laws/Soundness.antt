@@ -46,7 +46,7 @@ pub record Takes (p : Plan) (r : Running) (t : ℕ) : Type 0 where
   pub within : (i : ℕ) → i < p .n → isDue (r .d) t i ≡ true → ∣ positionAt r t i ∣ ≤ M
 
 module _ (p : Plan) (r : Running) (ok : SoundRunning p r) (t : ℕ) (takes : Takes p r t)
-    (moves : ℕ → Bool) (covers : (i : ℕ) → i < p .n → moves i ≡ false → (isDue (r .d) t i || reached p (r .d) t i) ≡ false) where
+    (moved : ℕ → Bool) (covers : (i : ℕ) → i < p .n → moved i ≡ false → (isDue (r .d) t i || reached p (r .d) t i) ≡ false) where
   limits : Counts p
   limits = counts-of p (ok .plan .counts)
 
@@ -61,48 +61,48 @@ module _ (p : Plan) (r : Running) (ok : SoundRunning p r) (t : ℕ) (takes : Tak
       go false e = ok .integrators i h .output
 
   -- a due integrator moves to its output; the others stay between their levels
-  near-then : (i : ℕ) → i < p .n → pos ∣ int (takenAt p r t moves .x) i -ℤ int (outputs p r t) i ∣ <ℤ int (p .quanta) i
+  near-then : (i : ℕ) → i < p .n → pos ∣ int (takenAt p r t moved .x) i -ℤ int (outputs p r t) i ∣ <ℤ int (p .quanta) i
   near-then i h =
-      rw (x-at p limits r t moves i h, outputs-at p limits r t i h) (go (moves i) (isDue (r .d) t i) refl refl)
+      rw (x-at p limits r t moved i h, outputs-at p limits r t i h) (go (moved i) (isDue (r .d) t i) refl refl)
     where
       old : pos ∣ int (r .x) i -ℤ int (r .q) i ∣ <ℤ int (p .quanta) i
       old = ok .integrators i h .near
 
-      go : (b c : Bool) → moves i ≡ b → isDue (r .d) t i ≡ c
+      go : (b c : Bool) → moved i ≡ b → isDue (r .d) t i ≡ c
           → pos ∣ cond b (positionAt r t i) (int (r .x) i) -ℤ cond c (positionAt r t i) (int (r .q) i) ∣ <ℤ int (p .quanta) i
       go true true e f = near-itself (positionAt r t i) (int (p .quanta) i) (ok .plan .integrators i h .least)
       go true false e f = near-between p (r .q) i (positionAt r t i) .1 (between-then p r ok t from (takes .least) i h f)
-      go false true e f = absurd (true≢false (sym f ∙ not-due p r ok t from (takes .least) moves covers i h e))
+      go false true e f = absurd (true≢false (sym f ∙ not-due p r ok t from (takes .least) moved covers i h e))
       go false false e f = old
 
-  moved-then : (i : ℕ) → i < p .n → cond (moves i) t (nat (r .l) i) ≤ t
-  moved-then i h = go (moves i)
+  moved-then : (i : ℕ) → i < p .n → cond (moved i) t (nat (r .l) i) ≤ t
+  moved-then i h = go (moved i)
     where
       go : (b : Bool) → cond b t (nat (r .l) i) ≤ t
       go true = omega arith
       go false = omega (arith, takes .after, ok .integrators i h .moved)
 
-  integrator-then : (i : ℕ) → i < p .n → SoundIntegrator p (takenAt p r t moves) i
+  integrator-then : (i : ℕ) → i < p .n → SoundIntegrator p (takenAt p r t moved) i
   unfolding takenAt slopeThen dueThen dueOf
   integrator-then i h =
       let soon : t < never = omega (arith, takes .until, ok .plan .horizon .1) in
       record {
-        moved = rw (l-at p limits r t moves i h) (moved-then i h);
-        ahead = rw (due-at p r ok t from (takes .least) moves covers i h) (due-ahead t _ _ _ _ soon);
+        moved = rw (l-at p limits r t moved i h) (moved-then i h);
+        ahead = rw (due-at p r ok t from (takes .least) moved covers i h) (due-ahead t _ _ _ _ soon);
         output = output-size i h;
         near = near-then i h;
-        rate = slope-at p r ok t from (takes .least) moves covers i h;
+        rate = slope-at p r ok t from (takes .least) moved covers i h;
         due =
             rw (
-              due-at p r ok t from (takes .least) moves covers i h,
-              x-at p limits r t moves i h,
-              l-at p limits r t moves i h,
-              slope-at p r ok t from (takes .least) moves covers i h,
+              due-at p r ok t from (takes .least) moved covers i h,
+              x-at p limits r t moved i h,
+              l-at p limits r t moved i h,
+              slope-at p r ok t from (takes .least) moved covers i h,
             )
-            (due-by-rule p r ok t from (takes .least) moves covers i h);
+            (due-by-rule p r ok t from (takes .least) moved covers i h);
       }
 
-  pub sound-then : SoundRunning p (takenAt p r t moves)
+  pub sound-then : SoundRunning p (takenAt p r t moved)
   unfolding takenAt outputs settings
   sound-then =
       record {
@@ -112,7 +112,7 @@ module _ (p : Plan) (r : Running) (ok : SoundRunning p r) (t : ℕ) (takes : Tak
         inputs = λ j h. within-size M _ .1 (settings-size p (ok .plan) (r .inputs) t (λ k l. within-size M _ .0 (ok .inputs k l)) j h);
         next = refl;
         instants = omega (arith, ok .instants, takes .after);
-        updates = omega (arith, ok .updates, countOf-le moves (p .n));
+        updates = omega (arith, ok .updates, countOf-le moved (p .n));
         plan-unused = ok .plan-unused;
         running-unused =
             record {

@@ -31,19 +31,19 @@ module _ (p : Plan) (limits : Counts p) (r : Running) (t : ℕ) where
       go false e = refl
 
   -- ---- by who moves
-  module _ (moves : ℕ → Bool) (i : ℕ) (h : i < p .n) where
-    pub x-at : int (takenAt p r t moves .x) i ≡ cond (moves i) (positionAt r t i) (int (r .x) i)
+  module _ (moved : ℕ → Bool) (i : ℕ) (h : i < p .n) where
+    pub x-at : int (takenAt p r t moved .x) i ≡ cond (moved i) (positionAt r t i) (int (r .x) i)
     unfolding takenAt
     x-at = row-at (pos 0) 32 (p .n) _ i (limits .n) h ∙ rw (x-then i h)
 
-    pub l-at : nat (takenAt p r t moves .l) i ≡ cond (moves i) t (nat (r .l) i)
+    pub l-at : nat (takenAt p r t moved .l) i ≡ cond (moved i) t (nat (r .l) i)
     unfolding takenAt
     l-at = row-at 0 32 (p .n) _ i (limits .n) h
 
-    pub s-at : int (takenAt p r t moves .s) i ≡ cond (moves i) (slopeThen p r t i) (int (r .s) i)
+    pub s-at : int (takenAt p r t moved .s) i ≡ cond (moved i) (slopeThen p r t i) (int (r .s) i)
     unfolding takenAt
     s-at = row-at (pos 0) 32 (p .n) _ i (limits .n) h
 
-    pub d-at : nat (takenAt p r t moves .d) i ≡ cond (moves i) (dueThen p r t i) (nat (r .d) i)
+    pub d-at : nat (takenAt p r t moved .d) i ≡ cond (moved i) (dueThen p r t i) (nat (r .d) i)
     unfolding takenAt
     d-at = row-at 0 32 (p .n) _ i (limits .n) h
