@@ -27,3 +27,4 @@ pub mod Began
 pub mod Chosen
 pub mod EventWords
 pub mod Lengths
+pub mod Shapes

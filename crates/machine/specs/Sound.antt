@@ -3,6 +3,7 @@ use mathlib.Core.Path.{_≡_}
 use Prim.Native.Nat.{ℕ, _*_, _≤_, _<_}
 use lib.IntN.{pos, _-ℤ_}
 use lib.Signed.{_<ℤ_}
+use lib.ListN.{length}
 use Rattle.integers.specs.Parts.{∣_∣}
 use Rattle.plan.specs.Format.{M}
 use Rattle.plan.specs.Lists.{nat, int}
@@ -53,6 +54,15 @@ pub record SoundRunning (p : Plan) (r : Running) : Type 0 where
   -- "unused entries are 0"
   pub plan-unused : PlanUnused p
   pub running-unused : RunningUnused p r
+
+-- the arrays of the running figures have their full width, as those of a struct have
+pub record RunningShaped (r : Running) : Type 0 where
+  pub x : length (r .x) ≡ 32
+  pub q : length (r .q) ≡ 32
+  pub s : length (r .s) ≡ 32
+  pub l : length (r .l) ≡ 32
+  pub d : length (r .d) ≡ 32
+  pub inputs : length (r .inputs) ≡ 8
 
 abbrev pub Sound : State → Type 0
 Sound st = SoundRunning (st .plan) (st .run)

@@ -7,6 +7,7 @@ pub mod Refusals
 pub mod Encoding
 pub mod Rules
 pub mod Unused
+pub mod Places
 pub mod Idle
 pub mod Laws
 pub mod Cases

@@ -4,18 +4,20 @@ pub mod Files
 pub mod Machine
 pub mod Lists
 pub mod States
+pub mod Calls
 pub mod Limits
-use Rattle.simulator.specs.Promises.Files.{EveryFile, EveryPlace, EveryView, LoadThenWrite, WriteThenLoad, LoadShaped}
+use Rattle.simulator.specs.Promises.Files.{EveryFile, EveryHeader, EveryPlace, EveryView, LoadThenWrite, WriteThenLoad, LoadShaped}
 use Rattle.simulator.specs.Promises.Machine.{ValuesMean, DueLeast, DueBetween, StartMeans, NextMeans, StepsMean, ReachMeans, Frame}
 use Rattle.simulator.specs.Promises.Machine.{EventsRead, StatusMeans, RunTakes, PlainTakes}
-use Rattle.simulator.specs.Promises.Lists.{Demand3}
-use Rattle.simulator.specs.Promises.States.{SoundMeans, LoadSound, RunSound, IdleLoaded, NextDetermined, RunMoves, EveryNumber, Accepted}
-use Rattle.simulator.specs.Promises.States.{Declined, EveryBuffer}
+use Rattle.simulator.specs.Promises.Lists.{ListsMean, Demand3}
+use Rattle.simulator.specs.Promises.States.{SoundMeans, LoadSound, RunSound, IdleLoaded, NextDetermined, RunMoves, RunShaped}
+use Rattle.simulator.specs.Promises.Calls.{EveryNumber, Accepted, Declined, EveryBuffer}
 use Rattle.simulator.specs.Promises.Limits.{LimitPromise}
 
 -- all of them
 pub record EveryPromise : Type 0 where
   pub every-file : EveryFile
+  pub every-header : EveryHeader
   pub every-place : EveryPlace
   pub every-view : EveryView
   pub load-then-write : LoadThenWrite
@@ -33,6 +35,7 @@ pub record EveryPromise : Type 0 where
   pub status-means : StatusMeans
   pub run-takes : RunTakes
   pub plain-takes : PlainTakes
+  pub lists-mean : ListsMean
   pub demand-3 : Demand3
   pub sound-means : SoundMeans
   pub load-sound : LoadSound
@@ -40,6 +43,7 @@ pub record EveryPromise : Type 0 where
   pub idle-loaded : IdleLoaded
   pub next-determined : NextDetermined
   pub run-moves : RunMoves
+  pub run-shaped : RunShaped
   pub every-number : EveryNumber
   pub accepted : Accepted
   pub declined : Declined

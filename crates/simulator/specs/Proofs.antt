@@ -10,8 +10,10 @@ pub mod Limits
 pub mod Sound
 pub mod RoundTrips
 pub mod Events
+pub mod Folds
 pub mod Schedule
 pub mod Cuts
+pub mod ListCalls
 pub mod Plain
 pub mod Runs
 pub mod Demand3

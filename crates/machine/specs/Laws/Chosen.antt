@@ -6,7 +6,8 @@ use Prim.Native.Nat.{ℕ, zero, suc, _+_, _*_, _≤_, _<_}
 use native.Mathlib.Omega.{arith}
 use lib.ListN.{length, length-append}
 use Rattle.bitset.specs.Mask.{countOf}
-use Rattle.words.specs.Word.{numberAt}
+use Rattle.words.specs.Word.{Bytes, numberAt}
+use Rattle.words.specs.Reading.{bytes-append}
 use Rattle.plan.specs.Lists.{joined}
 use Rattle.plan.specs.Laws.Joined.{number-joined}
 
@@ -27,3 +28,16 @@ module _ (test : ℕ → Bool) (block : ℕ → List ℕ) (w : ℕ) (size : (i :
       let chosen : cond (test i) (block i) [] ≡ block i = rw t in
       let inside : c + bytes ≤ length (cond (test i) (block i) []) = rw (chosen, size i) l in
       rw (← length-chosen i) (number-joined bytes (λ j. cond (test j) (block j) []) n i c h inside ∙ ap (λ s. numberAt bytes s c) chosen)
+
+-- blocks of bytes make a list of bytes
+pub no-bytes : Bytes []
+no-bytes = record { byte = λ i. omega arith }
+
+pub bytes-chosen : (test : ℕ → Bool) (block : ℕ → List ℕ) → ((i : ℕ) → Bytes (block i)) → (n : ℕ) → Bytes (joined (λ i. cond (test i) (block i) []) n)
+unfolding joined
+bytes-chosen test block b zero = no-bytes
+bytes-chosen test block b (suc n) = bytes-append (bytes-chosen test block b n) (go (test n))
+  where
+    go : (c : Bool) → Bytes (cond c (block n) [])
+    go true = b n
+    go false = no-bytes

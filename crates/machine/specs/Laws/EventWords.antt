@@ -10,8 +10,8 @@ use lib.Signed.{mag}
 use lib.ListN.{length}
 use Rattle.integers.specs.Parts.{∣_∣}
 use Rattle.bitset.specs.Mask.{countOf}
-use Rattle.words.specs.Word.{numberAt, signedOf, word, signedWord, wordOf}
-use Rattle.words.specs.Flat.{length-flat, word-flat}
+use Rattle.words.specs.Word.{Bytes, numberAt, signedOf, word, signedWord, wordOf}
+use Rattle.words.specs.Flat.{bytes-flat, length-flat, word-flat}
 use Rattle.words.specs.Signs.{signed-unsigned, unsigned-lt}
 use Rattle.plan.specs.Format.{M}
 use Rattle.plan.specs.Laws.Small.{size-mag}
@@ -19,7 +19,7 @@ use Rattle.plan.specs.declared.Plan.{Plan}
 use Rattle.machine.specs.Values.{valueWith}
 use Rattle.machine.specs.Reach.{changes}
 use Rattle.machine.specs.Instant.{eventBytes, eventsAt}
-use Rattle.machine.specs.Laws.Chosen.{length-chosen, number-chosen}
+use Rattle.machine.specs.Laws.Chosen.{length-chosen, number-chosen, bytes-chosen}
 
 -- ---- one event
 module _ (t source : ℕ) (value : ℤ) where
@@ -71,3 +71,8 @@ module _ (p : Plan) (t : ℕ) (d : List ℕ) (q u : List ℤ) where
     pub events-value : ∣ valueWith p q u zero i ∣ ≤ M
         → signedWord (eventsAt p t d q u) (12 * countOf (changes p d t) i + 8) ≡ valueWith p q u zero i
     events-value s = ap (signedOf 4) (events-number 4 8 (omega arith)) ∙ event-value t i (valueWith p q u zero i) s
+
+-- the events are bytes
+pub bytes-events : (p : Plan) (t : ℕ) (d : List ℕ) (q u : List ℤ) → Bytes (eventsAt p t d q u)
+unfolding eventsAt eventBytes
+bytes-events p t d q u = bytes-chosen (changes p d t) (eventOf p t q u) (λ i. bytes-flat _) (p .n + p .m)

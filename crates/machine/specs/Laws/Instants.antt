@@ -3,7 +3,7 @@
 use mathlib.Core.Path.{_≡_, refl, sym, ap, _∙_}
 use mathlib.Core.Bool.{Bool, true, false}
 use mathlib.Core.List.{List, [], _∷_, _++_, append-nil}
-use Prim.Native.Nat.{ℕ, zero, suc, _+_, _-_, _≤_, _<_}
+use Prim.Native.Nat.{ℕ, zero, suc, _+_, _-_, _*_, _≤_, _<_}
 use native.Mathlib.Omega.{arith}
 use lib.Dec.{ltb, eqb}
 use lib.ListN.{length, getD, take, drop, take-append-drop}
@@ -23,7 +23,7 @@ use Rattle.machine.specs.Laws.Runs.{afterBy, eventsBy, after-stopped, af
 use Rattle.plan.specs.Laws.Counts.{counts-of}
 use Rattle.machine.specs.declared.Running.{Running}
 use Rattle.machine.specs.declared.Engine.{Engine}
-use Rattle.machine.specs.declared.Engine.the-variants.{Lazy}
+use Rattle.machine.specs.declared.Engine.the-variants.{Lazy, Eager}
 
 -- the growth is by the engines of the instants that it counts
 pub growth-mono : (p : Plan) (f g : ℕ → Engine) (k : ℕ)
@@ -36,6 +36,12 @@ pub growth-ext : (p : Plan) (f g : ℕ → Engine) (k : ℕ) → ((i : ℕ) → 
 unfolding growthUpTo
 growth-ext p f g zero h = refl
 growth-ext p f g (suc k) h = rw (growth-ext p f g k (λ i l. h i (omega arith)), h k (omega arith))
+
+-- by the eager engine alone
+pub growth-eager : (p : Plan) (k : ℕ) → growthUpTo p (λ i. Eager) k ≡ p .n * k
+unfolding growthUpTo growth
+growth-eager p zero = omega arith
+growth-eager p (suc k) = omega (arith, growth-eager p k)
 
 -- the engine of instant i, counted from 1, and the running figures after k instants
 unfoldable pub engineOf : List Engine → ℕ → Engine

@@ -1,16 +1,19 @@
--- How many bytes the events of an instant and of a run have at most: 12 for each integrator and input, at each instant. Assumes nothing.
+-- The events of a run are bytes, and how many they are at most: 12 for each integrator and input, at each instant. Assumes nothing.
 use mathlib.Core.Bool.{Bool, true, false, cond}
 use mathlib.Core.List.{List, [], _++_}
 use Prim.Native.Nat.{ℕ, zero, suc, _+_, _*_, _≤_}
 use native.Mathlib.Omega.{arith}
 use lib.ListN.{length, length-append}
 use Rattle.bitset.specs.Counts.{countOf-le}
+use Rattle.words.specs.Word.{Bytes}
+use Rattle.words.specs.Reading.{bytes-append}
 use Rattle.plan.specs.declared.Plan.{Plan}
 use Rattle.machine.specs.Reach.{changes}
 use Rattle.machine.specs.Instant.{settings, outputs, tickOf, instant, eventsOf}
 use Rattle.machine.specs.Status.{isPaused}
 use Rattle.machine.specs.Runs.{events}
-use Rattle.machine.specs.Laws.EventWords.{length-events}
+use Rattle.machine.specs.Laws.Chosen.{no-bytes}
+use Rattle.machine.specs.Laws.EventWords.{length-events, bytes-events}
 use Rattle.machine.specs.declared.Running.{Running}
 use Rattle.machine.specs.declared.Engine.{Engine}
 
@@ -36,3 +39,13 @@ module _ (p : Plan) where
       go : (c : Bool) → length rest ≤ b * (p .n + p .m) * 12 → length (cond c (eventsOf p r ++ rest) []) ≤ suc b * (p .n + p .m) * 12
       go true h = omega (arith, length-append (eventsOf p r) rest, instant-bytes r)
       go false h = omega arith
+
+  -- and they are bytes
+  pub events-are-bytes : (engine : Engine) (b : ℕ) (r : Running) → Bytes (events p engine b r)
+  unfolding events eventsOf
+  events-are-bytes engine zero r = no-bytes
+  events-are-bytes engine (suc b) r = go (isPaused p r) (events-are-bytes engine b (instant p engine r))
+    where
+      go : (c : Bool) → Bytes (events p engine b (instant p engine r)) → Bytes (cond c (eventsOf p r ++ events p engine b (instant p engine r)) [])
+      go true h = bytes-append (bytes-events p (tickOf p r) (r .d) _ _) h
+      go false h = no-bytes

@@ -73,9 +73,9 @@ module _ (p : Plan) (r : PlanRules p) where
   unfolding longEnough
   long-enough = le-leb headerLength (length (encode p)) (omega (arith, length-encode p, file-least p (r .counts)))
 
-  pub offsets-kept : offsetsKept (encode p) ≡ true
+  pub offsets-back : offsetsKept (encode p) ≡ true
   unfolding offsetsKept fileLength
-  offsets-kept =
+  offsets-back =
       let file = encode p in
       let end = eq-eqb (length file) (startIn file sections) (length-encode p ∙ sym (start-back sections (omega arith))) in
       rw (every-true (λ k. eqb (offsetIn file k) (startIn file k)) sections .1 offsets, end)
@@ -83,9 +83,9 @@ module _ (p : Plan) (r : PlanRules p) where
       offsets : (k : ℕ) → k < sections → eqb (offsetIn (encode p) k) (startIn (encode p) k) ≡ true
       offsets k h = eq-eqb (offsetIn (encode p) k) (startIn (encode p) k) (offset-back k h ∙ sym (start-back k (omega arith)))
 
-  pub sizes-kept : sizesKept (encode p) ≡ true
+  pub sizes-back : sizesKept (encode p) ≡ true
   unfolding sizesKept countKept
-  sizes-kept = every-true test sections .1 kept
+  sizes-back = every-true test sections .1 kept
     where
       test : ℕ → Bool
       test k = eqb (lengthIn (encode p) k % nat entrySizes k) 0 && countKept k (countIn (encode p) k)

@@ -20,7 +20,7 @@ use Rattle.plan.specs.Refusals.{numberOf, isClean, orElse, planFinding, 
 use Rattle.plan.specs.Laws.Rows.{row-ext, row-all}
 use Rattle.plan.specs.Laws.Layout.{entryWidths, entryWords, sectionWords, entry-read}
 use Rattle.plan.specs.Laws.Small.{small-at, signed-size, coefficient-within, node-limits, entry-small}
-use Rattle.plan.specs.Laws.HeaderBack.{horizon-back, count-back, section-back, long-enough, offsets-kept, sizes-kept}
+use Rattle.plan.specs.Laws.HeaderBack.{horizon-back, count-back, section-back, long-enough, offsets-back, sizes-back}
 use Rattle.plan.specs.declared.Plan.{Plan}
 use Rattle.plan.specs.declared.Finding.{Finding}
 use Rattle.plan.specs.declared.Finding.the-variants.{Clean, Short, Offsets, Sizes, Horizon, Integrator, Input, Node, Link, Command}
@@ -99,7 +99,7 @@ module _ (p : Plan) (r : PlanRules p) (u : PlanUnused p) (s : Shaped p) where
   -- what is found wrong with the file is what is found wrong with the plan
   pub finding-back : findingOf (encode p) ≡ planFinding p
   unfolding findingOf orElse isClean numberOf
-  finding-back = rw (long-enough p r, offsets-kept p r, sizes-kept p r, plan-back)
+  finding-back = rw (long-enough p r, offsets-back p r, sizes-back p r, plan-back)
 
   pub clean-back : isClean (planFinding p) ≡ true → findingOf (encode p) ≡ Clean
   clean-back e = finding-back ∙ clean-only (planFinding p) e

@@ -9,7 +9,7 @@ use native.Mathlib.Nat.{le-of-suc-le-suc}
 use lib.Dec.{ltb, eqb}
 use lib.ListN.{getD, drop}
 use borrow.Author.Tests.{ltb-true, ltb-false, eqb-true, eqb-false}
-use Rattle.plan.specs.Lists.{every, some, all, firstFrom, joined}
+use Rattle.plan.specs.Lists.{every, some, all, firstFrom}
 
 -- ---- a disjunction that does not hold
 pub or-false : (a b : Bool) → (a || b) ≡ false → (a ≡ false) × (b ≡ false)

@@ -1,17 +1,16 @@
 -- The promises about files: loading, the places of the numbers, the section view, and round trips. Statements; the proofs stand in Proofs.
 use mathlib.Core.Path.{_≡_}
+use mathlib.Core.Logic.{_⊎_}
 use mathlib.Core.List.{List, [], _++_}
 use Prim.Native.Nat.{ℕ, _+_, _*_, _≤_, _<_}
-use lib.IntN.{pos}
 use lib.ListN.{length, take, drop}
-use Rattle.words.specs.Word.{Bytes, word, signedWord}
-use Rattle.plan.specs.Lists.{nat, int}
-use Rattle.plan.specs.Format.{Shaped, part, offsetIn, lengthIn, planIn}
+use Rattle.words.specs.Word.{Bytes, word}
+use Rattle.plan.specs.Format.{Shaped, planIn}
 use Rattle.plan.specs.Refusals.{sectionOf}
 use Rattle.plan.specs.Rules.{Answered}
-use Rattle.plan.specs.declared.Plan.{Plan}
+use Rattle.plan.specs.Places.{HeaderPlaces, EntryPlaces}
 use Rattle.machine.specs.Start.{startState, idleState}
-use Rattle.machine.specs.Sound.{Sound}
+use Rattle.machine.specs.Sound.{RunningShaped, Sound}
 use Rattle.machine.specs.declared.State.{State}
 use Rattle.simulator.specs.Calls.{loadOf, writeOf, bufferOfWrite}
 
@@ -26,43 +25,19 @@ pub record LoadPromise (file : List ℕ) : Type 0 where
 abbrev pub EveryFile : Type 0
 EveryFile = (file : List ℕ) → LoadPromise file
 
--- where each number of an accepted file stands: the header's words at 0 to 40, then the entries behind their sections' offsets
-pub record PlacePromise (file : List ℕ) (p : Plan) : Type 0 where
-  pub horizon : p .horizon ≡ word file 0
-  pub offset : (k : ℕ) → offsetIn file k ≡ word file (4 + 8 * k)
-  pub size : (k : ℕ) → lengthIn file k ≡ word file (8 + 8 * k)
-  pub n : word file 8 ≡ 8 * p .n
-  pub m : word file 16 ≡ 4 * p .m
-  pub k : word file 24 ≡ 20 * p .k
-  pub links : word file 32 ≡ 12 * p .links
-  pub commands : word file 40 ≡ 12 * p .commands
-  -- "signed start ..; quantum"
-  pub starts : (i : ℕ) → i < p .n → int (p .starts) i ≡ signedWord file (word file 4 + 8 * i)
-  pub quanta : (i : ℕ) → i < p .n → int (p .quanta) i ≡ pos (word file (word file 4 + 8 * i + 4))
-  -- "signed first value"
-  pub firsts : (j : ℕ) → j < p .m → int (p .firsts) j ≡ signedWord file (word file 12 + 4 * j)
-  -- "kind, A, B, signed lo, signed hi"
-  pub kinds : (j : ℕ) → j < p .k → nat (p .kinds) j ≡ word file (word file 20 + 20 * j)
-  pub lefts : (j : ℕ) → j < p .k → nat (p .lefts) j ≡ word file (word file 20 + 20 * j + 4)
-  pub rights : (j : ℕ) → j < p .k → nat (p .rights) j ≡ word file (word file 20 + 20 * j + 8)
-  pub lows : (j : ℕ) → j < p .k → int (p .lows) j ≡ signedWord file (word file 20 + 20 * j + 12)
-  pub highs : (j : ℕ) → j < p .k → int (p .highs) j ≡ signedWord file (word file 20 + 20 * j + 16)
-  -- "target integrator, source, signed coefficient"
-  pub targets : (e : ℕ) → e < p .links → nat (p .targets) e ≡ word file (word file 28 + 12 * e)
-  pub sources : (e : ℕ) → e < p .links → nat (p .sources) e ≡ word file (word file 28 + 12 * e + 4)
-  pub coefficients : (e : ℕ) → e < p .links → int (p .coefficients) e ≡ signedWord file (word file 28 + 12 * e + 8)
-  -- "tick .., input number .., signed value"
-  pub ticks : (e : ℕ) → e < p .commands → nat (p .ticks) e ≡ word file (word file 36 + 12 * e)
-  pub numbers : (e : ℕ) → e < p .commands → nat (p .numbers) e ≡ word file (word file 36 + 12 * e + 4)
-  pub values : (e : ℕ) → e < p .commands → int (p .values) e ≡ signedWord file (word file 36 + 12 * e + 8)
+-- where each number of a file stands, by the records of Places.antt of the crate `plan`: the header of any file, and the entries of one whose sections
+-- are of the right size. Refusals 4 to 9 speak of these numbers
+abbrev pub EveryHeader : Type 0
+EveryHeader = (file : List ℕ) → HeaderPlaces file
 
 abbrev pub EveryPlace : Type 0
-EveryPlace = (file : List ℕ) → loadOf file .number ≡ 0 → PlacePromise file (loadOf file .state .plan)
+EveryPlace = (file : List ℕ) → (loadOf file .number ≡ 0) ⊎ (3 < loadOf file .number) → EntryPlaces file (planIn file)
 
 -- The section view: "that part of the caller's own file", by the directory, "or an empty part"
 pub record ViewPromise (file : List ℕ) (number : ℕ) : Type 0 where
-  pub shown : loadOf file .number ≡ 0 → number ≤ 4 → sectionOf file number ≡ part file (offsetIn file number) (lengthIn file number)
-  pub whole : loadOf file .number ≡ 0 → number ≤ 4 → length (sectionOf file number) ≡ lengthIn file number
+  pub shown : loadOf file .number ≡ 0 → number ≤ 4
+      → sectionOf file number ≡ take (word file (8 + 8 * number)) (drop (word file (4 + 8 * number)) file)
+  pub whole : loadOf file .number ≡ 0 → number ≤ 4 → length (sectionOf file number) ≡ word file (8 + 8 * number)
   pub refused : (loadOf file .number ≡ 0 → ⊥) → sectionOf file number ≡ []
   pub above : 4 < number → sectionOf file number ≡ []
 
@@ -91,8 +66,8 @@ pub record LoadedBack (st : State) (buffer : List ℕ) : Type 0 where
   pub state : loadOf (take (writeOf st buffer .length) (bufferOfWrite st buffer)) .state ≡ startState (st .plan)
 
 abbrev pub WriteThenLoad : Type 0
-WriteThenLoad = (st : State) (buffer : List ℕ) → Shaped (st .plan) → Sound st → writeOf st buffer .number ≡ 0 → LoadedBack st buffer
+WriteThenLoad = (st : State) (buffer : List ℕ) → Shaped (st .plan) → writeOf st buffer .number ≡ 0 → LoadedBack st buffer
 
--- a loaded plan is one that a struct can hold
+-- a loaded state is one that a struct can hold
 abbrev pub LoadShaped : Type 0
-LoadShaped = (file : List ℕ) → Shaped (loadOf file .state .plan)
+LoadShaped = (file : List ℕ) → Shaped (loadOf file .state .plan) × RunningShaped (loadOf file .state .run)

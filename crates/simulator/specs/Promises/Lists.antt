@@ -2,13 +2,12 @@
 -- included, the outcome is that of the plain machine for the sum of the accepted budgets, and the update count is exact. A statement; the proof
 -- stands in Proofs.
 use mathlib.Core.Path.{_≡_}
-use mathlib.Core.List.{List, _∷_, _++_}
+use mathlib.Core.List.{List, [], _∷_, _++_}
 use Prim.Native.Nat.{ℕ, _+_, _-_, _*_, _≤_, _<_}
 use lib.IntN.{pos}
-use lib.ListN.{length, drop}
+use lib.ListN.{length, take, drop}
 use Rattle.plan.specs.Lists.{int}
 use Rattle.plan.specs.Format.{planIn}
-use Rattle.plan.specs.Refusals.{accepted}
 use Rattle.plan.specs.declared.Plan.{Plan}
 use Rattle.machine.specs.Instant.{eventsOf}
 use Rattle.machine.specs.Status.{statusOf, integratorOf}
@@ -17,7 +16,7 @@ use Rattle.machine.specs.Updates.{growth, growthUpTo, movedNow}
 use Rattle.machine.specs.declared.State.{State}
 use Rattle.machine.specs.declared.Engine.{Engine}
 use Rattle.machine.specs.declared.Engine.the-variants.{Lazy, Eager}
-use Rattle.simulator.specs.Calls.{loadOf, positionedOf}
+use Rattle.simulator.specs.Calls.{loadOf, runOf, bufferOfRun, positionedOf}
 use Rattle.simulator.specs.Lists.{Call, answerOf, bufferOf, afterCalls, budgetSum, joinedBytes, engineAt, cutAt, restAt, allBy}
 
 -- what a call of a list answers in itself
@@ -64,6 +63,28 @@ pub record InstantPromise (p : Plan) (st : State) (calls : List Call) (i : ℕ) 
   pub moved : movedNow p (afterCalls st (cutAt st calls i) .run) ≡ growth p (engineAt st calls i) (plainAfter p (i - 1))
   pub grown : afterCalls st (cutAt st calls i) .run .updates ≡ growthUpTo p (engineAt st calls) i
 
+-- what a list of calls is: the run's own answers, one after the other, and what is joined and added up of them
+pub record FoldPromise (st : State) (c : Call) (calls : List Call) : Type 0 where
+  pub answer : answerOf st c ≡ runOf (c .engine) st (c .budget) (c .buffer)
+  pub buffer : bufferOf st c ≡ bufferOfRun (c .engine) st (c .budget) (c .buffer)
+  pub no-state : afterCalls st [] ≡ st
+  pub state : afterCalls st (c ∷ calls) ≡ afterCalls (answerOf st c .state) calls
+  pub no-bytes : joinedBytes st [] ≡ []
+  pub bytes : joinedBytes st (c ∷ calls) ≡ take (answerOf st c .written) (bufferOf st c) ++ joinedBytes (answerOf st c .state) calls
+  -- "the budgets of a list's accepted run calls added up; a declined call feeds it nothing"
+  pub no-sum : budgetSum st [] ≡ 0
+  pub accepted-sum : answerOf st c .number ≡ 0 → budgetSum st (c ∷ calls) ≡ c .budget + budgetSum (answerOf st c .state) calls
+  pub declined-sum : (answerOf st c .number ≡ 0 → ⊥) → budgetSum st (c ∷ calls) ≡ budgetSum (answerOf st c .state) calls
+  -- "Instant i .. belongs to the first accepted call at which the accepted budgets, its own included, add up to i or more"
+  pub own : (i : ℕ) → answerOf st c .number ≡ 0 → 1 ≤ i → i ≤ c .budget → engineAt st (c ∷ calls) i ≡ c .engine
+  pub later : (i : ℕ) → answerOf st c .number ≡ 0 → c .budget < i
+      → engineAt st (c ∷ calls) i ≡ engineAt (answerOf st c .state) calls (i - c .budget)
+  pub declined : (i : ℕ) → (answerOf st c .number ≡ 0 → ⊥) → 1 ≤ i → engineAt st (c ∷ calls) i ≡ engineAt (answerOf st c .state) calls i
+  pub all-by : (engine : Engine) → allBy engine (c ∷ calls) ≡ record { engine = engine; budget = c .budget; buffer = c .buffer } ∷ allBy engine calls
+
+abbrev pub ListsMean : Type 0
+ListsMean = (st : State) (c : Call) (calls : List Call) → FoldPromise st c calls
+
 -- the claim about a list, from the loaded state
 pub record ListPromise (p : Plan) (st : State) (calls : List Call) : Type 0 where
   pub each : (earlier : List Call) (c : Call) (later : List Call) → calls ≡ earlier ++ (c ∷ later) → CallPromise p (afterCalls st earlier) c
@@ -79,6 +100,8 @@ pub record ListPromise (p : Plan) (st : State) (calls : List Call) : Type 0 wher
   pub same-sum : (engine : Engine) → budgetSum st (allBy engine calls) ≡ budgetSum st calls
   pub fewest : afterCalls st (allBy Lazy calls) .run .updates ≤ afterCalls st calls .run .updates
   pub most : afterCalls st calls .run .updates ≤ afterCalls st (allBy Eager calls) .run .updates
+  pub all-lazy : afterCalls st (allBy Lazy calls) .run .updates ≡ growthUpTo p (λ i. Lazy) (plainAfter p (budgetSum st calls) .instants)
+  pub all-eager : afterCalls st (allBy Eager calls) .run .updates ≡ p .n * plainAfter p (budgetSum st calls) .instants
 
 abbrev pub Demand3 : Type 0
 Demand3 = (file : List ℕ) → loadOf file .number ≡ 0 → (calls : List Call) → ListPromise (planIn file) (loadOf file .state) calls

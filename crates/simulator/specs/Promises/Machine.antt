@@ -19,16 +19,14 @@ use Rattle.plan.specs.Rules.{PlanRules}
 use Rattle.plan.specs.declared.Plan.{Plan}
 use Rattle.machine.specs.Values.{valueOf, sumOver, rateOf}
 use Rattle.machine.specs.Due.{never, distance, ticksTo, dueOf, LeastTicks}
-use Rattle.machine.specs.Next.{nextCommand, nextTick}
+use Rattle.machine.specs.Next.{nextCommand}
 use Rattle.machine.specs.Start.{startState}
 use Rattle.machine.specs.Reach.{changes, Changed, reached, Reached}
 use Rattle.machine.specs.Instant.{positionAt, moves, Moves, slopeThen, tickOf, instant, eventsOf}
 use Rattle.machine.specs.Status.{statusOf, integratorOf}
 use Rattle.machine.specs.Runs.{after, events}
 use Rattle.machine.specs.Plain.{plainAfter, plainStatus}
-use Rattle.machine.specs.Sound.{Sound}
 use Rattle.machine.specs.declared.Running.{Running}
-use Rattle.machine.specs.declared.State.{State}
 use Rattle.machine.specs.declared.Engine.{Engine}
 
 -- "Integrators give q, inputs their value, nodes their value", and what each kind makes of the values of A and B
@@ -95,18 +93,18 @@ abbrev pub StartMeans : Type 0
 StartMeans = (p : Plan) → PlanRules p → StartPromise p (startState p .run)
 
 -- "Next instant t: the least of all d and the next command's tick", and "the next command is the first with tick above c"
-pub record NextPromise (p : Plan) (d : List ℕ) (next c : ℕ) : Type 0 where
-  pub due : (i : ℕ) → i < p .n → nextTick p d next ≤ nat d i
-  pub command : next < p .commands → nextTick p d next ≤ nat (p .ticks) next
-  pub no-instant : ((i : ℕ) → i < p .n → never ≤ nat d i) → p .commands ≤ next → nextTick p d next ≡ never
-  pub one : nextTick p d next < never
-      → ((i : ℕ) × (i < p .n) × (nat d i ≡ nextTick p d next)) ⊎ ((next < p .commands) × (nat (p .ticks) next ≡ nextTick p d next))
+pub record NextPromise (p : Plan) (r : Running) (c : ℕ) : Type 0 where
+  pub due : (i : ℕ) → i < p .n → tickOf p r ≤ nat (r .d) i
+  pub command : r .next < p .commands → tickOf p r ≤ nat (p .ticks) (r .next)
+  pub no-instant : ((i : ℕ) → i < p .n → never ≤ nat (r .d) i) → p .commands ≤ r .next → tickOf p r ≡ never
+  pub one : tickOf p r < never
+      → ((i : ℕ) × (i < p .n) × (nat (r .d) i ≡ tickOf p r)) ⊎ ((r .next < p .commands) × (nat (p .ticks) (r .next) ≡ tickOf p r))
   pub earlier : (e : ℕ) → e < nextCommand p c → nat (p .ticks) e ≤ c
   pub first : nextCommand p c < p .commands → c < nat (p .ticks) (nextCommand p c)
   pub none : nextCommand p c ≤ p .commands
 
 abbrev pub NextMeans : Type 0
-NextMeans = (p : Plan) (d : List ℕ) (next c : ℕ) → NextPromise p d next c
+NextMeans = (p : Plan) (r : Running) (c : ℕ) → NextPromise p r c
 
 -- "One instant", at tick t, from the figures r to the figures r′
 pub record StepPromise (p : Plan) (engine : Engine) (t : ℕ) (r r′ : Running) : Type 0 where
@@ -166,7 +164,7 @@ pub record EventsPromise (p : Plan) (r : Running) : Type 0 where
   pub no-other : length (eventsOf p r) ≡ 12 * countOf (changes p (r .d) (tickOf p r)) (p .n + p .m)
 
 abbrev pub EventsRead : Type 0
-EventsRead = (st : State) → Sound st → statusOf (st .plan) (st .run) ≡ 0 → EventsPromise (st .plan) (st .run)
+EventsRead = (p : Plan) (r : Running) → PlanRules p → statusOf p r ≡ 0 → EventsPromise p r
 
 -- "1 finished if t is never or above the horizon; else 2 range if step 1 bars the instant (with the lowest such integrator); else 0 paused"
 pub record StatusPromise (p : Plan) (r : Running) : Type 0 where

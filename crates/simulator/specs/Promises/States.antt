@@ -1,22 +1,20 @@
--- The promises about sound states, "Loading and runs leave sound states", and about every call that takes a state. Statements; the proofs stand
--- in Proofs.
+-- The promises about sound states: "Loading and runs leave sound states." Statements; the proofs stand in Proofs.
 use mathlib.Core.Path.{_≡_}
 use mathlib.Core.Bool.{true}
-use mathlib.Core.List.{List, _++_}
-use Prim.Native.Nat.{ℕ, _+_, _-_, _*_, _≤_, _<_}
-use lib.IntN.{pos, _+ℤ_, _*ℤ_}
-use lib.ListN.{length, drop}
+use mathlib.Core.List.{List}
+use Prim.Native.Nat.{ℕ, _≤_, _<_}
+use lib.IntN.{pos}
+use lib.ListN.{length}
 use Rattle.plan.specs.Lists.{nat, int}
 use Rattle.plan.specs.Encoding.{encode}
 use Rattle.plan.specs.Idle.{idlePlan}
-use Rattle.machine.specs.Start.{idleState}
-use Rattle.machine.specs.Status.{statusOf, integratorOf}
-use Rattle.machine.specs.Runs.{after, events}
-use Rattle.machine.specs.Sound.{Sound}
+use Rattle.plan.specs.declared.Plan.{Plan}
+use Rattle.machine.specs.Start.{startState, idleState}
+use Rattle.machine.specs.Sound.{RunningShaped, Sound}
 use Rattle.machine.specs.SoundTest.{isSound}
 use Rattle.machine.specs.declared.State.{State}
 use Rattle.machine.specs.declared.Engine.{Engine}
-use Rattle.simulator.specs.Calls.{loadOf, writeOf, bufferOfWrite, runOf, bufferOfRun, positionedOf}
+use Rattle.simulator.specs.Calls.{loadOf, runOf}
 
 -- the test that the calls try is the clauses of "A sound state"
 abbrev pub SoundMeans : Type 0
@@ -38,69 +36,26 @@ NextDetermined =
 -- an accepted run that is paused has moved the clock on
 abbrev pub RunMoves : Type 0
 RunMoves =
-    (engine : Engine) (st : State) (budget : ℕ) (buffer : List ℕ) → Sound st → runOf engine st budget buffer .number ≡ 0 → 1 ≤ budget
+    (engine : Engine) (st : State) (budget : ℕ) (buffer : List ℕ) → runOf engine st budget buffer .number ≡ 0 → 1 ≤ budget
     → runOf engine st budget buffer .status ≡ 0 → st .run .clock < runOf engine st budget buffer .state .run .clock
 
 -- "idle is the start of one integrator (start 0, quantum 1), nothing else, horizon 1"; its file has 52 bytes
+pub record IdlePromise (p : Plan) (idle : State) : Type 0 where
+  pub start : idle ≡ startState p
+  pub integrators : p .n ≡ 1
+  pub nothing-else : (p .m ≡ 0) × (p .k ≡ 0) × (p .links ≡ 0) × (p .commands ≡ 0)
+  pub first : int (p .starts) 0 ≡ pos 0
+  pub quantum : int (p .quanta) 0 ≡ pos 1
+  pub horizon : p .horizon ≡ 1
+  pub size : length (encode p) ≡ 52
+  pub loaded : loadOf (encode p) ≡ record { number = 0; entry = 0; state = idle }
+  pub sound : Sound idle
+
 abbrev pub IdleLoaded : Type 0
-IdleLoaded =
-    (length (encode idlePlan) ≡ 52) × (loadOf (encode idlePlan) ≡ record { number = 0; entry = 0; state = idleState }) × Sound idleState
+IdleLoaded = IdlePromise idlePlan idleState
 
--- "When a call declines", 10 to 14: each number exactly where it is named, tried in order
-pub record NumberPromise (st : State) (buffer : List ℕ) : Type 0 where
-  pub write-unsound : (Sound st → ⊥) → writeOf st buffer .number ≡ 10
-  pub write-short : Sound st → length buffer < length (encode (st .plan)) → writeOf st buffer .number ≡ 13
-  pub write-accepted : Sound st → length (encode (st .plan)) ≤ length buffer → writeOf st buffer .number ≡ 0
-  pub run-unsound : (engine : Engine) (budget : ℕ) → (Sound st → ⊥) → runOf engine st budget buffer .number ≡ 10
-  pub run-above : (engine : Engine) (budget : ℕ) → Sound st → 1024 < budget → runOf engine st budget buffer .number ≡ 11
-  pub run-short : (engine : Engine) (budget : ℕ) → Sound st → budget ≤ 1024 → length buffer < budget * (st .plan .n + st .plan .m) * 12
-      → runOf engine st budget buffer .number ≡ 12
-  pub run-accepted : (engine : Engine) (budget : ℕ) → Sound st → budget ≤ 1024 → budget * (st .plan .n + st .plan .m) * 12 ≤ length buffer
-      → runOf engine st budget buffer .number ≡ 0
-  pub position-unsound : (i : ℕ) → (Sound st → ⊥) → positionedOf st i .number ≡ 10
-  pub position-above : (i : ℕ) → Sound st → st .plan .n ≤ i → positionedOf st i .number ≡ 14
-  pub position-accepted : (i : ℕ) → Sound st → i < st .plan .n → positionedOf st i .number ≡ 0
-
-abbrev pub EveryNumber : Type 0
-EveryNumber = (st : State) (buffer : List ℕ) → NumberPromise st buffer
-
--- what an accepted call answers and writes, on every sound state, one filled by hand too
-pub record AcceptedPromise (st : State) (buffer : List ℕ) : Type 0 where
-  pub write : writeOf st buffer .number ≡ 0
-      → (writeOf st buffer .length ≡ length (encode (st .plan))) × (writeOf st buffer .state ≡ st)
-      × (bufferOfWrite st buffer ≡ encode (st .plan) ++ drop (length (encode (st .plan))) buffer)
-  pub run : (engine : Engine) (budget : ℕ) → runOf engine st budget buffer .number ≡ 0
-      → (runOf engine st budget buffer .status ≡ statusOf (st .plan) (after (st .plan) engine budget (st .run)))
-      × (runOf engine st budget buffer .integrator ≡ integratorOf (st .plan) (after (st .plan) engine budget (st .run)))
-      × (runOf engine st budget buffer .written ≡ length (events (st .plan) engine budget (st .run)))
-      × (runOf engine st budget buffer .state ≡ record { plan = st .plan; run = after (st .plan) engine budget (st .run) })
-      × (bufferOfRun engine st budget buffer
-      ≡ events (st .plan) engine budget (st .run) ++ drop (length (events (st .plan) engine budget (st .run))) buffer)
-  -- "Position call: x+s×(c−l) for a numbered integrator"
-  pub position : (i : ℕ) → positionedOf st i .number ≡ 0
-      → (positionedOf st i .value ≡ int (st .run .x) i +ℤ int (st .run .s) i *ℤ pos (st .run .clock - nat (st .run .l) i))
-      × (positionedOf st i .state ≡ st)
-
-abbrev pub Accepted : Type 0
-Accepted = (st : State) (buffer : List ℕ) → AcceptedPromise st buffer
-
--- what is written fits, and no call changes a buffer's length
-pub record BufferPromise (st : State) (buffer : List ℕ) : Type 0 where
-  pub write-fits : writeOf st buffer .length ≤ length buffer
-  pub run-fits : (engine : Engine) (budget : ℕ) → runOf engine st budget buffer .written ≤ length buffer
-  pub write-size : length (bufferOfWrite st buffer) ≡ length buffer
-  pub run-size : (engine : Engine) (budget : ℕ) → length (bufferOfRun engine st budget buffer) ≡ length buffer
-
-abbrev pub EveryBuffer : Type 0
-EveryBuffer = (st : State) (buffer : List ℕ) → BufferPromise st buffer
-
--- declined calls leave state and buffer as they were, and every other figure is 0
-pub record DeclinedPromise (st : State) (buffer : List ℕ) : Type 0 where
-  pub write : (writeOf st buffer .number ≡ 0 → ⊥) → (writeOf st buffer .length ≡ 0) × (writeOf st buffer .state ≡ st) × (bufferOfWrite st buffer ≡ buffer)
-  pub run : (engine : Engine) (budget : ℕ) → (runOf engine st budget buffer .number ≡ 0 → ⊥)
-      → (runOf engine st budget buffer .status ≡ 0) × (runOf engine st budget buffer .integrator ≡ 0) × (runOf engine st budget buffer .written ≡ 0)
-      × (runOf engine st budget buffer .state ≡ st) × (bufferOfRun engine st budget buffer ≡ buffer)
-  pub position : (i : ℕ) → (positionedOf st i .number ≡ 0 → ⊥) → (positionedOf st i .value ≡ pos 0) × (positionedOf st i .state ≡ st)
-
-abbrev pub Declined : Type 0
-Declined = (st : State) (buffer : List ℕ) → DeclinedPromise st buffer
+-- a run keeps the width of the arrays
+abbrev pub RunShaped : Type 0
+RunShaped =
+    (engine : Engine) (st : State) (budget : ℕ) (buffer : List ℕ) → RunningShaped (st .run)
+    → RunningShaped (runOf engine st budget buffer .state .run)

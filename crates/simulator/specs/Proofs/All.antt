@@ -1,21 +1,23 @@
 -- Every promise holds. Assumes nothing.
 use Rattle.simulator.specs.Promises.{EveryPromise}
-use Rattle.simulator.specs.Proofs.Machine.{next-means, status-means, reach-promise, frame, due-least, due-between, plain-takes}
+use Rattle.simulator.specs.Proofs.Machine.{next-means, status-means, reach-means, frame, due-least, due-between, plain-takes}
 use Rattle.simulator.specs.Proofs.Steps.{values-mean, start-means, steps-mean, run-takes}
 use Rattle.simulator.specs.Proofs.Calls.{every-number, accepted, every-buffer, declined}
 use Rattle.simulator.specs.Proofs.Files.{every-file, every-view, load-shaped}
-use Rattle.simulator.specs.Proofs.Places.{every-place}
+use Rattle.simulator.specs.Proofs.Places.{every-header, every-place}
 use Rattle.simulator.specs.Proofs.Limits.{limits}
 use Rattle.simulator.specs.Proofs.Sound.{sound-means, load-sound, idle-loaded, next-determined}
 use Rattle.simulator.specs.Proofs.RoundTrips.{load-then-write, write-then-load}
 use Rattle.simulator.specs.Proofs.Events.{events-read}
-use Rattle.simulator.specs.Proofs.Runs.{run-sound, run-moves}
+use Rattle.simulator.specs.Proofs.Runs.{run-sound, run-moves, run-shaped}
+use Rattle.simulator.specs.Proofs.Folds.{lists-mean}
 use Rattle.simulator.specs.Proofs.Demand3.{demand-3}
 
 pub every-promise : EveryPromise
 every-promise =
     record {
       every-file = every-file;
+      every-header = every-header;
       every-place = every-place;
       every-view = every-view;
       load-then-write = load-then-write;
@@ -27,12 +29,13 @@ every-promise =
       start-means = start-means;
       next-means = next-means;
       steps-mean = steps-mean;
-      reach-means = reach-promise;
+      reach-means = reach-means;
       frame = frame;
       events-read = events-read;
       status-means = status-means;
       run-takes = run-takes;
       plain-takes = plain-takes;
+      lists-mean = lists-mean;
       demand-3 = demand-3;
       sound-means = sound-means;
       load-sound = load-sound;
@@ -40,6 +43,7 @@ every-promise =
       idle-loaded = idle-loaded;
       next-determined = next-determined;
       run-moves = run-moves;
+      run-shaped = run-shaped;
       every-number = every-number;
       accepted = accepted;
       declined = declined;

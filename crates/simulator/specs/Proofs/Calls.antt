@@ -8,15 +8,18 @@ use native.Mathlib.Omega.{arith}
 use lib.Dec.{eqb}
 use lib.ListN.{length, length-append, length-drop}
 use borrow.Author.Tests.{eq-eqb, ne-eqb, le-leb, lt-leb, lt-ltb, le-ltb}
-use Rattle.plan.specs.Encoding.{encode}
+use Rattle.plan.specs.Encoding.{fileWords, encode}
+use Rattle.words.specs.Word.{Bytes}
+use Rattle.words.specs.Flat.{bytes-flat}
+use Rattle.words.specs.Reading.{bytes-append, bytes-drop}
 use Rattle.plan.specs.Laws.Layout.{length-encode}
 use Rattle.machine.specs.Instant.{positionAt}
 use Rattle.machine.specs.Runs.{positionOf}
-use Rattle.machine.specs.Laws.Lengths.{run-bytes}
+use Rattle.machine.specs.Laws.Lengths.{run-bytes, events-are-bytes}
 use Rattle.machine.specs.Laws.Tested.{sound-means}
 use Rattle.simulator.specs.Calls.{over, writeNumber, writeOf, bufferOfWrite, roomOf, declineOf, runNumber, ranState, ranEvents, runOf}
 use Rattle.simulator.specs.Calls.{bufferOfRun, positionNumber, positionedOf}
-use Rattle.simulator.specs.Promises.States.{EveryNumber, Accepted, EveryBuffer, Declined}
+use Rattle.simulator.specs.Promises.Calls.{EveryNumber, Accepted, EveryBuffer, Declined}
 use Rattle.simulator.specs.Proofs.Numbers.{accept-cases, figure-most, unsound-test, write-zero, run-zero}
 
 pub every-number : EveryNumber
@@ -50,8 +53,13 @@ accepted st buffer =
       position = λ i e. (rw (eq-eqb _ 0 e), refl);
     }
 
+-- and it stays a buffer of bytes
+bytes-then : (number : ℕ) (bytes buffer : List ℕ) → Bytes bytes → Bytes buffer → Bytes (cond (eqb number 0) (over bytes buffer) buffer)
+bytes-then number bytes buffer b c =
+    accept-cases {A = List ℕ} (λ s. Bytes s) number (λ e. bytes-append b (bytes-drop (length bytes) c)) c
+
 pub every-buffer : EveryBuffer
-unfolding writeOf bufferOfWrite runOf bufferOfRun ranEvents roomOf
+unfolding writeOf bufferOfWrite runOf bufferOfRun ranEvents roomOf encode
 every-buffer st buffer =
     let room = length buffer in let size = length-encode (st .plan) in record {
       write-fits = figure-most (writeNumber st room) room (λ e. write-zero st room e .1);
@@ -61,6 +69,8 @@ every-buffer st buffer =
       run-size = λ engine budget.
           length-then (runNumber st budget room) (ranEvents engine st budget) buffer
           (λ e. le-trans (run-bytes (st .plan) engine budget (st .run)) (run-zero st budget room e .2));
+      write-bytes = bytes-then (writeNumber st room) (encode (st .plan)) buffer (bytes-flat (fileWords (st .plan)));
+      run-bytes = λ engine budget. bytes-then (runNumber st budget room) (ranEvents engine st budget) buffer (events-are-bytes (st .plan) engine budget (st .run));
     }
 
 pub declined : Declined

@@ -15,7 +15,7 @@ use Rattle.machine.specs.Updates.{growthUpTo}
 use Rattle.machine.specs.Sound.{SoundRunning}
 use Rattle.machine.specs.Laws.Began.{start-sound}
 use Rattle.machine.specs.Laws.Growth.{growth-least, growth-most}
-use Rattle.machine.specs.Laws.Instants.{engineOf, stateAt, growth-mono, growth-ext, run-together, events-next, moved-next, instants-at, updates-at, updates-end}
+use Rattle.machine.specs.Laws.Instants.{engineOf, stateAt, growth-mono, growth-ext, growth-eager, run-together, events-next, moved-next, instants-at, updates-at, updates-end}
 use Rattle.machine.specs.Laws.PlainRuns.{takes-most}
 use Rattle.machine.specs.Laws.Runs.{afterBy, eventsBy, after-append, run-sound}
 use Rattle.machine.specs.declared.State.{State}
@@ -26,7 +26,8 @@ use Rattle.simulator.specs.Promises.Lists.{SameAsPlain, InstantPromise, 
 use Rattle.simulator.specs.Proofs.Files.{load-accepted, every-file}
 use Rattle.simulator.specs.Proofs.Schedule.{at, schedule, calls-state, calls-sum, calls-bytes}
 use Rattle.simulator.specs.Proofs.Cuts.{schedule-cut, schedule-rest, engine-at, schedule-all}
-use Rattle.simulator.specs.Proofs.Plain.{call-promise, same-as-plain}
+use Rattle.simulator.specs.Proofs.ListCalls.{call-promise}
+use Rattle.simulator.specs.Proofs.Plain.{same-as-plain}
 
 -- from the start of a plan whose start is sound
 module _ (p : Plan) (ok : SoundRunning p (startOf p)) where
@@ -120,6 +121,13 @@ module _ (p : Plan) (ok : SoundRunning p (startOf p)) where
       ≡ growthUpTo p (engineOf (schedule p (allBy engine calls))) (plainAfter p (length (schedule p calls)) .instants)
   all-updates engine calls = updates-then (allBy engine calls) ∙ rw (all-length engine calls)
 
+  all-grown : (engine : Engine) (calls : List Call) → afterCalls start (allBy engine calls) .run .updates
+      ≡ growthUpTo p (λ i. engine) (plainAfter p (length (schedule p calls)) .instants)
+  all-grown engine calls =
+      all-updates engine calls
+      ∙ growth-ext p (engineOf (schedule p (allBy engine calls))) (λ i. engine) (plainAfter p (length (schedule p calls)) .instants)
+      (λ i h. all-engine engine calls i (omega (arith, takes-most p (length (schedule p calls)))))
+
   pub list-promise : (calls : List Call) → ListPromise p start calls
   list-promise calls =
       let es = schedule p calls in
@@ -142,6 +150,8 @@ module _ (p : Plan) (ok : SoundRunning p (startOf p)) where
             rw (all-updates Eager calls, updates-then calls)
             (growth-mono p (engineOf es) (engineOf (schedule p (allBy Eager calls))) k
             (λ i h m. rw (all-engine Eager calls i (omega (arith, takes-most p (length es)))) (growth-most p (engineOf es (i + 1)) m)));
+        all-lazy = rw (sum calls) (all-grown Lazy calls);
+        all-eager = rw (sum calls) (all-grown Eager calls ∙ growth-eager p k);
       }
 
 pub demand-3 : Demand3

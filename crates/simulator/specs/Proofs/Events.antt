@@ -17,7 +17,7 @@ use Rattle.machine.specs.Values.{valueWith}
 use Rattle.machine.specs.Reach.{isDue, changes, Changed, due, commanded}
 use Rattle.machine.specs.Instant.{positionAt, settings, outputs, tickOf, eventsOf}
 use Rattle.machine.specs.Status.{statusOf, isPaused}
-use Rattle.machine.specs.Sound.{SoundRunning}
+use Rattle.plan.specs.Rules.{PlanRules}
 use Rattle.machine.specs.Laws.Taken.{outputs-at}
 use Rattle.machine.specs.Laws.EventWords.{length-events, events-tick, events-source, events-value}
 use Rattle.machine.specs.Laws.Inputs.{setting-of, output-value, input-value}
@@ -34,12 +34,12 @@ module _ (p : Plan) (r : Running) where
   abbrev inputsThen : List ℤ
   inputsThen = settings p (r .inputs) (tickOf p r)
 
-module _ (p : Plan) (r : Running) (ok : SoundRunning p r) (zero-status : statusOf p r ≡ 0) where
+module _ (p : Plan) (r : Running) (ok : PlanRules p) (zero-status : statusOf p r ≡ 0) where
   paused : isPaused p r ≡ true
   paused = is-paused p r zero-status
 
   limits : Counts p
-  limits = counts-of p (ok .plan .counts)
+  limits = counts-of p (ok .counts)
 
   -- the event of a source that changes
   event-at : (i : ℕ) (value : ℤ) → i < p .n + p .m → Changed p (r .d) (tickOf p r) i
@@ -52,7 +52,7 @@ module _ (p : Plan) (r : Running) (ok : SoundRunning p r) (zero-status : statusO
       let u = inputsThen p r in
       let changed = changes-means p (r .d) t i .1 c in
       record {
-        tick = events-tick p t (r .d) q u i h changed (omega (arith, tick-horizon p r paused, ok .plan .horizon));
+        tick = events-tick p t (r .d) q u i h changed (omega (arith, tick-horizon p r paused, ok .horizon));
         number = events-source p t (r .d) q u i h changed (omega (arith, limits));
         signed = events-value p t (r .d) q u i h changed (rw e small) ∙ e;
       }
@@ -71,10 +71,10 @@ module _ (p : Plan) (r : Running) (ok : SoundRunning p r) (zero-status : statusO
     due = λ i h e. event-at i (positionAt r (tickOf p r) i) (omega arith) (due h e) (due-value i h e) (due-size p r paused i h e);
     commanded = λ j e h l tick number.
         event-at (p .n + j) (int (p .values) e) (omega arith) (commanded j e refl h l tick number)
-        (input-value p (outputsThen p r) (inputsThen p r) j h ∙ setting-of p (ok .plan) (r .inputs) (tickOf p r) j e h l tick number)
-        (within-size M (int (p .values) e) .0 (ok .plan .commands e l .value));
+        (input-value p (outputsThen p r) (inputsThen p r) j h ∙ setting-of p ok (r .inputs) (tickOf p r) j e h l tick number)
+        (within-size M (int (p .values) e) .0 (ok .commands e l .value));
     no-other = length-events p (tickOf p r) (r .d) (outputsThen p r) (inputsThen p r);
   }
 
 pub events-read : EventsRead
-events-read st = events-promise (st .plan) (st .run)
+events-read = events-promise

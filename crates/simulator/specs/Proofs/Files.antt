@@ -5,11 +5,12 @@ use mathlib.Core.List.{List}
 use Prim.Native.Nat.{ℕ}
 use native.Mathlib.Omega.{arith}
 use borrow.Author.Tests.{eq-eqb, ne-eqb}
-use Rattle.plan.specs.Format.{Shaped, sectionIn, planIn}
+use Rattle.plan.specs.Format.{Shaped, sectionIn, planIn, part, offsetIn, lengthIn}
 use Rattle.plan.specs.Refusals.{numberOf, entryOf, isClean, findingOf, accepted}
 use Rattle.plan.specs.Rules.{PlanRules}
 use Rattle.plan.specs.Unused.{PlanUnused}
 use Rattle.plan.specs.Encoding.{encode}
+use Rattle.plan.specs.Idle.{idlePlan}
 use Rattle.plan.specs.declared.Plan.{Plan}
 use Rattle.plan.specs.Laws.Answers.{answered, accepted-offsets}
 use Rattle.plan.specs.Laws.Entries.{file-shaped}
@@ -18,6 +19,8 @@ use Rattle.plan.specs.Laws.Parts.{length-section-in}
 use Rattle.plan.specs.Laws.View.{view-shown, view-refused, view-above}
 use Rattle.plan.specs.Laws.ReadBack.{plan-back, clean-back}
 use Rattle.plan.specs.Laws.Refused.{plan-rules}
+use Rattle.machine.specs.Sound.{RunningShaped}
+use Rattle.machine.specs.Laws.Shapes.{start-shaped}
 use Rattle.machine.specs.Start.{startState, idleState}
 use Rattle.machine.specs.declared.State.{State}
 use Rattle.simulator.specs.Calls.{loadOf}
@@ -51,7 +54,7 @@ every-file file = record {
 }
 
 pub every-view : EveryView
-unfolding sectionIn
+unfolding sectionIn part offsetIn lengthIn
 every-view file number = record {
   shown = λ e h. view-shown file number (load-accepted file e) (omega arith);
   whole = λ e h.
@@ -63,7 +66,9 @@ every-view file number = record {
 
 pub load-shaped : LoadShaped
 unfolding startState idleState
-load-shaped file = load-either file (λ st. Shaped (st .plan)) (λ e. file-shaped file) idle-shaped
+load-shaped file =
+    load-either file (λ st. Shaped (st .plan) × RunningShaped (st .run))
+    (λ e. (file-shaped file, start-shaped (planIn file) (file-shaped file))) (idle-shaped, start-shaped idlePlan idle-shaped)
 
 -- the file of a plan that keeps the rules is loaded as the plan's start
 pub load-encoded : (p : Plan) → PlanRules p → PlanUnused p → Shaped p

@@ -10,17 +10,18 @@ use Rattle.machine.specs.Laws.Due.{due-still, due-moving, ticks-least, ticks-ro
 use Rattle.machine.specs.Laws.Frame.{slope-frame}
 use Rattle.machine.specs.Laws.Next.{next-due, next-command, next-never, next-one, command-earlier, command-first, command-most}
 use Rattle.machine.specs.Laws.Status.{status-finished, status-range, status-paused, no-integrator}
-use Rattle.machine.specs.Laws.Reach.{changes-means, reach-means, reached-false}
+use Rattle.machine.specs.Laws.Reach.{changes-means, reached-false}
 use Rattle.machine.specs.Laws.PlainRuns.{takes-most, takes-all}
 use Rattle.simulator.specs.Promises.Machine.{NextMeans, StatusMeans, ReachMeans, Frame, DueLeast, DueBetween, PlainTakes}
 
 pub next-means : NextMeans
-next-means p d next c =
+unfolding tickOf
+next-means p r c =
     record {
-      due = next-due p d next;
-      command = next-command p d next;
-      no-instant = next-never p d next;
-      one = next-one p d next;
+      due = next-due p (r .d) (r .next);
+      command = next-command p (r .d) (r .next);
+      no-instant = next-never p (r .d) (r .next);
+      one = next-one p (r .d) (r .next);
       earlier = command-earlier p c;
       first = command-first p c;
       none = command-most p c;
@@ -36,8 +37,9 @@ status-means p r =
       no-integrator = no-integrator p (r .d) t (positionAt r t);
     }
 
-pub reach-promise : ReachMeans
-reach-promise p d t i rules = record { change = changes-means p d t i; reach = reach-means p d t i rules }
+pub reach-means : ReachMeans
+reach-means p d t i rules =
+    record { change = changes-means p d t i; reach = Rattle.machine.specs.Laws.Reach.reach-means p d t i rules }
 
 pub frame : Frame
 frame p r t i rules h = slope-frame p (counts-of p (rules .counts)) r t i (reached-false p (r .d) t i h)

@@ -7,6 +7,7 @@ use Rattle.plan.specs.Laws.Answers.{accepted-offsets, accepted-sizes}
 use Rattle.plan.specs.Laws.WrittenBack.{file-back}
 use Rattle.simulator.specs.Calls.{writeOf, bufferOfWrite}
 use Rattle.simulator.specs.Promises.Files.{LoadThenWrite, WriteThenLoad}
+use Rattle.simulator.specs.Proofs.Numbers.{write-zero}
 use Rattle.simulator.specs.Proofs.Calls.{every-number, accepted}
 use Rattle.simulator.specs.Proofs.Files.{load-accepted, load-encoded}
 
@@ -24,7 +25,9 @@ load-then-write file buffer st bytes accepts ok same room =
     }
 
 pub write-then-load : WriteThenLoad
-write-then-load st buffer shaped ok number =
+unfolding writeOf
+write-then-load st buffer shaped number =
+    let ok = write-zero st (length buffer) number .0 in
     let loaded = load-encoded (st .plan) (ok .plan) (ok .plan-unused) shaped in
     record { number = rw (file, loaded); entry = rw (file, loaded); state = rw (file, loaded) }
   where

@@ -1,5 +1,5 @@
 -- The test that the calls try is the clauses of a sound state; loaded states are sound; the idle state, with its file; the next command. Assumes nothing.
-use mathlib.Core.Path.{sym, _∙_}
+use mathlib.Core.Path.{refl, sym, _∙_}
 use Rattle.plan.specs.Format.{planIn}
 use Rattle.plan.specs.Tests.{counts}
 use Rattle.plan.specs.Encoding.{lengthOf, offsetOf, fileLength}
@@ -24,7 +24,18 @@ load-sound file =
 
 pub idle-loaded : IdleLoaded
 unfolding idleState counts lengthOf offsetOf fileLength
-idle-loaded = (length-encode idlePlan, load-encoded idlePlan idle-rules idle-unused idle-shaped, idle-sound)
+idle-loaded =
+    record {
+      start = refl;
+      integrators = refl;
+      nothing-else = (refl, refl, refl, refl);
+      first = refl;
+      quantum = refl;
+      horizon = refl;
+      size = length-encode idlePlan;
+      loaded = load-encoded idlePlan idle-rules idle-unused idle-shaped;
+      sound = idle-sound;
+    }
 
 pub next-determined : NextDetermined
 next-determined st next ok h before this = ok .next ∙ sym (command-is (st .plan) (st .run .clock) next h before this)

@@ -1,0 +1,48 @@
+-- The arrays of the running figures have their full width from the start on. Assumes nothing.
+use mathlib.Core.Bool.{Bool, true, false, cond}
+use Prim.Native.Nat.{ℕ, zero, suc}
+use lib.IntN.{pos}
+use Rattle.plan.specs.Format.{Shaped}
+use Rattle.plan.specs.Laws.Rows.{length-row}
+use Rattle.plan.specs.declared.Plan.{Plan}
+use Rattle.machine.specs.Start.{startOf}
+use Rattle.machine.specs.Instant.{settings, outputs, takenAt, instant}
+use Rattle.machine.specs.Status.{isPaused}
+use Rattle.machine.specs.Runs.{after}
+use Rattle.machine.specs.Sound.{RunningShaped}
+use Rattle.machine.specs.declared.Running.{Running}
+use Rattle.machine.specs.declared.Engine.{Engine}
+
+module _ (p : Plan) where
+  pub start-shaped : Shaped p → RunningShaped (startOf p)
+  unfolding startOf
+  start-shaped s =
+      record {
+        x = s .starts;
+        q = s .starts;
+        s = length-row (pos 0) 32 (p .n) _;
+        l = length-row 0 32 (p .n) _;
+        d = length-row 0 32 (p .n) _;
+        inputs = s .firsts;
+      }
+
+  instant-shaped : (engine : Engine) (r : Running) → RunningShaped (instant p engine r)
+  unfolding instant takenAt outputs settings
+  instant-shaped engine r =
+      record {
+        x = length-row (pos 0) 32 (p .n) _;
+        q = length-row (pos 0) 32 (p .n) _;
+        s = length-row (pos 0) 32 (p .n) _;
+        l = length-row 0 32 (p .n) _;
+        d = length-row 0 32 (p .n) _;
+        inputs = length-row (pos 0) 8 (p .m) _;
+      }
+
+  pub after-shaped : (engine : Engine) (b : ℕ) (r : Running) → RunningShaped r → RunningShaped (after p engine b r)
+  unfolding after
+  after-shaped engine zero r h = h
+  after-shaped engine (suc b) r h = go (isPaused p r) (after-shaped engine b (instant p engine r) (instant-shaped engine r))
+    where
+      go : (c : Bool) → RunningShaped (after p engine b (instant p engine r)) → RunningShaped (cond c (after p engine b (instant p engine r)) r)
+      go true ih = ih
+      go false ih = h

@@ -1,0 +1,43 @@
+-- "Plan file" word by word: where each number stands in a file, by literal places. The decoding is that of Format.antt.
+use mathlib.Core.Path.{_≡_}
+use mathlib.Core.List.{List}
+use Prim.Native.Nat.{ℕ, _+_, _*_, _<_}
+use lib.IntN.{pos}
+use Rattle.words.specs.Word.{word, signedWord}
+use Rattle.plan.specs.Lists.{nat, int}
+use Rattle.plan.specs.Format.{offsetIn, lengthIn, planIn}
+use Rattle.plan.specs.declared.Plan.{Plan}
+
+-- "Header, 44 bytes: horizon .., then five pairs of offset and length", of any file
+pub record HeaderPlaces (file : List ℕ) : Type 0 where
+  pub horizon : planIn file .horizon ≡ word file 0
+  pub offset : (k : ℕ) → offsetIn file k ≡ word file (4 + 8 * k)
+  pub size : (k : ℕ) → lengthIn file k ≡ word file (8 + 8 * k)
+
+-- where each number of a file stands whose sections are of the right size: the counts by the lengths, and the entries behind their sections'
+-- offsets
+pub record EntryPlaces (file : List ℕ) (p : Plan) : Type 0 where
+  pub n : word file 8 ≡ 8 * p .n
+  pub m : word file 16 ≡ 4 * p .m
+  pub k : word file 24 ≡ 20 * p .k
+  pub links : word file 32 ≡ 12 * p .links
+  pub commands : word file 40 ≡ 12 * p .commands
+  -- "signed start ..; quantum"
+  pub starts : (i : ℕ) → i < p .n → int (p .starts) i ≡ signedWord file (word file 4 + 8 * i)
+  pub quanta : (i : ℕ) → i < p .n → int (p .quanta) i ≡ pos (word file (word file 4 + 8 * i + 4))
+  -- "signed first value"
+  pub firsts : (j : ℕ) → j < p .m → int (p .firsts) j ≡ signedWord file (word file 12 + 4 * j)
+  -- "kind, A, B, signed lo, signed hi"
+  pub kinds : (j : ℕ) → j < p .k → nat (p .kinds) j ≡ word file (word file 20 + 20 * j)
+  pub lefts : (j : ℕ) → j < p .k → nat (p .lefts) j ≡ word file (word file 20 + 20 * j + 4)
+  pub rights : (j : ℕ) → j < p .k → nat (p .rights) j ≡ word file (word file 20 + 20 * j + 8)
+  pub lows : (j : ℕ) → j < p .k → int (p .lows) j ≡ signedWord file (word file 20 + 20 * j + 12)
+  pub highs : (j : ℕ) → j < p .k → int (p .highs) j ≡ signedWord file (word file 20 + 20 * j + 16)
+  -- "target integrator, source, signed coefficient"
+  pub targets : (e : ℕ) → e < p .links → nat (p .targets) e ≡ word file (word file 28 + 12 * e)
+  pub sources : (e : ℕ) → e < p .links → nat (p .sources) e ≡ word file (word file 28 + 12 * e + 4)
+  pub coefficients : (e : ℕ) → e < p .links → int (p .coefficients) e ≡ signedWord file (word file 28 + 12 * e + 8)
+  -- "tick .., input number .., signed value"
+  pub ticks : (e : ℕ) → e < p .commands → nat (p .ticks) e ≡ word file (word file 36 + 12 * e)
+  pub numbers : (e : ℕ) → e < p .commands → nat (p .numbers) e ≡ word file (word file 36 + 12 * e + 4)
+  pub values : (e : ℕ) → e < p .commands → int (p .values) e ≡ signedWord file (word file 36 + 12 * e + 8)
