@@ -19,7 +19,8 @@ use Rattle.machine.specs.Runs.{positionOf}
 use Rattle.machine.specs.Plain.{Plain, settled, plainStart, plainTick, plainPosition, plainOutputs, plainInstant, plainEventsOf}
 use Rattle.machine.specs.Plain.{plainStatus, plainIntegrator}
 use Rattle.machine.specs.Sound.{SoundRunning}
-use Rattle.machine.specs.Laws.Soundness.{covers, tick-after, tick-least}
+use Rattle.machine.specs.Laws.Soundness.{covers, tick-after}
+use Rattle.machine.specs.Laws.Next.{tick-due}
 use Rattle.machine.specs.Laws.Status.{status-same, integrator-same}
 use Rattle.machine.specs.Laws.Taken.{x-then}
 use Rattle.machine.specs.Laws.Moved.{slopes-then, dues-then, place-then}
@@ -109,13 +110,13 @@ module _ (p : Plan) (r : Running) (ok : SoundRunning p r) where
         let cover = covers p engine (r .d) t in
         record {
           q = same-outputs;
-          s = slopes-then p r ok t tick-from (tick-least p r ok) who cover ∙ row-ext (pos 0) 32 (p .n) _ _ (λ i h. same-slope i);
-          d = dues-then p r ok t tick-from (tick-least p r ok) who cover ∙ row-ext 0 32 (p .n) _ _ same-due;
+          s = slopes-then p r ok t tick-from (tick-due p r) who cover ∙ row-ext (pos 0) 32 (p .n) _ _ (λ i h. same-slope i);
+          d = dues-then p r ok t tick-from (tick-due p r) who cover ∙ row-ext 0 32 (p .n) _ _ same-due;
           inputs = same-settings;
           clock = same-tick;
           next = rw same-tick;
           instants = rw (a .instants);
-          place = λ i h. place-then p r ok t tick-from (tick-least p r ok) who cover i h ∙ same-position i h ∙ sym (new-x-at i h);
+          place = λ i h. place-then p r ok t tick-from (tick-due p r) who cover i h ∙ same-position i h ∙ sym (new-x-at i h);
         }
 
 -- ---- the start

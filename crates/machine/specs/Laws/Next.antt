@@ -12,6 +12,8 @@ use Rattle.plan.specs.Lists.{nat}
 use Rattle.plan.specs.Laws.Searches.{below-suc, First, first, first-unique}
 use Rattle.plan.specs.declared.Plan.{Plan}
 use Rattle.machine.specs.Due.{never}
+use Rattle.machine.specs.Instant.{tickOf}
+use Rattle.machine.specs.declared.Running.{Running}
 use Rattle.machine.specs.Next.{nextCommand, commandTick, leastDue, nextTick}
 
 -- ---- the least of the first n due ticks
@@ -69,15 +71,15 @@ module _ (p : Plan) (c : ℕ) where
 
 -- ---- the next tick
 module _ (p : Plan) (d : List ℕ) (next : ℕ) where
-  pub next-most : nextTick p d next ≤ never
+  next-most : nextTick p d next ≤ never
   unfolding nextTick
   next-most = omega (arith, least-most d (p .n))
 
-  pub next-due : (i : ℕ) → i < p .n → nextTick p d next ≤ nat d i
+  next-due : (i : ℕ) → i < p .n → nextTick p d next ≤ nat d i
   unfolding nextTick
   next-due i h = omega (arith, least-below d (p .n) i h)
 
-  pub next-command : next < p .commands → nextTick p d next ≤ nat (p .ticks) next
+  next-command : next < p .commands → nextTick p d next ≤ nat (p .ticks) next
   unfolding nextTick commandTick
   next-command h = rw (lt-ltb next (p .commands) h) (omega arith)
 
@@ -91,10 +93,10 @@ module _ (p : Plan) (d : List ℕ) (next : ℕ) where
       go true e = omega (arith, least-above d (p .n) c h f, g (ltb-true next (p .commands) e))
       go false e = omega (arith, least-above d (p .n) c h f)
 
-  pub next-never : ((i : ℕ) → i < p .n → never ≤ nat d i) → p .commands ≤ next → nextTick p d next ≡ never
+  next-never : ((i : ℕ) → i < p .n → never ≤ nat d i) → p .commands ≤ next → nextTick p d next ≡ never
   next-never f h = omega (arith, next-most, next-above never (omega arith) f (λ l. absurd (omega arith)))
 
-  pub next-one : nextTick p d next < never
+  next-one : nextTick p d next < never
       → ((i : ℕ) × (i < p .n) × (nat d i ≡ nextTick p d next)) ⊎ ((next < p .commands) × (nat (p .ticks) next ≡ nextTick p d next))
   unfolding nextTick commandTick
   next-one h =
@@ -119,3 +121,22 @@ module _ (p : Plan) (d : List ℕ) (next : ℕ) where
 -- where the clock stands below every due tick, time goes on
 pub next-after : (p : Plan) (d : List ℕ) (c : ℕ) → c < never → ((i : ℕ) → i < p .n → c < nat d i) → c < nextTick p d (nextCommand p c)
 next-after p d c h f = next-above p d (nextCommand p c) (suc c) h f (command-first p c)
+
+-- ---- the tick of the next instant
+module _ (p : Plan) (r : Running) where
+  pub tick-due : (i : ℕ) → i < p .n → tickOf p r ≤ nat (r .d) i
+  unfolding tickOf
+  tick-due = next-due p (r .d) (r .next)
+
+  pub tick-command : r .next < p .commands → tickOf p r ≤ nat (p .ticks) (r .next)
+  unfolding tickOf
+  tick-command = next-command p (r .d) (r .next)
+
+  pub tick-never : ((i : ℕ) → i < p .n → never ≤ nat (r .d) i) → p .commands ≤ r .next → tickOf p r ≡ never
+  unfolding tickOf
+  tick-never = next-never p (r .d) (r .next)
+
+  pub tick-one : tickOf p r < never
+      → ((i : ℕ) × (i < p .n) × (nat (r .d) i ≡ tickOf p r)) ⊎ ((r .next < p .commands) × (nat (p .ticks) (r .next) ≡ tickOf p r))
+  unfolding tickOf
+  tick-one = next-one p (r .d) (r .next)

@@ -22,7 +22,7 @@ use Rattle.machine.specs.Status.{isPaused}
 use Rattle.machine.specs.Sound.{SoundIntegrator, SoundRunning}
 use Rattle.machine.specs.Laws.Between.{near-between, near-itself}
 use Rattle.machine.specs.Laws.Due.{due-ahead}
-use Rattle.machine.specs.Laws.Next.{next-due, next-after}
+use Rattle.machine.specs.Laws.Next.{next-after, tick-due}
 use Rattle.machine.specs.Laws.Status.{tick-horizon, due-size}
 use Rattle.machine.specs.Laws.Inputs.{settings-size}
 use Rattle.machine.specs.Laws.Taken.{outputs-at, x-at, l-at}
@@ -134,10 +134,6 @@ module _ (p : Plan) (r : Running) (ok : SoundRunning p r) where
   unfolding tickOf
   tick-after = rw (ok .next) (next-after p (r .d) (r .clock) clock-soon (λ i h. ok .integrators i h .ahead))
 
-  pub tick-least : (i : ℕ) → i < p .n → tickOf p r ≤ nat (r .d) i
-  unfolding tickOf
-  tick-least i h = next-due p (r .d) (r .next) i h
-
   pub instant-sound : isPaused p r ≡ true → (engine : Engine) → SoundRunning p (instant p engine r)
   unfolding instant isDue
   instant-sound paused engine =
@@ -146,7 +142,7 @@ module _ (p : Plan) (r : Running) (ok : SoundRunning p r) where
       record {
         after = tick-after;
         until = tick-horizon p r paused;
-        least = tick-least;
+        least = tick-due p r;
         within = λ i h e. due-size p r paused i h (eqb-true (nat (r .d) i) t e);
       } in
       sound-then p r ok t takes (moves p engine (r .d) t) (covers p engine (r .d) t)

@@ -8,20 +8,19 @@ use Rattle.machine.specs.Instant.{positionAt, tickOf}
 use Rattle.machine.specs.Status.{statusOf, integratorOf}
 use Rattle.machine.specs.Laws.Due.{due-still, due-moving, ticks-least, ticks-rounded, stays-above, stays-below, countdown}
 use Rattle.machine.specs.Laws.Frame.{slope-frame}
-use Rattle.machine.specs.Laws.Next.{next-due, next-command, next-never, next-one, command-earlier, command-first, command-most}
+use Rattle.machine.specs.Laws.Next.{tick-due, tick-command, tick-never, tick-one, command-earlier, command-first, command-most}
 use Rattle.machine.specs.Laws.Status.{status-finished, status-range, status-paused, no-integrator}
 use Rattle.machine.specs.Laws.Reach.{changes-means, reached-false}
 use Rattle.machine.specs.Laws.PlainRuns.{takes-most, takes-all}
 use Rattle.simulator.specs.Promises.Machine.{NextMeans, StatusMeans, ReachMeans, Frame, DueLeast, DueBetween, PlainTakes}
 
 pub next-means : NextMeans
-unfolding tickOf
 next-means p r c =
     record {
-      due = next-due p (r .d) (r .next);
-      command = next-command p (r .d) (r .next);
-      no-instant = next-never p (r .d) (r .next);
-      one = next-one p (r .d) (r .next);
+      due = tick-due p r;
+      command = tick-command p r;
+      no-instant = tick-never p r;
+      one = tick-one p r;
       earlier = command-earlier p c;
       first = command-first p c;
       none = command-most p c;
