@@ -2,7 +2,7 @@
 use mathlib.Core.Path.{_≡_, refl, sym, _∙_}
 use mathlib.Core.Bool.{Bool, true, false, cond, true≢false, _||_}
 use mathlib.Core.List.{List}
-use Prim.Native.Nat.{ℕ, _≤_, _<_}
+use Prim.Native.Nat.{ℕ, suc, _≤_, _<_}
 use native.Mathlib.Omega.{arith}
 use lib.IntN.{pos, _-ℤ_}
 use lib.Signed.{_<ℤ_}
@@ -22,7 +22,7 @@ use Rattle.machine.specs.Status.{isPaused}
 use Rattle.machine.specs.Sound.{SoundIntegrator, SoundRunning}
 use Rattle.machine.specs.Laws.Between.{near-between, near-itself}
 use Rattle.machine.specs.Laws.Due.{due-ahead}
-use Rattle.machine.specs.Laws.Next.{next-after, tick-due}
+use Rattle.machine.specs.Laws.Next.{command-first, tick-due, tick-above}
 use Rattle.machine.specs.Laws.Status.{tick-horizon, due-size}
 use Rattle.machine.specs.Laws.Inputs.{settings-size}
 use Rattle.machine.specs.Laws.Taken.{outputs-at, x-at, l-at}
@@ -131,8 +131,10 @@ module _ (p : Plan) (r : Running) (ok : SoundRunning p r) where
   clock-soon = omega (arith, ok .clock, ok .plan .horizon .1)
 
   pub tick-after : r .clock < tickOf p r
-  unfolding tickOf
-  tick-after = rw (ok .next) (next-after p (r .d) (r .clock) clock-soon (λ i h. ok .integrators i h .ahead))
+  tick-after = tick-above p r (suc (r .clock)) clock-soon (λ i h. ok .integrators i h .ahead) command
+    where
+      command : r .next < p .commands → r .clock < nat (p .ticks) (r .next)
+      command h = rw (ok .next) (command-first p (r .clock) (rw (ok .next) at h))
 
   pub instant-sound : isPaused p r ≡ true → (engine : Engine) → SoundRunning p (instant p engine r)
   unfolding instant isDue
