@@ -80,6 +80,7 @@ pub record FoldPromise (st : State) (c : Call) (calls : List Call) : Type 0 wher
   pub later : (i : ℕ) → answerOf st c .number ≡ 0 → c .budget < i
       → engineAt st (c ∷ calls) i ≡ engineAt (answerOf st c .state) calls (i - c .budget)
   pub declined : (i : ℕ) → (answerOf st c .number ≡ 0 → ⊥) → 1 ≤ i → engineAt st (c ∷ calls) i ≡ engineAt (answerOf st c .state) calls i
+  pub none-by : (engine : Engine) → allBy engine [] ≡ []
   pub all-by : (engine : Engine) → allBy engine (c ∷ calls) ≡ record { engine = engine; budget = c .budget; buffer = c .buffer } ∷ allBy engine calls
 
 abbrev pub ListsMean : Type 0

@@ -1,4 +1,4 @@
--- The promises about every call that takes a state: its number, what it does to a buffer, and what a declined call leaves. Assumes nothing.
+-- The promises about every call that takes a state: its number, what it answers and writes, and what a declined call leaves. Assumes nothing.
 use mathlib.Core.Path.{_≡_, refl}
 use mathlib.Core.Bool.{cond}
 use mathlib.Core.List.{List}
@@ -38,12 +38,6 @@ every-number st buffer =
       position-accepted = λ i s h. rw (sound-means st .1 s, lt-ltb _ _ h);
     }
 
--- the buffer of a call whose bytes fit it where it is accepted: as long as it was
-length-then : (number : ℕ) (bytes buffer : List ℕ) → (number ≡ 0 → length bytes ≤ length buffer)
-    → length (cond (eqb number 0) (over bytes buffer) buffer) ≡ length buffer
-length-then number bytes buffer h =
-    accept-cases {A = List ℕ} (λ b. length b ≡ length buffer) number (λ e. let l = h e in simp (length-append, length-drop) (omega arith)) refl
-
 pub accepted : Accepted
 unfolding writeOf bufferOfWrite runOf ranState bufferOfRun ranEvents positionedOf positionOf positionAt
 accepted st buffer =
@@ -52,6 +46,12 @@ accepted st buffer =
       run = λ engine budget e. let yes = eq-eqb _ 0 e in (rw yes, rw yes, rw yes, rw yes, rw yes);
       position = λ i e. (rw (eq-eqb _ 0 e), refl);
     }
+
+-- the buffer of a call whose bytes fit it where it is accepted: as long as it was
+length-then : (number : ℕ) (bytes buffer : List ℕ) → (number ≡ 0 → length bytes ≤ length buffer)
+    → length (cond (eqb number 0) (over bytes buffer) buffer) ≡ length buffer
+length-then number bytes buffer h =
+    accept-cases {A = List ℕ} (λ b. length b ≡ length buffer) number (λ e. let l = h e in simp (length-append, length-drop) (omega arith)) refl
 
 -- and it stays a buffer of bytes
 bytes-then : (number : ℕ) (bytes buffer : List ℕ) → Bytes bytes → Bytes buffer → Bytes (cond (eqb number 0) (over bytes buffer) buffer)
@@ -70,7 +70,8 @@ every-buffer st buffer =
           length-then (runNumber st budget room) (ranEvents engine st budget) buffer
           (λ e. le-trans (run-bytes (st .plan) engine budget (st .run)) (run-zero st budget room e .2));
       write-bytes = bytes-then (writeNumber st room) (encode (st .plan)) buffer (bytes-flat (fileWords (st .plan)));
-      run-bytes = λ engine budget. bytes-then (runNumber st budget room) (ranEvents engine st budget) buffer (events-are-bytes (st .plan) engine budget (st .run));
+      run-bytes = λ engine budget.
+          bytes-then (runNumber st budget room) (ranEvents engine st budget) buffer (events-are-bytes (st .plan) engine budget (st .run));
     }
 
 pub declined : Declined

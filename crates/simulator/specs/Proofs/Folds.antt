@@ -1,4 +1,4 @@
--- What a list of calls is. Assumes nothing.
+-- A list of calls is the fold of the run's own answers. Assumes nothing.
 use mathlib.Core.Path.{_≡_, refl}
 use Prim.Native.Nat.{_-_}
 use native.Mathlib.Nat.{zero-add}
@@ -23,5 +23,6 @@ lists-mean st c calls =
       own = λ i e l h. rw (eq-eqb _ 0 e, le-leb i (c .budget) h);
       later = λ i e h. rw (eq-eqb _ 0 e, lt-leb i (c .budget) h);
       declined = λ i e l. let all : i - 0 ≡ i = omega arith in rw (ne-eqb _ 0 e, lt-leb i 0 l, all);
+      none-by = λ engine. refl;
       all-by = λ engine. refl;
     }
