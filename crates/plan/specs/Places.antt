@@ -1,11 +1,11 @@
 -- "Plan file" word by word: where each number stands in a file, by literal places. The decoding is that of Format.antt.
 use mathlib.Core.Path.{_≡_}
-use mathlib.Core.List.{List}
-use Prim.Native.Nat.{ℕ, _+_, _*_, _<_}
+use mathlib.Core.List.{List, [], _∷_}
+use Prim.Native.Nat.{ℕ, _+_, _*_, _/_, _<_}
 use lib.IntN.{pos}
 use Rattle.words.specs.Word.{word, signedWord}
 use Rattle.plan.specs.Lists.{nat, int}
-use Rattle.plan.specs.Format.{offsetIn, lengthIn, planIn}
+use Rattle.plan.specs.Format.{offsetIn, lengthIn, countIn, planIn}
 use Rattle.plan.specs.declared.Plan.{Plan}
 
 -- "Header, 44 bytes: horizon .., then five pairs of offset and length", of any file
@@ -13,6 +13,8 @@ pub record HeaderPlaces (file : List ℕ) : Type 0 where
   pub horizon : planIn file .horizon ≡ word file 0
   pub offset : (k : ℕ) → offsetIn file k ≡ word file (4 + 8 * k)
   pub size : (k : ℕ) → lengthIn file k ≡ word file (8 + 8 * k)
+  -- how many entries a section has, by the length of an entry; refusal 3 speaks of it
+  pub count : (k : ℕ) → countIn file k ≡ word file (8 + 8 * k) / nat (8 ∷ 4 ∷ 20 ∷ 12 ∷ 12 ∷ []) k
 
 -- where each number of a file stands whose sections are of the right size: the counts by the lengths, and the entries behind their sections'
 -- offsets

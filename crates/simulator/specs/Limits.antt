@@ -85,6 +85,8 @@ module _ (p : Plan) (r : Running) where
     pub below : (t : ℕ) → r .clock ≤ t → t < nat (r .d) i → positionAt r t i <ℤ upperLevel p (r .q) i
     pub slope : ∣ int (r .s) i ∣ ≤ 56 * 2 ^ 38
     pub due : (nat (r .d) i ≡ never) ⊎ (nat (r .d) i ≤ 2000000000 + (2 ^ 31 - 1))
+    -- of one that moves: a tick, which never is not
+    pub moving : (int (r .s) i ≡ pos 0 → ⊥) → nat (r .d) i < never
     -- up to the due tick
     pub elapsed : (t : ℕ) → r .clock ≤ t → t ≤ nat (r .d) i → ∣ int (r .s) i *ℤ pos (t - nat (r .l) i) ∣ < 2 ^ 32 + 2 ^ 44
     pub value : ∣ positionAt r (nat (r .d) i) i ∣ < 2 ^ 32 + 2 ^ 44

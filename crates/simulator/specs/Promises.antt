@@ -1,21 +1,24 @@
 -- The promises, as statements. Each is a type: a proof of it is a term of exactly that type, and stands in Proofs. Nothing is assumed here, and
 -- nothing proved.
+pub mod Numbers
 pub mod Files
 pub mod Machine
 pub mod Lists
 pub mod States
 pub mod Calls
 pub mod Limits
+use Rattle.simulator.specs.Promises.Numbers.{NumbersMean}
 use Rattle.simulator.specs.Promises.Files.{EveryFile, EveryHeader, EveryPlace, EveryView, LoadThenWrite, WriteThenLoad, LoadShaped}
 use Rattle.simulator.specs.Promises.Machine.{ValuesMean, DueLeast, DueBetween, StartMeans, NextMeans, StepsMean, ReachMeans, Frame}
 use Rattle.simulator.specs.Promises.Machine.{EventsRead, StatusMeans, RunTakes, PlainTakes}
-use Rattle.simulator.specs.Promises.Lists.{ListsMean, Demand3}
+use Rattle.simulator.specs.Promises.Lists.{ListsMean, GrowthMeans, Demand3}
 use Rattle.simulator.specs.Promises.States.{SoundMeans, LoadSound, RunSound, IdleLoaded, NextDetermined, RunMoves, RunShaped}
 use Rattle.simulator.specs.Promises.Calls.{EveryNumber, Accepted, Declined, EveryBuffer}
 use Rattle.simulator.specs.Promises.Limits.{LimitPromise}
 
 -- all of them
 pub record EveryPromise : Type 0 where
+  pub numbers-mean : NumbersMean
   pub every-file : EveryFile
   pub every-header : EveryHeader
   pub every-place : EveryPlace
@@ -36,6 +39,7 @@ pub record EveryPromise : Type 0 where
   pub run-takes : RunTakes
   pub plain-takes : PlainTakes
   pub lists-mean : ListsMean
+  pub growth-means : GrowthMeans
   pub demand-3 : Demand3
   pub sound-means : SoundMeans
   pub load-sound : LoadSound

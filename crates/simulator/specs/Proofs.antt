@@ -1,7 +1,8 @@
 -- Each promise proved: a term of exactly the type that Promises states.
+pub mod Numbers
 pub mod Machine
 pub mod Steps
-pub mod Numbers
+pub mod CallNumbers
 pub mod Calls
 pub mod StateLimits
 pub mod Files

@@ -6,7 +6,7 @@ use mathlib.Core.Path.{_≡_, refl, ap, _∙_}
 use mathlib.Core.List.{List, [], _∷_, _++_}
 use lib.ListN.{length, getD, take, drop, List·getD-append}
 use lib.Seq.{drop-cons, getD-append-add, getD-drop, getD-take}
-use Rattle.words.specs.Word.{Bytes, numberAt, bytesOf}
+use Rattle.words.specs.Word.{Bytes, numberAt, bytesOf, word}
 
 -- a number of w bytes is below 256 ^ w
 pub number-lt : (w : ℕ) {s : List ℕ} (at : ℕ) → Bytes s → numberAt w s at < 256 ^ w
@@ -44,6 +44,16 @@ module _ (w : ℕ) where
 
   pub number-part : (s : List ℕ) (a n at : ℕ) → at + w ≤ n → numberAt w (take n (drop a s)) at ≡ numberAt w s (a + at)
   number-part s a n at h = number-take (drop a s) n at h ∙ number-drop s a at
+
+-- "little-endian, 32 bits wide": the four bytes of a word, lowest first
+pub word-bytes : (s : List ℕ) (at : ℕ)
+    → word s at ≡ getD s at 0 + 256 * getD s (at + 1) 0 + 65536 * getD s (at + 2) 0 + 16777216 * getD s (at + 3) 0
+unfolding numberAt
+word-bytes s at =
+    let one : at + 1 ≡ suc at = omega arith in
+    let two : at + 2 ≡ suc (suc at) = omega arith in
+    let three : at + 3 ≡ suc (suc (suc at)) = omega arith in
+    rw (one, two, three) (omega arith)
 
 -- ---- the bytes of a number
 pub length-bytes : (w v : ℕ) → length (bytesOf w v) ≡ w

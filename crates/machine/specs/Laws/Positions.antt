@@ -74,14 +74,22 @@ module _ (p : Plan) (r : Running) (sound : SoundRunning p r) (i : ℕ) (used : i
       inside-size p (r .q) i rule output (positionAt r (r .clock) i)
       (stays-inside (r .clock) (omega arith) (sound .integrators i used .ahead))
 
+  -- the due tick of one that moves
+  due-soon : (int (r .s) i ≡ pos 0 → ⊥) → nat (r .d) i ≤ 2000000000 + (2 ^ 31 - 1)
+  due-soon m = most (due-is ∙ due-moving _ _ _ _ _ m) (ticks-most p (r .q) i rule output (int (r .x) i) inside (int (r .s) i))
+    where
+      most : {T : ℕ} → nat (r .d) i ≡ nat (r .l) i + T → T < 2 ^ 31 → nat (r .d) i ≤ 2000000000 + (2 ^ 31 - 1)
+      most e h = omega (arith, sound .integrators i used .moved, sound .clock, sound .plan .horizon)
+
+  -- is a tick, below never
+  pub due-tick : (int (r .s) i ≡ pos 0 → ⊥) → nat (r .d) i < never
+  due-tick m = omega (arith, due-soon m)
+
   pub due-most : (nat (r .d) i ≡ never) ⊎ (nat (r .d) i ≤ 2000000000 + (2 ^ 31 - 1))
   due-most =
       slope-cases (int (r .s) i) ((nat (r .d) i ≡ never) ⊎ (nat (r .d) i ≤ 2000000000 + (2 ^ 31 - 1)))
       (λ e. inl (due-is ∙ due-still _ _ _ _ _ e))
-      (λ m. inr (most (due-is ∙ due-moving _ _ _ _ _ m) (ticks-most p (r .q) i rule output (int (r .x) i) inside (int (r .s) i))))
-    where
-      most : {T : ℕ} → nat (r .d) i ≡ nat (r .l) i + T → T < 2 ^ 31 → nat (r .d) i ≤ 2000000000 + (2 ^ 31 - 1)
-      most e h = omega (arith, sound .integrators i used .moved, sound .clock, sound .plan .horizon)
+      (λ m. inr (due-soon m))
 
   -- up to the due tick: the distance is below 2^31, and the last tick's move goes past the level by less than the slope's size
   move-size : (t : ℕ) → r .clock ≤ t → t ≤ nat (r .d) i → ∣ int (r .s) i *ℤ pos (t - nat (r .l) i) ∣ < 2 ^ 31 + 56 * 2 ^ 38

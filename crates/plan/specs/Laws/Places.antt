@@ -43,8 +43,8 @@ module _ (file : List ℕ) (z : SizeRule file) where
 
 -- ---- in document 01's words
 pub header-places : (file : List ℕ) → HeaderPlaces file
-unfolding planIn horizonIn offsetIn lengthIn
-header-places file = record { horizon = refl; offset = λ k. refl; size = λ k. refl }
+unfolding planIn horizonIn offsetIn lengthIn countIn
+header-places file = record { horizon = refl; offset = λ k. refl; size = λ k. refl; count = λ k. refl }
 
 pub entry-places : (file : List ℕ) → SizeRule file → EntryPlaces file (planIn file)
 unfolding planIn offsetIn lengthIn

@@ -26,7 +26,7 @@ abbrev pub EveryFile : Type 0
 EveryFile = (file : List ℕ) → LoadPromise file
 
 -- where each number of a file stands, by the records of Places.antt of the crate `plan`: the header of any file, and the entries of one whose sections
--- are of the right size. Refusals 4 to 9 speak of these numbers
+-- are of the right size. The refusals speak of these numbers
 abbrev pub EveryHeader : Type 0
 EveryHeader = (file : List ℕ) → HeaderPlaces file
 

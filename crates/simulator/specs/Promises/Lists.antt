@@ -6,13 +6,17 @@ use mathlib.Core.List.{List, [], _∷_, _++_}
 use Prim.Native.Nat.{ℕ, _+_, _-_, _*_, _≤_, _<_}
 use lib.IntN.{pos}
 use lib.ListN.{length, take, drop}
-use Rattle.plan.specs.Lists.{int}
+use lib.Dec.{eqb}
+use Rattle.bitset.specs.Mask.{countOf}
+use Rattle.plan.specs.Lists.{nat, int}
 use Rattle.plan.specs.Format.{planIn}
 use Rattle.plan.specs.declared.Plan.{Plan}
-use Rattle.machine.specs.Instant.{eventsOf}
+use Rattle.machine.specs.Next.{nextTick}
+use Rattle.machine.specs.Instant.{moves, eventsOf}
 use Rattle.machine.specs.Status.{statusOf, integratorOf}
 use Rattle.machine.specs.Plain.{Plain, plainAfter, plainEvents, plainStatus, plainIntegrator}
 use Rattle.machine.specs.Updates.{growth, growthUpTo, movedNow}
+use Rattle.machine.specs.declared.Running.{Running}
 use Rattle.machine.specs.declared.State.{State}
 use Rattle.machine.specs.declared.Engine.{Engine}
 use Rattle.machine.specs.declared.Engine.the-variants.{Lazy, Eager}
@@ -85,6 +89,18 @@ pub record FoldPromise (st : State) (c : Call) (calls : List Call) : Type 0 wher
 
 abbrev pub ListsMean : Type 0
 ListsMean = (st : State) (c : Call) (calls : List Call) → FoldPromise st c calls
+
+-- by how much updates grow: "by n if that call is eager, else by the number that step 5 moves for the lazy engine, with the plain machine's due
+-- ticks", added up over the instants; and "the number of integrators with l = c"
+pub record GrowthPromise (p : Plan) (engine : ℕ → Engine) (k : ℕ) (m : Plain) (r : Running) : Type 0 where
+  pub eager : growth p Eager m ≡ p .n
+  pub lazy : growth p Lazy m ≡ countOf (moves p Lazy (m .d) (nextTick p (m .d) (m .next))) (p .n)
+  pub none : growthUpTo p engine 0 ≡ 0
+  pub more : growthUpTo p engine (k + 1) ≡ growthUpTo p engine k + growth p (engine (k + 1)) (plainAfter p k)
+  pub now : movedNow p r ≡ countOf (λ i. eqb (nat (r .l) i) (r .clock)) (p .n)
+
+abbrev pub GrowthMeans : Type 0
+GrowthMeans = (p : Plan) (engine : ℕ → Engine) (k : ℕ) (m : Plain) (r : Running) → GrowthPromise p engine k m r
 
 -- the claim about a list, from the loaded state
 pub record ListPromise (p : Plan) (st : State) (calls : List Call) : Type 0 where

@@ -22,7 +22,7 @@ use Rattle.machine.specs.Due.{never, distance, ticksTo, dueOf, LeastTicks}
 use Rattle.machine.specs.Next.{nextCommand}
 use Rattle.machine.specs.Start.{startState}
 use Rattle.machine.specs.Reach.{changes, Changed, reached, Reached}
-use Rattle.machine.specs.Instant.{positionAt, moves, Moves, slopeThen, tickOf, instant, eventsOf}
+use Rattle.machine.specs.Instant.{positionAt, moves, Moves, tickOf, instant, eventsOf}
 use Rattle.machine.specs.Status.{statusOf, integratorOf}
 use Rattle.machine.specs.Runs.{after, events}
 use Rattle.machine.specs.Plain.{plainAfter, plainStatus}
@@ -143,10 +143,11 @@ pub record ReachPromise (p : Plan) (d : List ℕ) (t i : ℕ) : Type 0 where
 abbrev pub ReachMeans : Type 0
 ReachMeans = (p : Plan) (d : List ℕ) (t i : ℕ) → PlanRules p → ReachPromise p d t i
 
--- an integrator that is not reached keeps its rate
+-- an integrator that an instant does not reach keeps its rate
 abbrev pub Frame : Type 0
 Frame =
-    (p : Plan) (r : Running) (t i : ℕ) → PlanRules p → (Reached p (r .d) t i → ⊥) → slopeThen p r t i ≡ rateOf p (r .q) (r .inputs) i
+    (p : Plan) (engine : Engine) (r : Running) (i : ℕ) → PlanRules p → (Reached p (r .d) (tickOf p r) i → ⊥)
+    → rateOf p (instant p engine r .q) (instant p engine r .inputs) i ≡ rateOf p (r .q) (r .inputs) i
 
 -- 12 bytes from `at` on read back as an event's tick, source and value
 pub record EventAt (bytes : List ℕ) (at t source : ℕ) (value : ℤ) : Type 0 where

@@ -1,5 +1,6 @@
 -- Every promise holds. Assumes nothing.
 use Rattle.simulator.specs.Promises.{EveryPromise}
+use Rattle.simulator.specs.Proofs.Numbers.{numbers-mean}
 use Rattle.simulator.specs.Proofs.Machine.{next-means, status-means, reach-means, frame, due-least, due-between, plain-takes}
 use Rattle.simulator.specs.Proofs.Steps.{values-mean, start-means, steps-mean, run-takes}
 use Rattle.simulator.specs.Proofs.Calls.{every-number, accepted, every-buffer, declined}
@@ -10,12 +11,13 @@ use Rattle.simulator.specs.Proofs.Sound.{sound-means, load-sound, idle-l
 use Rattle.simulator.specs.Proofs.RoundTrips.{load-then-write, write-then-load}
 use Rattle.simulator.specs.Proofs.Events.{events-read}
 use Rattle.simulator.specs.Proofs.Runs.{run-sound, run-moves, run-shaped}
-use Rattle.simulator.specs.Proofs.Folds.{lists-mean}
+use Rattle.simulator.specs.Proofs.Folds.{lists-mean, growth-means}
 use Rattle.simulator.specs.Proofs.Demand3.{demand-3}
 
 pub every-promise : EveryPromise
 every-promise =
     record {
+      numbers-mean = numbers-mean;
       every-file = every-file;
       every-header = every-header;
       every-place = every-place;
@@ -36,6 +38,7 @@ every-promise =
       run-takes = run-takes;
       plain-takes = plain-takes;
       lists-mean = lists-mean;
+      growth-means = growth-means;
       demand-3 = demand-3;
       sound-means = sound-means;
       load-sound = load-sound;

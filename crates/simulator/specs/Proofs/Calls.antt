@@ -20,7 +20,7 @@ use Rattle.machine.specs.Laws.Tested.{sound-means}
 use Rattle.simulator.specs.Calls.{over, writeNumber, writeOf, bufferOfWrite, roomOf, declineOf, runNumber, ranState, ranEvents, runOf}
 use Rattle.simulator.specs.Calls.{bufferOfRun, positionNumber, positionedOf}
 use Rattle.simulator.specs.Promises.Calls.{EveryNumber, Accepted, EveryBuffer, Declined}
-use Rattle.simulator.specs.Proofs.Numbers.{accept-cases, figure-most, unsound-test, write-zero, run-zero}
+use Rattle.simulator.specs.Proofs.CallNumbers.{accept-cases, figure-most, unsound-test, write-zero, run-zero}
 
 pub every-number : EveryNumber
 unfolding writeOf writeNumber runOf runNumber declineOf roomOf positionedOf positionNumber

@@ -1,11 +1,14 @@
--- A list of calls is the fold of the run's own answers. Assumes nothing.
-use mathlib.Core.Path.{_≡_, refl}
-use Prim.Native.Nat.{_-_}
+-- A list of calls is the fold of the run's own answers, and updates grow by n or by those due or reached. Assumes nothing.
+use mathlib.Core.Path.{_≡_, refl, ap}
+use Prim.Native.Nat.{suc, _+_, _-_}
 use native.Mathlib.Nat.{zero-add}
 use native.Mathlib.Omega.{arith}
 use borrow.Author.Tests.{eq-eqb, ne-eqb, le-leb, lt-leb}
+use Rattle.machine.specs.Instant.{moves}
+use Rattle.machine.specs.Plain.{plainTick, lazyCount}
+use Rattle.machine.specs.Updates.{growth, growthUpTo, movedNow}
 use Rattle.simulator.specs.Lists.{answerOf, bufferOf, fedBy, afterCalls, budgetSum, joinedBytes, engineAt, allBy}
-use Rattle.simulator.specs.Promises.Lists.{ListsMean}
+use Rattle.simulator.specs.Promises.Lists.{ListsMean, GrowthMeans}
 
 pub lists-mean : ListsMean
 unfolding answerOf bufferOf fedBy afterCalls budgetSum joinedBytes engineAt allBy
@@ -26,3 +29,8 @@ lists-mean st c calls =
       none-by = λ engine. refl;
       all-by = λ engine. refl;
     }
+
+pub growth-means : GrowthMeans
+unfolding growth growthUpTo movedNow lazyCount moves plainTick
+growth-means p engine k m r =
+    let next : k + 1 ≡ suc k = omega arith in record { eager = refl; lazy = refl; none = refl; more = ap (growthUpTo p engine) next; now = refl }

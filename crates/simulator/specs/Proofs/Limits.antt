@@ -25,7 +25,7 @@ use Rattle.simulator.specs.Calls.{positionedOf}
 use Rattle.simulator.specs.Limits.{RunLimits, AcceptedLimits, FileLimits, AnswerLimits}
 use Rattle.simulator.specs.Promises.Limits.{LimitPromise}
 use Rattle.simulator.specs.Proofs.Files.{load-accepted}
-use Rattle.simulator.specs.Proofs.Numbers.{accept-cases, figure-most, write-most, write-zero, run-most, run-zero, position-most, position-zero}
+use Rattle.simulator.specs.Proofs.CallNumbers.{accept-cases, figure-most, write-most, write-zero, run-most, run-zero, position-most, position-zero}
 use Rattle.simulator.specs.Proofs.StateLimits.{rate-limits, level-limits, room-most, state-limits}
 
 -- ---- files

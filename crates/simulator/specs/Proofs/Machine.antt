@@ -4,7 +4,7 @@ use Prim.Native.Nat.{_-_}
 use native.Mathlib.Omega.{arith}
 use Rattle.plan.specs.Laws.Counts.{counts-of}
 use Rattle.machine.specs.Due.{upperLevel, lowerLevel, ticksTo, dueOf}
-use Rattle.machine.specs.Instant.{positionAt, tickOf}
+use Rattle.machine.specs.Instant.{positionAt, slopeThen, takenAt, tickOf, instant}
 use Rattle.machine.specs.Status.{statusOf, integratorOf}
 use Rattle.machine.specs.Laws.Due.{due-still, due-moving, ticks-least, ticks-rounded, stays-above, stays-below, countdown}
 use Rattle.machine.specs.Laws.Frame.{slope-frame}
@@ -41,7 +41,9 @@ reach-means p d t i rules =
     record { change = changes-means p d t i; reach = Rattle.machine.specs.Laws.Reach.reach-means p d t i rules }
 
 pub frame : Frame
-frame p r t i rules h = slope-frame p (counts-of p (rules .counts)) r t i (reached-false p (r .d) t i h)
+unfolding instant takenAt slopeThen
+frame p engine r i rules h =
+    let t = tickOf p r in slope-frame p (counts-of p (rules .counts)) r t i (reached-false p (r .d) t i h)
 
 pub due-least : DueLeast
 unfolding dueOf upperLevel lowerLevel

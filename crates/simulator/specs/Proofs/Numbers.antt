@@ -1,78 +1,33 @@
--- The number of a call that takes a state: what 0 says of the state and the arguments, and which number is given where. Assumes nothing.
+-- The promises about the numbers that all others speak in. Assumes nothing.
 use mathlib.Core.Path.{_≡_, refl}
-use mathlib.Core.Bool.{Bool, true, false, cond}
-use Prim.Native.Nat.{ℕ, _≤_, _<_}
+use Prim.Native.Nat.{suc, _+_}
 use native.Mathlib.Omega.{arith}
-use lib.Dec.{leb, ltb, eqb}
-use borrow.Author.Tests.{leb-true, ltb-true, eqb-true}
-use Rattle.plan.specs.Encoding.{fileLength}
-use Rattle.plan.specs.Laws.Means.{means-false}
-use Rattle.machine.specs.Sound.{Sound}
-use Rattle.machine.specs.SoundTest.{isSound}
-use Rattle.machine.specs.Laws.Tested.{sound-means}
-use Rattle.machine.specs.declared.State.{State}
-use Rattle.simulator.specs.Calls.{writeNumber, roomOf, declineOf, runNumber, positionNumber}
+use Rattle.integers.specs.Division.{floor-law}
+use Rattle.integers.specs.Range.{limited-same, limited-low, limited-high}
+use Rattle.bitset.specs.Mask.{countOf}
+use Rattle.words.specs.Word.{word}
+use Rattle.words.specs.Reading.{word-bytes}
+use Rattle.words.specs.Signs.{signed-low, signed-high}
+use Rattle.simulator.specs.Promises.Numbers.{NumbersMean}
 
--- a figure of an accepted call, or what stands for it in a declined one
-pub accept-cases {ℓ} : {A : Type ℓ} (P : A → Type 0) (number : ℕ) {x y : A} → (number ≡ 0 → P x) → P y → P (cond (eqb number 0) x y)
-accept-cases P number {x} {y} accepted declined = go (eqb number 0) refl
-  where
-    go : (b : Bool) → eqb number 0 ≡ b → P (cond b x y)
-    go true e = accepted (eqb-true number 0 e)
-    go false e = declined
-
--- a figure of an accepted call, else 0
-pub figure-most : (number : ℕ) {x : ℕ} (k : ℕ) → (number ≡ 0 → x ≤ k) → cond (eqb number 0) x 0 ≤ k
-figure-most number k h = accept-cases (λ x. x ≤ k) number h (omega arith)
-
--- what is not declined passes its test
-passes : (b : Bool) {x n : ℕ} → 0 < n → cond b x n ≡ 0 → (b ≡ true) × (x ≡ 0)
-passes true h e = (refl, e)
-passes false h e = absurd (omega arith)
-
--- a choice between two numbers is not above both
-most : (b : Bool) {x y k : ℕ} → x ≤ k → y ≤ k → cond b x y ≤ k
-most true h l = h
-most false h l = l
-
-module _ (st : State) where
-  pub unsound-test : (Sound st → ⊥) → isSound st ≡ false
-  unsound-test = means-false (sound-means st .0)
-
-  -- ---- the writer: 10, 13
-  pub write-most : (room : ℕ) → writeNumber st room ≤ 14
-  unfolding writeNumber
-  write-most room = most (isSound st) (most (leb (fileLength (st .plan)) room) (omega arith) (omega arith)) (omega arith)
-
-  pub write-zero : (room : ℕ) → writeNumber st room ≡ 0 → Sound st × (fileLength (st .plan) ≤ room)
-  unfolding writeNumber
-  write-zero room e =
-      let a = passes (isSound st) (omega arith) e in let b = passes (leb (fileLength (st .plan)) room) (omega arith) (a .1) in
-      (sound-means st .0 (a .0), leb-true (fileLength (st .plan)) room (b .0))
-
-  -- ---- runs: 10, 11, 12
-  pub run-most : (budget room : ℕ) → runNumber st budget room ≤ 14
-  unfolding runNumber declineOf
-  run-most budget room =
-      most (isSound st)
-      (most (leb budget 1024) (most (leb (roomOf (st .plan) budget) room) (omega arith) (omega arith)) (omega arith)) (omega arith)
-
-  pub run-zero : (budget room : ℕ) → runNumber st budget room ≡ 0 → Sound st × (budget ≤ 1024) × (roomOf (st .plan) budget ≤ room)
-  unfolding runNumber declineOf
-  run-zero budget room e =
-      let asked = roomOf (st .plan) budget in
-      let a = passes (isSound st) (omega arith) e in
-      let b = passes (leb budget 1024) (omega arith) (a .1) in
-      let c = passes (leb asked room) (omega arith) (b .1) in
-      (sound-means st .0 (a .0), leb-true budget 1024 (b .0), leb-true asked room (c .0))
-
-  -- ---- the position call: 10, 14
-  pub position-most : (i : ℕ) → positionNumber st i ≤ 14
-  unfolding positionNumber
-  position-most i = most (isSound st) (most (ltb i (st .plan .n)) (omega arith) (omega arith)) (omega arith)
-
-  pub position-zero : (i : ℕ) → positionNumber st i ≡ 0 → Sound st × (i < st .plan .n)
-  unfolding positionNumber
-  position-zero i e =
-      let a = passes (isSound st) (omega arith) e in let b = passes (ltb i (st .plan .n)) (omega arith) (a .1) in
-      (sound-means st .0 (a .0), ltb-true i (st .plan .n) (b .0))
+pub numbers-mean : NumbersMean
+unfolding countOf
+numbers-mean =
+    record {
+      little-endian = word-bytes;
+      not-negative = λ s at h. signed-low 4 (word s at) h;
+      negative = λ s at h. signed-high 4 (word s at) h;
+      largest = refl;
+      no-tick = refl;
+      floor-below = λ v. floor-law v 65536 (omega arith) .0;
+      floor-above = λ v. floor-law v 65536 (omega arith) .1;
+      limited-inside = limited-same;
+      limited-below = limited-low;
+      limited-above = limited-high;
+      sizes = refl;
+      least = refl;
+      most = refl;
+      count-none = λ test. refl;
+      count-one = λ test n e. let next : n + 1 ≡ suc n = omega arith in rw (next, e) (omega arith);
+      count-other = λ test n e. let next : n + 1 ≡ suc n = omega arith in rw (next, e);
+    }

@@ -7,7 +7,7 @@ use Rattle.plan.specs.Laws.Answers.{accepted-offsets, accepted-sizes}
 use Rattle.plan.specs.Laws.WrittenBack.{file-back}
 use Rattle.simulator.specs.Calls.{writeOf, bufferOfWrite}
 use Rattle.simulator.specs.Promises.Files.{LoadThenWrite, WriteThenLoad}
-use Rattle.simulator.specs.Proofs.Numbers.{write-zero}
+use Rattle.simulator.specs.Proofs.CallNumbers.{write-zero}
 use Rattle.simulator.specs.Proofs.Calls.{every-number, accepted}
 use Rattle.simulator.specs.Proofs.Files.{load-accepted, load-encoded}
 

@@ -4,7 +4,7 @@ use Prim.Native.Nat.{ℕ, zero, suc, _≤_, _<_}
 use native.Mathlib.Omega.{arith}
 use lib.ListN.{length, replicate}
 use Rattle.simulator.specs.Calls.{runOf}
-use Rattle.simulator.specs.Proofs.Numbers.{run-zero}
+use Rattle.simulator.specs.Proofs.CallNumbers.{run-zero}
 use borrow.Author.Tests.{eq-eqb}
 use Rattle.plan.specs.declared.Plan.{Plan}
 use Rattle.machine.specs.Status.{statusOf}
@@ -17,7 +17,7 @@ use Rattle.machine.specs.declared.State.{State}
 use Rattle.simulator.specs.Calls.{runNumber, ranState, runOf}
 use Rattle.simulator.specs.Lists.{Call, answerOf, fedBy}
 use Rattle.simulator.specs.Promises.States.{RunSound, RunMoves, RunShaped}
-use Rattle.simulator.specs.Proofs.Numbers.{accept-cases}
+use Rattle.simulator.specs.Proofs.CallNumbers.{accept-cases}
 use Rattle.simulator.specs.Proofs.Schedule.{at, fed, fed-by, call-after, next-sound}
 use Rattle.simulator.specs.Proofs.ListCalls.{call-promise}
 

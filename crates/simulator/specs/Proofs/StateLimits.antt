@@ -18,7 +18,7 @@ use Rattle.machine.specs.Laws.Levels.{upper-size, lower-size, inside-size, dist
 use Rattle.machine.specs.Laws.Lengths.{instant-bytes, run-bytes}
 use Rattle.machine.specs.Laws.Next.{command-most}
 use Rattle.machine.specs.Laws.OwnLinks.{sources-most, own-links}
-use Rattle.machine.specs.Laws.Positions.{inside, position-size, stays-inside, slope-size, due-most, elapsed-size, value-at-due}
+use Rattle.machine.specs.Laws.Positions.{inside, position-size, stays-inside, slope-size, due-most, due-tick, elapsed-size, value-at-due}
 use Rattle.machine.specs.Laws.Sizes.{operands-most, value-size, difference-size, product-size, term-size, sum-size, rate-size}
 use Rattle.machine.specs.Laws.Soundness.{tick-after}
 use Rattle.machine.specs.Laws.Status.{is-paused, tick-horizon, due-size}
@@ -73,6 +73,7 @@ module _ (p : Plan) (r : Running) (sound : SoundRunning p r) where
         below = λ t a b. stays-inside p r sound i h t a b .below;
         slope = slope-size p r sound i h;
         due = due-most p r sound i h;
+        moving = due-tick p r sound i h;
         elapsed = elapsed-size p r sound i h;
         value = value-at-due p r sound i h;
       }

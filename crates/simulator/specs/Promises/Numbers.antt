@@ -1,0 +1,42 @@
+-- The promises about the numbers that all others speak in: words, signs, M, never, division, limits, counts. Statements; the proofs stand in
+-- Proofs.
+use mathlib.Core.Path.{_≡_}
+use mathlib.Core.Bool.{Bool, true, false}
+use mathlib.Core.List.{List, [], _∷_}
+use Prim.Native.Nat.{ℕ, _+_, _-_, _*_, _^_, _≤_, _<_}
+use lib.IntN.{ℤ, pos, _+ℤ_, _-ℤ_, _*ℤ_}
+use lib.Signed.{_≤ℤ_, _<ℤ_}
+use Rattle.integers.specs.Division.{floored}
+use Rattle.integers.specs.Range.{limited}
+use Rattle.bitset.specs.Mask.{countOf}
+use Rattle.words.specs.Word.{word, signedWord}
+use Rattle.plan.specs.Lists.{nat}
+use Rattle.plan.specs.Format.{M, entrySizes, leastCounts, largestCounts}
+use Rattle.machine.specs.Due.{never}
+
+pub record NumbersMean : Type 0 where
+  -- "All numbers in files and events are little-endian, 32 bits wide"
+  pub little-endian : (s : List ℕ) (at : ℕ)
+      → word s at ≡ nat s at + 256 * nat s (at + 1) + 65536 * nat s (at + 2) + 16777216 * nat s (at + 3)
+  -- "'signed' means two's complement"
+  pub not-negative : (s : List ℕ) (at : ℕ) → word s at < 2 ^ 31 → signedWord s at ≡ pos (word s at)
+  pub negative : (s : List ℕ) (at : ℕ) → 2 ^ 31 ≤ word s at → signedWord s at ≡ pos (word s at) -ℤ pos (2 ^ 32)
+  -- "Let M = 2^30 = 1,073,741,824."
+  pub largest : M ≡ 2 ^ 30
+  -- never, above every tick
+  pub no-tick : never ≡ 2 ^ 32 - 1
+  -- "Division by 65,536 is written floor(..), rounding towards minus infinity."
+  pub floor-below : (v : ℤ) → (pos 65536 *ℤ floored v) ≤ℤ v
+  pub floor-above : (v : ℤ) → v <ℤ (pos 65536 *ℤ (floored v +ℤ pos 1))
+  -- limited to lo..hi, and so clipped to ±M
+  pub limited-inside : (lo hi z : ℤ) → lo ≤ℤ z → z ≤ℤ hi → limited lo hi z ≡ z
+  pub limited-below : (lo hi z : ℤ) → lo ≤ℤ hi → z ≤ℤ lo → limited lo hi z ≡ lo
+  pub limited-above : (lo hi z : ℤ) → lo ≤ℤ hi → hi ≤ℤ z → limited lo hi z ≡ hi
+  -- the sections: bytes of an entry, least and largest count
+  pub sizes : entrySizes ≡ 8 ∷ 4 ∷ 20 ∷ 12 ∷ 12 ∷ []
+  pub least : leastCounts ≡ 1 ∷ 0 ∷ 0 ∷ 0 ∷ 0 ∷ []
+  pub most : largestCounts ≡ 32 ∷ 8 ∷ 16 ∷ 256 ∷ 64 ∷ []
+  -- how many below n pass a test
+  pub count-none : (test : ℕ → Bool) → countOf test 0 ≡ 0
+  pub count-one : (test : ℕ → Bool) (n : ℕ) → test n ≡ true → countOf test (n + 1) ≡ countOf test n + 1
+  pub count-other : (test : ℕ → Bool) (n : ℕ) → test n ≡ false → countOf test (n + 1) ≡ countOf test n
