@@ -1,5 +1,5 @@
 -- The plan file of document 01: its format, its rules as tests and as propositions, the refusals 1 to 9, the section view, the encoding,
--- and worked examples of these.
+-- where each number stands, what is proved of these, and worked examples.
 pub mod Lists
 pub mod Format
 pub mod Tests

@@ -1,4 +1,4 @@
--- What the public calls answer, lists of run calls, and the promises about them.
+-- What the public calls answer, lists of run calls, the promises about them, and the proofs of these.
 pub mod Calls
 pub mod Lists
 pub mod Limits
