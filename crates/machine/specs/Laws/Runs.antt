@@ -19,22 +19,6 @@ use Rattle.machine.specs.Laws.Agreement.{Agrees, same-status, same-event
 use Rattle.machine.specs.declared.Running.{Running}
 use Rattle.machine.specs.declared.Engine.{Engine}
 
--- a run stops where the status is not 0, and else takes an instant and goes on
-module _ (p : Plan) (engine : Engine) where
-  pub run-stopped : (b : ℕ) (r : Running) → (statusOf p r ≡ 0 → ⊥) → (after p engine b r ≡ r) × (events p engine b r ≡ [])
-  unfolding after events isPaused
-  run-stopped zero r h = (refl, refl)
-  run-stopped (suc b) r h = let e = ne-eqb (statusOf p r) 0 h in (rw e, rw e)
-
-  pub run-taken : (b : ℕ) (r : Running) → statusOf p r ≡ 0
-      → (after p engine (b + 1) r ≡ after p engine b (instant p engine r))
-      × (events p engine (b + 1) r ≡ eventsOf p r ++ events p engine b (instant p engine r))
-  unfolding after events isPaused
-  run-taken b r h =
-      let next : b + 1 ≡ suc b = omega arith in
-      let e = eq-eqb (statusOf p r) 0 h in
-      (rw (next, e), rw (next, e))
-
 module _ (p : Plan) where
   unfoldable pub afterBy : List Engine → Running → Running
   afterBy [] r = r
@@ -65,6 +49,22 @@ module _ (p : Plan) where
   unfolding eventsBy
   events-stopped [] r e = refl
   events-stopped (engine ∷ engines) r e = rw e
+
+  -- so a run by one engine stops where the status is not 0, and else takes an instant and goes on
+  pub run-stopped : (engine : Engine) (b : ℕ) (r : Running) → (statusOf p r ≡ 0 → ⊥) → (after p engine b r ≡ r) × (events p engine b r ≡ [])
+  unfolding isPaused
+  run-stopped engine b r h =
+      let e = ne-eqb (statusOf p r) 0 h in
+      (after-by engine b r ∙ after-stopped (replicate b engine) r e, events-by engine b r ∙ events-stopped (replicate b engine) r e)
+
+  pub run-taken : (engine : Engine) (b : ℕ) (r : Running) → statusOf p r ≡ 0
+      → (after p engine (b + 1) r ≡ after p engine b (instant p engine r))
+      × (events p engine (b + 1) r ≡ eventsOf p r ++ events p engine b (instant p engine r))
+  unfolding after events isPaused
+  run-taken engine b r h =
+      let next : b + 1 ≡ suc b = omega arith in
+      let e = eq-eqb (statusOf p r) 0 h in
+      (rw (next, e), rw (next, e))
 
   pub after-append : (first then : List Engine) (r : Running) → afterBy (first ++ then) r ≡ afterBy then (afterBy first r)
   unfolding afterBy
