@@ -1,4 +1,4 @@
--- "Demand 3, updates": by how much they grow at each instant, from the plain machine's due ticks alone.
+-- The update count that demand 3 asks for: by how much it grows at each instant, from the plain machine's due ticks alone.
 use Prim.Native.Nat.{ℕ, zero, suc, _+_}
 use lib.Dec.{eqb}
 use Rattle.bitset.specs.Mask.{countOf}
