@@ -34,21 +34,10 @@ sizesKept file = every (λ k. eqb (lengthIn file k % nat entrySizes k) 0 && coun
 unfoldable pub horizonKept : ℕ → Bool
 horizonKept horizon = leb 1 horizon && leb horizon 2000000000
 
-module _ (p : Plan) where
-  -- the counts in the order of the sections
-  unfoldable pub counts : List ℕ
-  counts = p .n ∷ p .m ∷ p .k ∷ p .links ∷ p .commands ∷ []
-
-  unfoldable pub countsKept : Bool
-  countsKept = every (λ k. countKept k (nat counts k)) sections
-
-  -- "signed start within ±M; quantum 1 to M"
-  unfoldable pub integratorKept : ℕ → Bool
-  integratorKept i = within M (int (p .starts) i) && leZ (pos 1) (int (p .quanta) i) && leZ (int (p .quanta) i) (pos M)
-
-  -- "signed first value within ±M"
-  unfoldable pub inputKept : ℕ → Bool
-  inputKept j = within M (int (p .firsts) j)
+-- The tests of one entry, on its own numbers.
+-- "signed start within ±M; quantum 1 to M"
+abbrev pub integratorTest : ℤ → ℤ → Bool
+integratorTest start quantum = within M start && leZ (pos 1) quantum && leZ quantum (pos M)
 
 -- The rule of a node's kind. A node's own source number is `own`, so "integrators, inputs or lower-numbered nodes" are the sources below it.
 -- Kinds 0 and 1: "with lo and hi 0". Kind 2: "lo ≤ hi, B is 0 and names nothing". Kinds 2 and 3: "lo and hi lie within ±M".
@@ -58,32 +47,54 @@ kindKept own kind a b lo hi =
     cond (leb kind 1) (ltb b own && eqb ∣ lo ∣ 0 && eqb ∣ hi ∣ 0)
     (within M lo && within M hi && cond (eqb kind 2) (eqb b 0 && leZ lo hi) (eqb kind 3 && ltb b own))
 
+-- "target integrator, source, signed coefficient, not 0, within ±16,777,216", with n integrators and `all` sources
+abbrev pub linkTest : ℕ → ℕ → ℕ → ℕ → ℤ → Bool
+linkTest n all target source coefficient =
+    ltb target n && ltb source all && not (eqb ∣ coefficient ∣ 0) && within 16777216 coefficient
+
+-- "tick 1 to horizon, input number below m, signed value within ±M"
+abbrev pub commandTest : ℕ → ℕ → ℕ → ℕ → ℤ → Bool
+commandTest horizon m tick number value = leb 1 tick && leb tick horizon && ltb number m && within M value
+
 -- (a, b) stands before (c, d): by the first, then by the second
 unfoldable pub ascends : ℕ → ℕ → ℕ → ℕ → Bool
 ascends a b c d = ltb a c || (eqb a c && ltb b d)
 
+-- "Strictly ascending by" xs, "then" ys: entry e stands above its predecessor, if it has one
+abbrev pub follows : List ℕ → List ℕ → ℕ → Bool
+follows xs ys e = eqb e 0 || ascends (nat xs (e - 1)) (nat ys (e - 1)) (nat xs e) (nat ys e)
+
 module _ (p : Plan) where
+  -- the counts in the order of the sections
+  unfoldable pub counts : List ℕ
+  counts = p .n ∷ p .m ∷ p .k ∷ p .links ∷ p .commands ∷ []
+
+  unfoldable pub countsKept : Bool
+  countsKept = every (λ k. countKept k (nat counts k)) sections
+
+  unfoldable pub integratorKept : ℕ → Bool
+  integratorKept i = integratorTest (int (p .starts) i) (int (p .quanta) i)
+
+  -- "signed first value within ±M"
+  unfoldable pub inputKept : ℕ → Bool
+  inputKept j = within M (int (p .firsts) j)
+
   unfoldable pub nodeKept : ℕ → Bool
   nodeKept j =
       kindKept (p .n + p .m + j) (nat (p .kinds) j) (nat (p .lefts) j) (nat (p .rights) j) (int (p .lows) j) (int (p .highs) j)
 
-  -- "target integrator, source, signed coefficient, not 0, within ±16,777,216"; "Links may name any source."
+  -- "Links may name any source."
   unfoldable pub linkLimits : ℕ → Bool
   linkLimits e =
-      ltb (nat (p .targets) e) (p .n) && ltb (nat (p .sources) e) (p .n + p .m + p .k)
-      && not (eqb ∣ int (p .coefficients) e ∣ 0) && within 16777216 (int (p .coefficients) e)
+      linkTest (p .n) (p .n + p .m + p .k) (nat (p .targets) e) (nat (p .sources) e) (int (p .coefficients) e)
 
   -- "Strictly ascending by target, then source."
   unfoldable pub linkOrdered : ℕ → Bool
-  linkOrdered e =
-      eqb e 0 || ascends (nat (p .targets) (e - 1)) (nat (p .sources) (e - 1)) (nat (p .targets) e) (nat (p .sources) e)
+  linkOrdered e = follows (p .targets) (p .sources) e
 
-  -- "tick 1 to horizon, input number below m, signed value within ±M"
   unfoldable pub commandLimits : ℕ → Bool
-  commandLimits e =
-      leb 1 (nat (p .ticks) e) && leb (nat (p .ticks) e) (p .horizon) && ltb (nat (p .numbers) e) (p .m) && within M (int (p .values) e)
+  commandLimits e = commandTest (p .horizon) (p .m) (nat (p .ticks) e) (nat (p .numbers) e) (int (p .values) e)
 
   -- "Strictly ascending by tick, then input."
   unfoldable pub commandOrdered : ℕ → Bool
-  commandOrdered e =
-      eqb e 0 || ascends (nat (p .ticks) (e - 1)) (nat (p .numbers) (e - 1)) (nat (p .ticks) e) (nat (p .numbers) e)
+  commandOrdered e = follows (p .ticks) (p .numbers) e

@@ -1,0 +1,28 @@
+use Rattle.plan.specs.Format.{countIn}
+use borrow.Author.Needs.{needs}
+use Rattle.planfile.proofs.directory.count_in.Statement.{statement}
+use Rattle.planfile.proofs.directory.count_in.Tie as tie
+use Rattle.planfile.proofs.directory.count_in.Reads as reads
+use Rattle.planfile.proofs.directory.count_in.Lts as lts
+use Rattle.planfile.proofs.directory.entry_size.Reads as entry-size-reads
+use Rattle.planfile.proofs.directory.length_in.Reads as length-in-reads
+
+-- src/directory.rt:147:6
+length-in-requires : tie.Need-length-in-requires
+length-in-requires c κs = search needs
+
+-- src/directory.rt:147:27
+entry-size-requires : tie.Need-entry-size-requires
+entry-size-requires c κs = search needs
+
+-- src/directory.rt:147:6
+div-result : tie.Need-div-result
+div-result c = search needs
+
+-- src/directory.rt:143:1
+returns : tie.Need-returns
+unfolding countIn
+returns c = rw (c .entry-size .ensures .0, c .before .length-in .ensures .0)
+
+pub count-in-spec : {M : Type 1} → statement M
+count-in-spec = tie.close (tie.spec length-in-requires entry-size-requires div-result returns)

@@ -1,0 +1,94 @@
+use borrow.Author.Needs.{needs}
+use borrow.Author.Tests.{eq-eqb, ne-eqb}
+use native.Mathlib.Omega.{arith}
+use native.Mathlib.Numerals.{add-one}
+use Prim.Native.Nat.{_+_, _-_, _≤_}
+use mathlib.Core.Path.{_≡_, refl, sym}
+use mathlib.Core.Bool.{true}
+use lib.Dec.{eqb}
+use denote.Ref.{now}
+use Rattle.plan.specs.Lists.{every}
+use Rattle.plan.specs.Format.{sections, offsetIn, startIn}
+use Rattle.plan.specs.Tests.{offsetsKept}
+use Rattle.planfile.specs.Testing.{every-none, every-more, every-fails}
+use Rattle.planfile.proofs.directory.offsets_kept.Statement.{statement}
+use Rattle.planfile.proofs.directory.offsets_kept.Tie as tie
+use Rattle.planfile.proofs.directory.offsets_kept.Reads as reads
+use Rattle.planfile.proofs.directory.offsets_kept.Lts as lts
+use Rattle.planfile.proofs.directory.length_in.Reads as length-in-reads
+use Rattle.planfile.proofs.directory.offset_in.Reads as offset-in-reads
+
+abbrev Inv-loop : tie.InvT-loop
+Inv-loop file start₀ k₀ start k = (k ≤ sections) × (every (λ j. eqb (offsetIn file j) (startIn file j)) k ≡ true) × (start ≡ startIn file k)
+
+abbrev μ-loop : tie.MeasureT-loop
+μ-loop file start₀ k₀ start k = sections - k
+
+-- src/directory.rt:89:5
+loop-holds : tie.Need-loop-holds Inv-loop μ-loop
+unfolding startIn
+loop-holds c = (search needs, every-none _, refl)
+
+-- src/directory.rt:90:13
+offset-in-requires : tie.Need-offset-in-requires Inv-loop μ-loop
+offset-in-requires c κs = search needs
+
+-- src/directory.rt:92:13
+returns : tie.Need-returns Inv-loop μ-loop
+unfolding offsetsKept
+returns c =
+    let b = c .before .before .before .loop in
+    let file = now (c .before .before .before .before .before .args .file) in
+    let differs = ne-eqb (offsetIn file (b .k)) (startIn file (b .k)) (λ e. omega arith) in
+    sym (rw (every-fails _ sections (b .k) (omega arith) differs))
+
+-- src/directory.rt:94:26
+length-in-requires : tie.Need-length-in-requires Inv-loop μ-loop
+length-in-requires c κs = search needs
+
+-- src/directory.rt:94:17
+add-start : tie.Need-add-start Inv-loop μ-loop
+add-start c = search needs
+
+-- src/directory.rt:95:9
+add-k : tie.Need-add-k Inv-loop μ-loop
+add-k c = search needs
+
+-- src/directory.rt:89:5
+loop-less : tie.Need-loop-less Inv-loop μ-loop
+loop-less c = search needs
+
+-- src/directory.rt:89:5
+loop-again : tie.Need-loop-again Inv-loop μ-loop
+unfolding startIn
+loop-again c =
+    let b = c .before .before .before .before .loop in
+    let file = now (c .before .before .before .before .before .before .args .file) in
+    let same = eq-eqb (offsetIn file (b .k)) (startIn file (b .k)) (omega arith) in
+    let end : c .before .before .offset-in .result + c .length-in .result ≡ startIn file (b .k + 1) =
+    rw add-one (omega arith) in
+    (omega arith, every-more _ (b .inv .1) same, end)
+
+-- src/directory.rt:83:1
+returns-2 : tie.Need-returns-2 Inv-loop μ-loop
+unfolding offsetsKept
+returns-2 c =
+    let b = c .before .loop in
+    let is : b .k ≡ sections = omega arith in
+    sym (rw (← is, b .inv .1, b .inv .2))
+
+pub offsets-kept-spec : {M : Type 1} → statement M
+offsets-kept-spec =
+    tie.close
+    (tie.spec
+    Inv-loop
+    μ-loop
+    loop-holds
+    offset-in-requires
+    returns
+    length-in-requires
+    add-start
+    add-k
+    loop-less
+    loop-again
+    returns-2)

@@ -1,0 +1,55 @@
+-- The refusals 1 to 3 of a file, in order, before any entry is read; and what a reader of its sections asks of it.
+use mathlib.Core.Path.{_≡_, refl, ap}
+use mathlib.Core.Bool.{Bool, true, false}
+use mathlib.Core.List.{List}
+use Prim.Native.Nat.{ℕ, _≤_, _<_}
+use native.Mathlib.Omega.{arith}
+use lib.ListN.{length}
+use Rattle.plan.specs.Lists.{nat}
+use Rattle.plan.specs.Format.{sections, entrySizes, headerLength, planIn}
+use Rattle.plan.specs.Tests.{longEnough, offsetsKept, sizesKept}
+use Rattle.plan.specs.Rules.{OffsetRule, SizeRule}
+use Rattle.plan.specs.Refusals.{numberOf, isClean, unless, orElse, planFinding, findingOf}
+use Rattle.plan.specs.Laws.Layout.{each-section}
+use Rattle.plan.specs.Laws.KeptFile.{long-kept, offsets-kept, sizes-kept}
+use Rattle.plan.specs.declared.Finding.{Finding}
+use Rattle.plan.specs.declared.Finding.the-variants.{Clean, Short, Offsets, Sizes}
+
+unfoldable pub directoryFinding : List ℕ → Finding
+directoryFinding file =
+    orElse (unless (longEnough file) Short) (orElse (unless (offsetsKept file) Offsets) (unless (sizesKept file) Sizes))
+
+-- the directory of a file keeps its rules
+pub record Directory (file : List ℕ) : Type 0 where
+  pub long : headerLength ≤ length file
+  pub offsets : OffsetRule file
+  pub sizes : SizeRule file
+
+pub size-positive : (k : ℕ) → k < sections → 0 < nat entrySizes k
+size-positive = each-section (λ k. 0 < nat entrySizes k) (omega arith) (omega arith) (omega arith) (omega arith) (omega arith)
+
+-- what the directory finds is what the file is refused for, and else what its plan is refused for
+pub finding-directory : (file : List ℕ) → findingOf file ≡ orElse (directoryFinding file) (planFinding (planIn file))
+unfolding findingOf directoryFinding orElse isClean numberOf
+finding-directory file = go (longEnough file) (offsetsKept file) (sizesKept file)
+  where
+    go : (a b c : Bool)
+        → orElse (unless a Short) (orElse (unless b Offsets) (orElse (unless c Sizes) (planFinding (planIn file))))
+        ≡ orElse (orElse (unless a Short) (orElse (unless b Offsets) (unless c Sizes))) (planFinding (planIn file))
+    go true true true = refl
+    go true true false = refl
+    go true false c = refl
+    go false b c = refl
+
+-- where the directory finds nothing it keeps its rules
+pub directory-kept : (file : List ℕ) → directoryFinding file ≡ Clean → Directory file
+unfolding directoryFinding orElse isClean numberOf
+directory-kept file = go (longEnough file) (offsetsKept file) (sizesKept file) refl refl refl
+  where
+    go : (a b c : Bool) → longEnough file ≡ a → offsetsKept file ≡ b → sizesKept file ≡ c
+        → orElse (unless a Short) (orElse (unless b Offsets) (unless c Sizes)) ≡ Clean → Directory file
+    go true true true x y z e =
+        record { long = long-kept file .0 x; offsets = offsets-kept file .0 y; sizes = sizes-kept file .0 z }
+    go true true false x y z e = absurd (omega (arith, ap numberOf e))
+    go true false c x y z e = absurd (omega (arith, ap numberOf e))
+    go false b c x y z e = absurd (omega (arith, ap numberOf e))

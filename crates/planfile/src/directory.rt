@@ -1,0 +1,161 @@
+// The directory of a plan file: where its sections start and end, and the refusals 1 to 3.
+ghost use mathlib.Core.Path.{_≡_};
+ghost use mathlib.Core.Bool.{_&&_};
+ghost use Prim.Native.Nat.{_<_, _≤_, _^_, _%_, _/_};
+ghost use lib.Dec.{eqb};
+ghost use lib.ListN.{length};
+ghost use Rattle.plan.specs.Lists.{nat, every};
+ghost use Rattle.plan.specs.Format.{sections, entrySizes, leastCounts, largestCounts, headerLength, offsetIn, lengthIn, countIn, sectionIn};
+ghost use Rattle.plan.specs.Tests.{countKept, offsetsKept, sizesKept};
+ghost use Rattle.planfile.specs.Directory.{directoryFinding, Directory};
+use plan::Finding;
+use words::read_u32;
+
+const SECTIONS: usize = 5;
+
+const HEADER_LENGTH: usize = 44;
+// Of each section, in order: the bytes of an entry, and the least and the largest count.
+const ENTRY_SIZES: [u64; 5] = [8, 4, 20, 12, 12];
+
+const LEAST_COUNTS: [u64; 5] = [1, 0, 0, 0, 0];
+
+const LARGEST_COUNTS: [u64; 5] = [32, 8, 16, 256, 64];
+
+fn entry_size(k: usize) -> u64
+    requires { ⌜ k < sections ⌝ }
+    ensures { λ r. ⌜ (r ≡ nat entrySizes k) × (0 < r) ⌝ }
+{
+    ENTRY_SIZES[k]
+}
+
+fn least_count(k: usize) -> u64
+    requires { ⌜ k < sections ⌝ }
+    ensures { λ r. ⌜ r ≡ nat leastCounts k ⌝ }
+{
+    LEAST_COUNTS[k]
+}
+
+fn largest_count(k: usize) -> u64
+    requires { ⌜ k < sections ⌝ }
+    ensures { λ r. ⌜ r ≡ nat largestCounts k ⌝ }
+{
+    LARGEST_COUNTS[k]
+}
+
+// A count is inside its section's limits.
+fn count_kept(k: usize, count: u64) -> bool
+    requires { ⌜ k < sections ⌝ }
+    ensures { λ r. ⌜ r ≡ countKept k count ⌝ }
+{
+    if count < least_count(k) {
+        return false;
+    }
+    count <= largest_count(k)
+}
+
+// The counts of a plan, in the order of the sections, are inside their limits, however wild they are.
+pub fn counts_kept(counts: &[usize; 5]) -> bool
+    ensures { λ r. ⌜ r ≡ every (λ k. countKept k (nat (now (counts .entry)) k)) sections ⌝ }
+{
+    let mut k = 0;
+    while k < SECTIONS {
+        if !count_kept(k, counts[k] as u64) {
+            return false;
+        }
+        k += 1;
+    }
+    true
+}
+
+fn offset_in(file: &[u8], k: usize) -> u64
+    requires { ⌜ (headerLength ≤ length (now file)) × (k < sections) ⌝ }
+    ensures { λ r. ⌜ (r ≡ offsetIn (now (file .entry)) k) × (r < 2 ^ 32) ⌝ }
+{
+    read_u32(file, 4 + 8 * k)
+}
+
+fn length_in(file: &[u8], k: usize) -> u64
+    requires { ⌜ (headerLength ≤ length (now file)) × (k < sections) ⌝ }
+    ensures { λ r. ⌜ (r ≡ lengthIn (now (file .entry)) k) × (r < 2 ^ 32) ⌝ }
+{
+    read_u32(file, 8 + 8 * k)
+}
+
+// "The first offset is 44, each next offset is the previous offset plus length, the last section ends the file." The sum of two words is below
+// 2^33, so it cannot wrap in 64 bits.
+fn offsets_kept(file: &[u8]) -> bool
+    requires { ⌜ headerLength ≤ length (now file) ⌝ }
+    ensures { λ r. ⌜ r ≡ offsetsKept (now (file .entry)) ⌝ }
+{
+    let mut start = HEADER_LENGTH as u64;
+    let mut k = 0;
+    while k < SECTIONS {
+        let offset = offset_in(file, k);
+        if offset != start {
+            return false;
+        }
+        start = offset + length_in(file, k);
+        k += 1;
+    }
+    file.len() as u64 == start
+}
+
+// A section of this length is a whole number of entries, and their count is inside its limits.
+fn size_kept(k: usize, length: u64) -> bool
+    requires { ⌜ k < sections ⌝ }
+    ensures { λ r. ⌜ r ≡ (eqb (length % nat entrySizes k) 0 && countKept k (length / nat entrySizes k)) ⌝ }
+{
+    let size = entry_size(k);
+    if length % size != 0 {
+        return false;
+    }
+    count_kept(k, length / size)
+}
+
+fn sizes_kept(file: &[u8]) -> bool
+    requires { ⌜ headerLength ≤ length (now file) ⌝ }
+    ensures { λ r. ⌜ r ≡ sizesKept (now (file .entry)) ⌝ }
+{
+    let mut k = 0;
+    while k < SECTIONS {
+        if !size_kept(k, length_in(file, k)) {
+            return false;
+        }
+        k += 1;
+    }
+    true
+}
+
+// The refusals 1, 2 and 3, in order.
+pub fn check_directory(file: &[u8]) -> Finding
+    ensures { λ r. ⌜ r ≡ directoryFinding (now (file .entry)) ⌝ }
+{
+    if file.len() < HEADER_LENGTH {
+        return Finding::Short;
+    }
+    if !offsets_kept(file) {
+        return Finding::Offsets;
+    }
+    if !sizes_kept(file) {
+        return Finding::Sizes;
+    }
+    Finding::Clean
+}
+
+// How many entries section k has.
+pub fn count_in(file: &[u8], k: usize) -> usize
+    requires { ⌜ Directory (now file) × (k < sections) ⌝ }
+    ensures { λ r. ⌜ r ≡ countIn (now (file .entry)) k ⌝ }
+{
+    (length_in(file, k) / entry_size(k)) as usize
+}
+
+// Section k, as a part of the file.
+pub fn section_in(file: &[u8], k: usize) -> &[u8]
+    requires { ⌜ Directory (now file) × (k < sections) ⌝ }
+    ensures { λ r. ⌜ now r ≡ sectionIn (now (file .entry)) k ⌝ }
+{
+    let offset = offset_in(file, k) as usize;
+    let end = offset + length_in(file, k) as usize;
+    &file[offset..end]
+}
