@@ -1,19 +1,17 @@
 -- The refusals 1 to 3 of a file, in order, before any entry is read; and what a reader of its sections asks of it.
-use mathlib.Core.Path.{_≡_, refl, ap}
+use mathlib.Core.Path.{_≡_, refl, sym, ap, _∙_}
 use mathlib.Core.Bool.{Bool, true, false}
 use mathlib.Core.List.{List}
-use Prim.Native.Nat.{ℕ, _≤_, _<_}
+use Prim.Native.Nat.{ℕ, _≤_}
 use native.Mathlib.Omega.{arith}
 use lib.ListN.{length}
-use Rattle.plan.specs.Lists.{nat}
-use Rattle.plan.specs.Format.{sections, entrySizes, headerLength, planIn}
+use Rattle.plan.specs.Format.{headerLength, planIn}
 use Rattle.plan.specs.Tests.{longEnough, offsetsKept, sizesKept}
 use Rattle.plan.specs.Rules.{OffsetRule, SizeRule}
 use Rattle.plan.specs.Refusals.{numberOf, isClean, unless, orElse, planFinding, findingOf}
-use Rattle.plan.specs.Laws.Layout.{each-section}
 use Rattle.plan.specs.Laws.KeptFile.{long-kept, offsets-kept, sizes-kept}
 use Rattle.plan.specs.declared.Finding.{Finding}
-use Rattle.plan.specs.declared.Finding.the-variants.{Clean, Short, Offsets, Sizes}
+use Rattle.plan.specs.declared.Finding.the-variants.{Clean, Short, Offsets, Sizes, Horizon, Integrator, Input, Node, Link, Command}
 
 unfoldable pub directoryFinding : List ℕ → Finding
 directoryFinding file =
@@ -24,9 +22,6 @@ pub record Directory (file : List ℕ) : Type 0 where
   pub long : headerLength ≤ length file
   pub offsets : OffsetRule file
   pub sizes : SizeRule file
-
-pub size-positive : (k : ℕ) → k < sections → 0 < nat entrySizes k
-size-positive = each-section (λ k. 0 < nat entrySizes k) (omega arith) (omega arith) (omega arith) (omega arith) (omega arith)
 
 -- what the directory finds is what the file is refused for, and else what its plan is refused for
 pub finding-directory : (file : List ℕ) → findingOf file ≡ orElse (directoryFinding file) (planFinding (planIn file))
@@ -53,3 +48,20 @@ directory-kept file = go (longEnough file) (offsetsKept file) (sizesKept file) r
     go true true false x y z e = absurd (omega (arith, ap numberOf e))
     go true false c x y z e = absurd (omega (arith, ap numberOf e))
     go false b c x y z e = absurd (omega (arith, ap numberOf e))
+
+-- so does the directory of a file that is not refused
+pub directory-accepted : (file : List ℕ) → Clean ≡ findingOf file → Directory file
+unfolding orElse isClean numberOf
+directory-accepted file e = directory-kept file (go (directoryFinding file) (e ∙ finding-directory file))
+  where
+    go : (found : Finding) → Clean ≡ orElse found (planFinding (planIn file)) → found ≡ Clean
+    go Clean h = refl
+    go Short h = sym h
+    go Offsets h = sym h
+    go Sizes h = sym h
+    go Horizon h = sym h
+    go (Integrator i) h = sym h
+    go (Input j) h = sym h
+    go (Node j) h = sym h
+    go (Link k) h = sym h
+    go (Command k) h = sym h

@@ -1,2 +1,5 @@
+pub mod Columns
 pub mod Directory
-pub mod Testing
+pub mod Filling
+pub mod Reading
+pub mod Sections

@@ -4,70 +4,19 @@ ghost use mathlib.Core.Bool.{_&&_};
 ghost use Prim.Native.Nat.{_<_, _≤_, _^_, _%_, _/_};
 ghost use lib.Dec.{eqb};
 ghost use lib.ListN.{length};
-ghost use Rattle.plan.specs.Lists.{nat, every};
-ghost use Rattle.plan.specs.Format.{sections, entrySizes, leastCounts, largestCounts, headerLength, offsetIn, lengthIn, countIn, sectionIn};
+ghost use Rattle.plan.specs.Lists.{nat};
+ghost use Rattle.plan.specs.Format.{sections, entrySizes, headerLength, offsetIn, lengthIn, countIn, sectionIn};
 ghost use Rattle.plan.specs.Tests.{countKept, offsetsKept, sizesKept};
 ghost use Rattle.planfile.specs.Directory.{directoryFinding, Directory};
 use plan::Finding;
+use planrules::HEADER_LENGTH;
+use planrules::SECTIONS;
+use planrules::count_kept;
+use planrules::entry_size;
 use words::read_u32;
 
-const SECTIONS: usize = 5;
-
-const HEADER_LENGTH: usize = 44;
-// Of each section, in order: the bytes of an entry, and the least and the largest count.
-const ENTRY_SIZES: [u64; 5] = [8, 4, 20, 12, 12];
-
-const LEAST_COUNTS: [u64; 5] = [1, 0, 0, 0, 0];
-
-const LARGEST_COUNTS: [u64; 5] = [32, 8, 16, 256, 64];
-
-fn entry_size(k: usize) -> u64
-    requires { ⌜ k < sections ⌝ }
-    ensures { λ r. ⌜ (r ≡ nat entrySizes k) × (0 < r) ⌝ }
-{
-    ENTRY_SIZES[k]
-}
-
-fn least_count(k: usize) -> u64
-    requires { ⌜ k < sections ⌝ }
-    ensures { λ r. ⌜ r ≡ nat leastCounts k ⌝ }
-{
-    LEAST_COUNTS[k]
-}
-
-fn largest_count(k: usize) -> u64
-    requires { ⌜ k < sections ⌝ }
-    ensures { λ r. ⌜ r ≡ nat largestCounts k ⌝ }
-{
-    LARGEST_COUNTS[k]
-}
-
-// A count is inside its section's limits.
-fn count_kept(k: usize, count: u64) -> bool
-    requires { ⌜ k < sections ⌝ }
-    ensures { λ r. ⌜ r ≡ countKept k count ⌝ }
-{
-    if count < least_count(k) {
-        return false;
-    }
-    count <= largest_count(k)
-}
-
-// The counts of a plan, in the order of the sections, are inside their limits, however wild they are.
-pub fn counts_kept(counts: &[usize; 5]) -> bool
-    ensures { λ r. ⌜ r ≡ every (λ k. countKept k (nat (now (counts .entry)) k)) sections ⌝ }
-{
-    let mut k = 0;
-    while k < SECTIONS {
-        if !count_kept(k, counts[k] as u64) {
-            return false;
-        }
-        k += 1;
-    }
-    true
-}
-
-fn offset_in(file: &[u8], k: usize) -> u64
+// Where section k starts, and how long it is, by the header.
+pub fn offset_in(file: &[u8], k: usize) -> u64
     requires { ⌜ (headerLength ≤ length (now file)) × (k < sections) ⌝ }
     ensures { λ r. ⌜ (r ≡ offsetIn (now (file .entry)) k) × (r < 2 ^ 32) ⌝ }
 {

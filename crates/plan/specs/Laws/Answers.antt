@@ -110,7 +110,7 @@ module _ (file : List ℕ) where
   unfolding counts planIn table
   counts-at k h = table-at sections (countIn file) k 0 h
 
-  counts-in : SizeRule file → CountsRule (planIn file)
+  pub counts-in : SizeRule file → CountsRule (planIn file)
   counts-in r k h = rw (counts-at k h) (r .count k h)
 
   counts-below : SizeRule file → (k : ℕ) → nat (counts (planIn file)) k ≤ 256

@@ -11,10 +11,6 @@ use Rattle.planfile.specs.Directory.{directoryFinding}
 use borrow.Author.Needs.{needs}
 use Rattle.planfile.proofs.directory.check_directory.Statement.{statement}
 use Rattle.planfile.proofs.directory.check_directory.Tie as tie
-use Rattle.planfile.proofs.directory.check_directory.Reads as reads
-use Rattle.planfile.proofs.directory.check_directory.Lts as lts
-use Rattle.planfile.proofs.directory.offsets_kept.Reads as offsets-kept-reads
-use Rattle.planfile.proofs.directory.sizes_kept.Reads as sizes-kept-reads
 
 -- what is known behind the first two tests
 long : (c : tie.Else1) → longEnough (now (c .before .before .args .file)) ≡ true

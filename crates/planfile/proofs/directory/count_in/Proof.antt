@@ -2,10 +2,6 @@ use Rattle.plan.specs.Format.{countIn}
 use borrow.Author.Needs.{needs}
 use Rattle.planfile.proofs.directory.count_in.Statement.{statement}
 use Rattle.planfile.proofs.directory.count_in.Tie as tie
-use Rattle.planfile.proofs.directory.count_in.Reads as reads
-use Rattle.planfile.proofs.directory.count_in.Lts as lts
-use Rattle.planfile.proofs.directory.entry_size.Reads as entry-size-reads
-use Rattle.planfile.proofs.directory.length_in.Reads as length-in-reads
 
 -- src/directory.rt:147:6
 length-in-requires : tie.Need-length-in-requires

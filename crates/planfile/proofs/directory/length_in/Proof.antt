@@ -2,9 +2,6 @@ use Rattle.plan.specs.Format.{lengthIn}
 use borrow.Author.Needs.{needs}
 use Rattle.planfile.proofs.directory.length_in.Statement.{statement}
 use Rattle.planfile.proofs.directory.length_in.Tie as tie
-use Rattle.planfile.proofs.directory.length_in.Reads as reads
-use Rattle.planfile.proofs.directory.length_in.Lts as lts
-use Rattle.words.proofs.read_u32.Reads as read-u32-reads
 
 -- src/directory.rt:78:24
 mul-read-u32 : tie.Need-mul-read-u32

@@ -2,9 +2,6 @@ use Rattle.plan.specs.Format.{offsetIn}
 use borrow.Author.Needs.{needs}
 use Rattle.planfile.proofs.directory.offset_in.Statement.{statement}
 use Rattle.planfile.proofs.directory.offset_in.Tie as tie
-use Rattle.planfile.proofs.directory.offset_in.Reads as reads
-use Rattle.planfile.proofs.directory.offset_in.Lts as lts
-use Rattle.words.proofs.read_u32.Reads as read-u32-reads
 
 -- src/directory.rt:71:24
 mul-read-u32 : tie.Need-mul-read-u32

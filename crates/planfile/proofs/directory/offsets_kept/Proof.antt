@@ -10,13 +10,9 @@ use denote.Ref.{now}
 use Rattle.plan.specs.Lists.{every}
 use Rattle.plan.specs.Format.{sections, offsetIn, startIn}
 use Rattle.plan.specs.Tests.{offsetsKept}
-use Rattle.planfile.specs.Testing.{every-none, every-more, every-fails}
+use Rattle.planrules.specs.Testing.{every-none, every-more, every-fails}
 use Rattle.planfile.proofs.directory.offsets_kept.Statement.{statement}
 use Rattle.planfile.proofs.directory.offsets_kept.Tie as tie
-use Rattle.planfile.proofs.directory.offsets_kept.Reads as reads
-use Rattle.planfile.proofs.directory.offsets_kept.Lts as lts
-use Rattle.planfile.proofs.directory.length_in.Reads as length-in-reads
-use Rattle.planfile.proofs.directory.offset_in.Reads as offset-in-reads
 
 abbrev Inv-loop : tie.InvT-loop
 Inv-loop file start₀ k₀ start k = (k ≤ sections) × (every (λ j. eqb (offsetIn file j) (startIn file j)) k ≡ true) × (start ≡ startIn file k)

@@ -7,10 +7,6 @@ use Rattle.plan.specs.Laws.Parts.{section-end}
 use borrow.Author.Needs.{needs}
 use Rattle.planfile.proofs.directory.section_in.Statement.{statement}
 use Rattle.planfile.proofs.directory.section_in.Tie as tie
-use Rattle.planfile.proofs.directory.section_in.Reads as reads
-use Rattle.planfile.proofs.directory.section_in.Lts as lts
-use Rattle.planfile.proofs.directory.length_in.Reads as length-in-reads
-use Rattle.planfile.proofs.directory.offset_in.Reads as offset-in-reads
 
 -- src/directory.rt:155:18
 offset-in-requires : tie.Need-offset-in-requires

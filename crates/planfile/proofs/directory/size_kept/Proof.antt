@@ -3,10 +3,6 @@ use mathlib.Core.Path.{sym, _∙_}
 use borrow.Author.Needs.{needs}
 use Rattle.planfile.proofs.directory.size_kept.Statement.{statement}
 use Rattle.planfile.proofs.directory.size_kept.Tie as tie
-use Rattle.planfile.proofs.directory.size_kept.Reads as reads
-use Rattle.planfile.proofs.directory.size_kept.Lts as lts
-use Rattle.planfile.proofs.directory.count_kept.Reads as count-kept-reads
-use Rattle.planfile.proofs.directory.entry_size.Reads as entry-size-reads
 
 -- src/directory.rt:105:9
 entry-size-requires : tie.Need-entry-size-requires

@@ -8,13 +8,9 @@ use lib.Dec.{eqb}
 use Rattle.plan.specs.Lists.{nat, every}
 use Rattle.plan.specs.Format.{sections, entrySizes, lengthIn, countIn}
 use Rattle.plan.specs.Tests.{countKept, sizesKept}
-use Rattle.planfile.specs.Testing.{every-none, every-more, every-fails}
+use Rattle.planrules.specs.Testing.{every-none, every-more, every-fails}
 use Rattle.planfile.proofs.directory.sizes_kept.Statement.{statement}
 use Rattle.planfile.proofs.directory.sizes_kept.Tie as tie
-use Rattle.planfile.proofs.directory.sizes_kept.Reads as reads
-use Rattle.planfile.proofs.directory.sizes_kept.Lts as lts
-use Rattle.planfile.proofs.directory.length_in.Reads as length-in-reads
-use Rattle.planfile.proofs.directory.size_kept.Reads as size-kept-reads
 
 abbrev Inv-loop : tie.InvT-loop
 Inv-loop file k₀ k = (k ≤ sections) × (every (λ j. eqb (lengthIn file j % nat entrySizes j) 0 && countKept j (countIn file j)) k ≡ true)

@@ -1,0 +1,59 @@
+-- A file that is read and written back: the reader's refusal, or the writer's, or the length of what is written.
+use mathlib.Core.Path.{_≡_, refl, sym, _∙_}
+use mathlib.Core.Bool.{Bool, true, false, cond}
+use mathlib.Core.List.{List}
+use Prim.Native.Nat.{ℕ}
+use native.Mathlib.Omega.{arith}
+use lib.Dec.{leb, eqb}
+use lib.ListN.{length}
+use Rattle.plan.specs.Format.{planIn}
+use Rattle.plan.specs.Refusals.{numberOf, isClean, findingOf, accepted}
+use Rattle.plan.specs.Encoding.{fileLength, encode}
+use Rattle.plan.specs.Laws.Layout.{file-least}
+use Rattle.plan.specs.Laws.Answers.{counts-in, accepted-sizes}
+use Rattle.planwriter.specs.Plans.{writtenLength, writtenBuffer}
+use Rattle.simulator.specs.Calls.{over}
+
+-- 1 to 9 by the reader, then 13: "The plan writer's buffer is shorter than the file."
+unfoldable pub rewriteNumber : List ℕ → ℕ → ℕ
+rewriteNumber file room = cond (accepted file) (cond (leb (fileLength (planIn file)) room) 0 13) (numberOf (findingOf file))
+
+unfoldable pub rewriteLength : List ℕ → ℕ → ℕ
+rewriteLength file room = cond (eqb (rewriteNumber file room) 0) (fileLength (planIn file)) 0
+
+unfoldable pub rewriteBuffer : List ℕ → List ℕ → List ℕ
+rewriteBuffer file buffer = cond (eqb (rewriteNumber file (length buffer)) 0) (over (encode (planIn file)) buffer) buffer
+
+-- ---- laws: number, length and buffer where the file is refused, where the buffer is short, and where the plan is written
+module _ (file buffer : List ℕ) where
+  abbrev pub Rewritten : ℕ → ℕ → List ℕ → Type 0
+  Rewritten number size after =
+      (number ≡ rewriteNumber file (length buffer)) × ((size ≡ rewriteLength file (length buffer)) × (after ≡ rewriteBuffer file buffer))
+
+  number-refused : accepted file ≡ false → rewriteNumber file (length buffer) ≡ numberOf (findingOf file)
+  unfolding rewriteNumber
+  number-refused e = rw e
+
+  pub rewrite-refused : accepted file ≡ false → Rewritten (numberOf (findingOf file)) 0 buffer
+  unfolding rewriteLength rewriteBuffer accepted isClean
+  rewrite-refused e = let n = number-refused e in (sym n, (sym (rw (n, e)), sym (rw (n, e))))
+
+  module _ (yes : accepted file ≡ true) {size : ℕ} {after : List ℕ}
+      (s : size ≡ writtenLength (planIn file) (length buffer)) (a : after ≡ writtenBuffer (planIn file) buffer) where
+    pub rewrite-short : size ≡ 0 → Rewritten 13 size after
+    unfolding rewriteNumber rewriteLength rewriteBuffer writtenLength writtenBuffer
+    rewrite-short z = go (leb (fileLength (planIn file)) (length buffer)) refl
+      where
+        go : (b : Bool) → leb (fileLength (planIn file)) (length buffer) ≡ b → Rewritten 13 size after
+        go true e =
+            let size-is : size ≡ fileLength (planIn file) = s ∙ rw e in
+            absurd (omega (arith, file-least (planIn file) (counts-in file (accepted-sizes file yes))))
+        go false e = (sym (rw (yes, e)), (s ∙ sym (rw (yes, e)), a ∙ sym (rw (yes, e))))
+
+    pub rewrite-done : (size ≡ 0 → ⊥) → Rewritten 0 size after
+    unfolding rewriteNumber rewriteLength rewriteBuffer writtenLength writtenBuffer
+    rewrite-done n = go (leb (fileLength (planIn file)) (length buffer)) refl
+      where
+        go : (b : Bool) → leb (fileLength (planIn file)) (length buffer) ≡ b → Rewritten 0 size after
+        go true e = (sym (rw (yes, e)), (s ∙ sym (rw (yes, e)), a ∙ sym (rw (yes, e))))
+        go false e = absurd (n (s ∙ rw e))

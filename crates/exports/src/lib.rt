@@ -1,0 +1,66 @@
+// The calls for C and Rust, as a static library; `include/cup.h` declares them. A `&[u8]` is a pointer and a length. No call keeps anything, and
+// none asks anything of the bytes.
+ghost use mathlib.Core.Path.{_≡_};
+ghost use lib.ListN.{length};
+ghost use Rattle.plan.specs.Format.{part};
+ghost use Rattle.plan.specs.Refusals.{numberOf, entryOf, findingOf, sectionOf};
+ghost use Rattle.exports.specs.Viewing.{viewLength, viewOffset};
+ghost use Rattle.exports.specs.Rewriting.{rewriteNumber, rewriteLength, rewriteBuffer};
+use plan::Finding;
+use planfile::offset_in;
+use planfile::read_plan;
+use planrules::entry_of;
+use planrules::number_of;
+use planwriter::write_plan;
+use simulator::section;
+
+// Reads a plan file: the number, 0 where it is accepted, and the lowest faulty entry.
+#[no_mangle]
+pub extern "C" fn cup_read(file: &[u8], faulty: &mut usize) -> usize
+    ensures { λ r. ⌜ r ≡ numberOf (findingOf (now (file .entry))) ⌝ }
+    ensures { λ _. ⌜ now (faulty .exit) ≡ entryOf (findingOf (now (file .entry))) ⌝ }
+{
+    let reading = read_plan(file);
+    let found = reading.finding;
+    *faulty = entry_of(found);
+    number_of(found)
+}
+
+// The section view: the length of the part, and where in the file it starts. An empty part starts at 0.
+#[no_mangle]
+pub extern "C" fn cup_section(file: &[u8], number: usize, offset: &mut usize) -> usize
+    ensures { λ r. ⌜ r ≡ viewLength (now (file .entry)) number ⌝ }
+    ensures { λ _. ⌜ now (offset .exit) ≡ viewOffset (now (file .entry)) number ⌝ }
+    ensures { λ r. ⌜ part (now (file .entry)) (now (offset .exit)) r ≡ sectionOf (now (file .entry)) number ⌝ }
+{
+    let length = section(file, number).len();
+    if length == 0 {
+        *offset = 0;
+        return 0;
+    }
+    *offset = offset_in(file, number) as usize;
+    length
+}
+
+// Reads a plan file and writes its plan into the buffer: the number, and the length of what is written. Where the number is not 0 the length is 0,
+// and the buffer keeps every byte.
+#[no_mangle]
+pub extern "C" fn cup_rewrite(file: &[u8], buffer: &mut [u8], written: &mut usize) -> usize
+    ensures { λ r. ⌜ r ≡ rewriteNumber (now (file .entry)) (length (now (buffer .entry))) ⌝ }
+    ensures { λ _. ⌜ now (written .exit) ≡ rewriteLength (now (file .entry)) (length (now (buffer .entry))) ⌝ }
+    ensures { λ _. ⌜ now (buffer .exit) ≡ rewriteBuffer (now (file .entry)) (now (buffer .entry)) ⌝ }
+{
+    let reading = read_plan(file);
+    let found = reading.finding;
+    let Finding::Clean = found else {
+        *written = 0;
+        return number_of(found);
+    };
+    let plan = reading.plan;
+    let length = write_plan(plan, buffer);
+    *written = length;
+    if length == 0 {
+        return 13;
+    }
+    0
+}

@@ -1,0 +1,88 @@
+-- Before the turn of entry i each array is its column with i entries used. A quantum is below 2 ^ 32, so the cast keeps it.
+use mathlib.Core.Path.{_≡_}
+use Prim.Native.Nat.{_-_, _≤_}
+use native.Mathlib.Omega.{arith}
+use borrow.Author.Needs.{needs}
+use Rattle.planfile.specs.Columns.{signedsOf, amountsOf}
+use Rattle.planfile.specs.Filling.{column-none, column-end, signeds-turn, amounts-turn}
+use Rattle.planfile.proofs.readers.read_integrators.Statement.{statement}
+use Rattle.planfile.proofs.readers.read_integrators.Tie as tie
+
+abbrev Inv-loop : tie.InvT-loop
+Inv-loop part n starts₀ quanta₀ i₀ starts quanta i =
+    (i ≤ n) × (starts ≡ signedsOf 32 8 i part 0) × (quanta ≡ amountsOf 32 8 i part 1)
+
+abbrev μ-loop : tie.MeasureT-loop
+μ-loop part n starts₀ quanta₀ i₀ starts quanta i = n - i
+
+loop-holds : tie.Need-loop-holds Inv-loop μ-loop
+loop-holds c = search (needs, column-none)
+
+mul-read-i32 : tie.Need-mul-read-i32 Inv-loop μ-loop
+mul-read-i32 c = search needs
+
+read-i32-requires : tie.Need-read-i32-requires Inv-loop μ-loop
+read-i32-requires c κs = search needs
+
+mul-quanta : tie.Need-mul-quanta Inv-loop μ-loop
+mul-quanta c = search needs
+
+element-set-from-quanta : tie.Need-element-set-from-quanta Inv-loop μ-loop
+element-set-from-quanta c = search needs
+
+mul-read-u32 : tie.Need-mul-read-u32 Inv-loop μ-loop
+mul-read-u32 c = search needs
+
+add-read-u32 : tie.Need-add-read-u32 Inv-loop μ-loop
+add-read-u32 c = search needs
+
+read-u32-requires : tie.Need-read-u32-requires Inv-loop μ-loop
+read-u32-requires c κs = search needs
+
+cast-quanta : tie.Need-cast-quanta Inv-loop μ-loop
+cast-quanta c = search needs
+
+mul-t13 : tie.Need-mul-t13 Inv-loop μ-loop
+mul-t13 c = search needs
+
+element-set-from-quanta-2 : tie.Need-element-set-from-quanta-2 Inv-loop μ-loop
+element-set-from-quanta-2 c = search needs
+
+add-i : tie.Need-add-i Inv-loop μ-loop
+add-i c = search needs
+
+loop-less : tie.Need-loop-less Inv-loop μ-loop
+loop-less c = search needs
+
+loop-again : tie.Need-loop-again Inv-loop μ-loop
+loop-again c =
+    let v = c .before .before .before .loop .inv in (
+      omega arith,
+      signeds-turn _ _ _ _ _ (v .1) (c .before .read-i32 .ok) (c .before .read-i32 .ensures) (omega arith),
+      amounts-turn _ _ _ _ _ (v .2) (c .read-u32 .ensures) (omega arith),
+    )
+
+returns : tie.Need-returns Inv-loop μ-loop
+returns c = search (needs, column-end)
+
+pub read-integrators-spec : {M : Type 1} → statement M
+read-integrators-spec =
+    tie.close
+    (tie.spec
+    Inv-loop
+    μ-loop
+    loop-holds
+    mul-read-i32
+    read-i32-requires
+    mul-quanta
+    element-set-from-quanta
+    mul-read-u32
+    add-read-u32
+    read-u32-requires
+    cast-quanta
+    mul-t13
+    element-set-from-quanta-2
+    add-i
+    loop-less
+    loop-again
+    returns)

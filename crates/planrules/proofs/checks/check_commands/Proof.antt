@@ -1,0 +1,99 @@
+-- `planfile::check_commands` meets its contract: at each turn no entry below this one has a fault. Assumes nothing.
+use borrow.Author.Needs.{needs}
+use mathlib.Core.Path.{_≡_, refl}
+use Prim.Native.Nat.{_-_}
+use native.Mathlib.Omega.{arith}
+use denote.Ref.{now}
+use Rattle.plan.specs.Refusals.{numberOf, isClean}
+use Rattle.plan.specs.declared.Finding.the-variants.{Command}
+use Rattle.planrules.specs.Checks.{commandLimitsAt, commandAt}
+use Rattle.planrules.specs.Findings.{Reached, begin, passed, found, none, element, held, failed}
+use Rattle.planrules.proofs.checks.check_commands.Statement.{statement}
+use Rattle.planrules.proofs.checks.check_commands.Tie as tie
+
+abbrev Inv-loop : tie.InvT-loop
+Inv-loop horizon m commands ticks numbers values e₀ e = Reached (commandAt horizon m ticks numbers values) Command commands e
+
+abbrev μ-loop : tie.MeasureT-loop
+μ-loop horizon m commands ticks numbers values e₀ e = commands - e
+
+loop-holds : tie.Need-loop-holds Inv-loop μ-loop
+loop-holds c = begin _
+
+mul-command-limits : tie.Need-mul-command-limits Inv-loop μ-loop
+mul-command-limits c = search needs
+
+element-copy-out-command-limits : tie.Need-element-copy-out-command-limits Inv-loop μ-loop
+element-copy-out-command-limits c = search needs
+
+mul-command-limits-2 : tie.Need-mul-command-limits-2 Inv-loop μ-loop
+mul-command-limits-2 c = search needs
+
+element-copy-out-command-limits-2 : tie.Need-element-copy-out-command-limits-2 Inv-loop μ-loop
+element-copy-out-command-limits-2 c = search needs
+
+mul-command-limits-3 : tie.Need-mul-command-limits-3 Inv-loop μ-loop
+mul-command-limits-3 c = search needs
+
+element-copy-out-command-limits-3 : tie.Need-element-copy-out-command-limits-3 Inv-loop μ-loop
+element-copy-out-command-limits-3 c = search needs
+
+command-limits-requires : tie.Need-command-limits-requires Inv-loop μ-loop
+command-limits-requires c κs = search needs
+
+-- what the first call has said of the entry
+limits : (c : tie.After-command-limits Inv-loop μ-loop) → let l = c .before .before .before .before .before in let a = l .before .args in
+    c .command-limits .result ≡ commandLimitsAt (a .horizon) (a .m) (now (a .ticks)) (now (a .numbers)) (now (a .values)) (l .loop .e)
+limits c = rw (element (c .before .command-limits-arg3 .given)) at (c .command-limits .ensures)
+
+returns : tie.Need-returns Inv-loop μ-loop
+unfolding numberOf isClean
+returns c =
+    found (c .before .before .before .before .before .before .loop .inv) (omega arith) (λ e. refl) (rw (failed (limits (c .before)) (c .if1 .taken)))
+
+command-ordered-requires : tie.Need-command-ordered-requires Inv-loop μ-loop
+command-ordered-requires c κs = search needs
+
+returns-2 : tie.Need-returns-2 Inv-loop μ-loop
+unfolding numberOf isClean
+returns-2 c =
+    let kept = c .before .before in
+    found (kept .before .before .before .before .before .before .loop .inv) (omega arith) (λ e. refl)
+    (rw (held (limits (kept .before)) (kept .if1 .left)) (failed (c .before .command-ordered .ensures) (c .if2 .taken)))
+
+add-e : tie.Need-add-e Inv-loop μ-loop
+add-e c = search needs
+
+loop-less : tie.Need-loop-less Inv-loop μ-loop
+loop-less c = search needs
+
+loop-again : tie.Need-loop-again Inv-loop μ-loop
+loop-again c =
+    let kept = c .before .before in
+    passed (kept .before .before .before .before .before .before .loop .inv) (omega arith)
+    (rw (held (limits (kept .before)) (kept .if1 .left)) (held (c .before .command-ordered .ensures) (c .if2 .left)))
+
+returns-3 : tie.Need-returns-3 Inv-loop μ-loop
+returns-3 c = none (c .before .loop .inv) (c .loop-test .left)
+
+pub check-commands-spec : {M : Type 1} → statement M
+check-commands-spec =
+    tie.close
+    (tie.spec
+    Inv-loop
+    μ-loop
+    loop-holds
+    mul-command-limits
+    element-copy-out-command-limits
+    mul-command-limits-2
+    element-copy-out-command-limits-2
+    mul-command-limits-3
+    element-copy-out-command-limits-3
+    command-limits-requires
+    returns
+    command-ordered-requires
+    returns-2
+    add-e
+    loop-less
+    loop-again
+    returns-3)

@@ -1,0 +1,56 @@
+-- What each section check finds, on the arrays that it is lent: the findings of `plan/Refusals`, of which each sees its own section and the
+-- sizes that it goes by. The test of entry e stands before each.
+use mathlib.Core.Bool.{Bool, _&&_}
+use mathlib.Core.List.{List}
+use Prim.Native.Nat.{ℕ, _+_}
+use lib.IntN.{ℤ}
+use Rattle.integers.specs.Range.{within}
+use Rattle.plan.specs.Lists.{nat, int}
+use Rattle.plan.specs.Format.{M}
+use Rattle.plan.specs.Tests.{integratorTest, kindKept, linkTest, commandTest, follows}
+use Rattle.plan.specs.Refusals.{unless, firstFinding}
+use Rattle.plan.specs.declared.Finding.{Finding}
+use Rattle.plan.specs.declared.Finding.the-variants.{Integrator, Input, Node, Link, Command}
+
+-- the finding of n entries, by the test of an entry and its fault
+abbrev pub checked : (ℕ → Bool) → (ℕ → Finding) → ℕ → Finding
+checked test fault n = firstFinding (λ e. unless (test e) (fault e)) 0 n
+
+abbrev pub integratorAt : List ℤ → List ℤ → ℕ → Bool
+integratorAt starts quanta e = integratorTest (int starts e) (int quanta e)
+
+abbrev pub integratorsCheck : ℕ → List ℤ → List ℤ → Finding
+integratorsCheck n starts quanta = checked (integratorAt starts quanta) Integrator n
+
+abbrev pub inputAt : List ℤ → ℕ → Bool
+inputAt firsts e = within M (int firsts e)
+
+abbrev pub inputsCheck : ℕ → List ℤ → Finding
+inputsCheck m firsts = checked (inputAt firsts) Input m
+
+-- `base` is n + m, the source number of node 0
+abbrev pub nodeAt : ℕ → List ℕ → List ℕ → List ℕ → List ℤ → List ℤ → ℕ → Bool
+nodeAt base kinds lefts rights lows highs e =
+    kindKept (base + e) (nat kinds e) (nat lefts e) (nat rights e) (int lows e) (int highs e)
+
+abbrev pub nodesCheck : ℕ → ℕ → List ℕ → List ℕ → List ℕ → List ℤ → List ℤ → Finding
+nodesCheck base k kinds lefts rights lows highs = checked (nodeAt base kinds lefts rights lows highs) Node k
+
+-- `all` is n + m + k, the number of sources
+abbrev pub linkLimitsAt : ℕ → ℕ → List ℕ → List ℕ → List ℤ → ℕ → Bool
+linkLimitsAt n all targets sources coefficients e = linkTest n all (nat targets e) (nat sources e) (int coefficients e)
+
+abbrev pub linkAt : ℕ → ℕ → List ℕ → List ℕ → List ℤ → ℕ → Bool
+linkAt n all targets sources coefficients e = linkLimitsAt n all targets sources coefficients e && follows targets sources e
+
+abbrev pub linksCheck : ℕ → ℕ → ℕ → List ℕ → List ℕ → List ℤ → Finding
+linksCheck n all links targets sources coefficients = checked (linkAt n all targets sources coefficients) Link links
+
+abbrev pub commandLimitsAt : ℕ → ℕ → List ℕ → List ℕ → List ℤ → ℕ → Bool
+commandLimitsAt horizon m ticks numbers values e = commandTest horizon m (nat ticks e) (nat numbers e) (int values e)
+
+abbrev pub commandAt : ℕ → ℕ → List ℕ → List ℕ → List ℤ → ℕ → Bool
+commandAt horizon m ticks numbers values e = commandLimitsAt horizon m ticks numbers values e && follows ticks numbers e
+
+abbrev pub commandsCheck : ℕ → ℕ → ℕ → List ℕ → List ℕ → List ℤ → Finding
+commandsCheck horizon m commands ticks numbers values = checked (commandAt horizon m ticks numbers values) Command commands

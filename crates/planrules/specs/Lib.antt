@@ -1,0 +1,5 @@
+pub mod Checks
+pub mod Comparing
+pub mod Findings
+pub mod Layout
+pub mod Testing

@@ -1,0 +1,184 @@
+// The checks of a plan, document 01's refusals 4 to 9: each goes through its section from entry 0 and answers the first fault. They are lent
+// just the arrays that they look at, and ask that the counts are inside their limits, so that no index and no sum is wild.
+ghost use mathlib.Core.Path.{_≡_};
+ghost use mathlib.Core.Bool.{_&&_};
+ghost use Prim.Native.Nat.{_≤_};
+ghost use Rattle.plan.specs.Tests.{horizonKept, countsKept};
+ghost use Rattle.plan.specs.Rules.{CountsRule};
+ghost use Rattle.plan.specs.Refusals.{isClean, unless, planFinding};
+ghost use Rattle.plan.specs.declared.Finding.the-variants.{Horizon};
+ghost use Rattle.planrules.specs.Checks.{integratorsCheck, inputsCheck, nodesCheck, linksCheck, commandsCheck};
+use crate::entries::command_limits;
+use crate::entries::command_ordered;
+use crate::entries::horizon_kept;
+use crate::entries::integrator_kept;
+use crate::entries::link_limits;
+use crate::entries::link_ordered;
+use crate::entries::node_kept;
+use crate::entries::value_kept;
+use crate::layout::counts_kept;
+use plan::Finding;
+use plan::Plan;
+
+pub fn check_horizon(horizon: u32) -> Finding
+    ensures { λ r. ⌜ r ≡ unless (horizonKept horizon) Horizon ⌝ }
+{
+    if horizon_kept(horizon) {
+        Finding::Clean
+    } else {
+        Finding::Horizon
+    }
+}
+
+pub fn check_integrators<'a>(n: usize, starts: &'a [i64; 32], quanta: &'a [i64; 32]) -> Finding
+    requires { ⌜ n ≤ 32 ⌝ }
+    ensures { λ r. ⌜ r ≡ integratorsCheck n (now (starts .entry)) (now (quanta .entry)) ⌝ }
+{
+    let mut i = 0;
+    while i < n {
+        if !integrator_kept(starts[i], quanta[i]) {
+            return Finding::Integrator(i);
+        }
+        i += 1;
+    }
+    Finding::Clean
+}
+
+pub fn check_inputs(m: usize, firsts: &[i64; 8]) -> Finding
+    requires { ⌜ m ≤ 8 ⌝ }
+    ensures { λ r. ⌜ r ≡ inputsCheck m (now (firsts .entry)) ⌝ }
+{
+    let mut j = 0;
+    while j < m {
+        if !value_kept(firsts[j]) {
+            return Finding::Input(j);
+        }
+        j += 1;
+    }
+    Finding::Clean
+}
+
+// `base` is n + m, the source number of node 0.
+pub fn check_nodes<'a>(
+    base: usize,
+    k: usize,
+    kinds: &'a [usize; 16],
+    lefts: &'a [usize; 16],
+    rights: &'a [usize; 16],
+    lows: &'a [i64; 16],
+    highs: &'a [i64; 16],
+) -> Finding
+    requires { ⌜ (base ≤ 40) × (k ≤ 16) ⌝ }
+    ensures { λ r. ⌜ r ≡ nodesCheck base k (now (kinds .entry)) (now (lefts .entry)) (now (rights .entry)) (now (lows .entry)) (now (highs .entry)) ⌝ }
+{
+    let mut j = 0;
+    while j < k {
+        if !node_kept(base + j, kinds[j], lefts[j], rights[j], lows[j], highs[j]) {
+            return Finding::Node(j);
+        }
+        j += 1;
+    }
+    Finding::Clean
+}
+
+// `all` is n + m + k, the number of sources.
+pub fn check_links<'a>(
+    n: usize,
+    all: usize,
+    links: usize,
+    targets: &'a [usize; 256],
+    sources: &'a [usize; 256],
+    coefficients: &'a [i64; 256],
+) -> Finding
+    requires { ⌜ links ≤ 256 ⌝ }
+    ensures { λ r. ⌜ r ≡ linksCheck n all links (now (targets .entry)) (now (sources .entry)) (now (coefficients .entry)) ⌝ }
+{
+    let mut e = 0;
+    while e < links {
+        if !link_limits(n, all, targets[e], sources[e], coefficients[e]) {
+            return Finding::Link(e);
+        }
+        if !link_ordered(targets, sources, e) {
+            return Finding::Link(e);
+        }
+        e += 1;
+    }
+    Finding::Clean
+}
+
+pub fn check_commands<'a>(
+    horizon: u32,
+    m: usize,
+    commands: usize,
+    ticks: &'a [u32; 64],
+    numbers: &'a [usize; 64],
+    values: &'a [i64; 64],
+) -> Finding
+    requires { ⌜ commands ≤ 64 ⌝ }
+    ensures { λ r. ⌜ r ≡ commandsCheck horizon m commands (now (ticks .entry)) (now (numbers .entry)) (now (values .entry)) ⌝ }
+{
+    let mut e = 0;
+    while e < commands {
+        if !command_limits(horizon, m, ticks[e], numbers[e], values[e]) {
+            return Finding::Command(e);
+        }
+        if !command_ordered(ticks, numbers, e) {
+            return Finding::Command(e);
+        }
+        e += 1;
+    }
+    Finding::Clean
+}
+
+// The refusals 4 to 9 of a plan whose counts are inside their limits, tried in order.
+pub fn check_plan(p: Plan) -> Finding
+    requires { ⌜ CountsRule p ⌝ }
+    ensures { λ r. ⌜ r ≡ planFinding p ⌝ }
+{
+    let n = p.n;
+    let m = p.m;
+    let k = p.k;
+    let found = check_horizon(p.horizon);
+    let Finding::Clean = found else {
+        return found;
+    };
+    let found = check_integrators(n, &p.starts, &p.quanta);
+    let Finding::Clean = found else {
+        return found;
+    };
+    let found = check_inputs(m, &p.firsts);
+    let Finding::Clean = found else {
+        return found;
+    };
+    let found = check_nodes(n + m, k, &p.kinds, &p.lefts, &p.rights, &p.lows, &p.highs);
+    let Finding::Clean = found else {
+        return found;
+    };
+    let found = check_links(
+        n,
+        n + m + k,
+        p.links,
+        &p.targets,
+        &p.sources,
+        &p.coefficients,
+    );
+    let Finding::Clean = found else {
+        return found;
+    };
+    check_commands(p.horizon, m, p.commands, &p.ticks, &p.numbers, &p.values)
+}
+
+// A plan that comes in no file keeps the counts' limits and the rules 4 to 9, whatever it holds.
+pub fn plan_kept(p: Plan) -> bool
+    ensures { λ r. ⌜ r ≡ (countsKept p && isClean (planFinding p)) ⌝ }
+{
+    let counts = [p.n, p.m, p.k, p.links, p.commands];
+    if !counts_kept(&counts) {
+        return false;
+    }
+    let found = check_plan(p);
+    let Finding::Clean = found else {
+        return false;
+    };
+    true
+}

@@ -1,0 +1,96 @@
+-- The loop's invariant: the first k pairs are written, and the rest is as it was.
+use mathlib.Core.Path.{refl}
+use Prim.Native.Nat.{_-_, _*_, _≤_}
+use native.Mathlib.Omega.{arith}
+use denote.Ref.{now}
+use borrow.Author.Needs.{needs}
+use Rattle.plan.specs.Lists.{joined}
+use Rattle.plan.specs.Format.{sections}
+use Rattle.planwriter.specs.Entries.{headerEntry}
+use Rattle.planwriter.specs.Header.{offset-limit, length-limit}
+use Rattle.planwriter.specs.Writing.{Begun, none, all, length-behind, entry}
+use Rattle.planwriter.proofs.write_pairs.Statement.{statement}
+use Rattle.planwriter.proofs.write_pairs.Tie as tie
+
+abbrev Inv-loop : tie.InvT-loop
+Inv-loop buf₀ counts k₀ buf k = (k ≤ sections) × Begun (joined (headerEntry counts) k) buf₀ buf
+
+abbrev μ-loop : tie.MeasureT-loop
+μ-loop buf₀ counts k₀ buf k = sections - k
+
+loop-holds : tie.Need-loop-holds Inv-loop μ-loop
+loop-holds c = let a = c .before .args in (omega arith, none (headerEntry (now (a .counts))) (now (a .buf)))
+
+section-offset-requires : tie.Need-section-offset-requires Inv-loop μ-loop
+section-offset-requires c κs = (omega arith, c .before .before .before .pre .1)
+
+section-length-requires : tie.Need-section-length-requires Inv-loop μ-loop
+section-length-requires c κs = (omega arith, c .before .before .before .before .pre .1)
+
+mul-write-pair : tie.Need-mul-write-pair Inv-loop μ-loop
+mul-write-pair c = search needs
+
+sub-write-pair : tie.Need-sub-write-pair Inv-loop μ-loop
+sub-write-pair c = search needs
+
+part-write-pair-start : tie.Need-part-write-pair-start Inv-loop μ-loop
+part-write-pair-start c = search needs
+
+part-write-pair-end : tie.Need-part-write-pair-end Inv-loop μ-loop
+part-write-pair-end c = search needs
+
+write-pair-requires : tie.Need-write-pair-requires Inv-loop μ-loop
+write-pair-requires c κs =
+    let inside = c .before .before .before in
+    let start = inside .before .before .before in
+    let cs = now (start .args .counts) in
+    let k = inside .before .loop .k in
+    let l = length-behind (inside .before .loop .buf) (8 * k) in
+    omega (arith, offset-limit cs (start .pre .1) k (omega arith), length-limit cs (start .pre .1) k (omega arith))
+
+add-k : tie.Need-add-k Inv-loop μ-loop
+add-k c = search needs
+
+loop-less : tie.Need-loop-less Inv-loop μ-loop
+loop-less c = search needs
+
+loop-again : tie.Need-loop-again Inv-loop μ-loop
+loop-again c =
+    let done = c .before .before in
+    let inside = done .before .before .before .before in
+    let a = inside .before .before .before .args in
+    let b = inside .before .loop in
+    let offset = done .before .before .before .section-offset .ensures in
+    let size = done .before .before .section-length .ensures in
+    let e = rw (offset, size) at (done .write-pair .ensures) in
+    let more = entry (headerEntry (now (a .counts))) 2 (λ _. refl) (now (a .buf)) (b .k) (8 * b .k) (b .inv .1) (omega arith) (omega arith) e in
+    (omega arith, more)
+
+same-length : tie.Need-same-length Inv-loop μ-loop
+same-length c = search needs
+
+returns : tie.Need-returns Inv-loop μ-loop
+returns c =
+    let a = c .before .before .before .args in
+    let b = c .before .loop in
+    all (headerEntry (now (a .counts))) (now (a .buf)) (b .inv .0) (c .loop-test .left) (b .inv .1)
+
+pub write-pairs-spec : {M : Type 1} → statement M
+write-pairs-spec =
+    tie.close
+    (tie.spec
+    Inv-loop
+    μ-loop
+    loop-holds
+    section-offset-requires
+    section-length-requires
+    mul-write-pair
+    sub-write-pair
+    part-write-pair-start
+    part-write-pair-end
+    write-pair-requires
+    add-k
+    loop-less
+    loop-again
+    same-length
+    returns)

@@ -1,0 +1,5 @@
+pub mod Entries
+pub mod Writing
+pub mod Header
+pub mod Plans
+pub mod Stages

@@ -1,0 +1,145 @@
+-- Laws of the plan writer: every number of a plan that keeps the rules fits a word, and the file grows section by section. Assumes nothing.
+use mathlib.Core.Path.{_≡_, refl, _∙_}
+use mathlib.Core.List.{List, _∷_, append-nil}
+use Prim.Native.Nat.{ℕ, _+_, _≤_, _<_}
+use native.Mathlib.Omega.{arith}
+use lib.IntN.{ℤ, pos}
+use lib.ListN.{length, getD}
+use borrow.Author.Tests.{le-leb, lt-leb}
+use Rattle.integers.specs.Parts.{neg, zs}
+use Rattle.words.specs.Word.{written}
+use Rattle.words.specs.Flat.{length-flat}
+use Rattle.plan.specs.Lists.{nat, int, joined}
+use Rattle.plan.specs.Format.{M, sections, headerLength}
+use Rattle.plan.specs.Tests.{counts}
+use Rattle.plan.specs.Rules.{Within, PlanRules}
+use Rattle.plan.specs.Encoding.{lengthOf, fileLength, headerWords, integratorWords, inputWords, nodeWords, linkWords, commandWords}
+use Rattle.plan.specs.Encoding.{fileWords, encode}
+use Rattle.plan.specs.Laws.Layout.{entryWords, sectionWords, wordsTo, words-to, length-to, length-section, offset-most}
+use Rattle.plan.specs.Laws.Small.{signed-size, coefficient-within, node-limits, small-at, entry-small}
+use Rattle.plan.specs.declared.Plan.{Plan}
+use Rattle.planwriter.specs.Entries.{Unsigned32, Signed32, lengthFrom, offsetFrom, headerEntry}
+use Rattle.planwriter.specs.Header.{offset-counts, header-counts}
+use Rattle.planwriter.specs.Plans.{writtenLength, writtenBuffer}
+use Rattle.planwriter.specs.Writing.{Begun, begun-of, behind, back, length-behind, turn}
+
+-- ---- the numbers
+-- each number of a used entry fits a word
+pub record Fitting (p : Plan) : Type 0 where
+  pub starts : Signed32 (p .n) (p .starts)
+  pub quanta : Signed32 (p .n) (p .quanta)
+  pub firsts : Signed32 (p .m) (p .firsts)
+  pub kinds : Unsigned32 (p .k) (p .kinds)
+  pub lefts : Unsigned32 (p .k) (p .lefts)
+  pub rights : Unsigned32 (p .k) (p .rights)
+  pub lows : Signed32 (p .k) (p .lows)
+  pub highs : Signed32 (p .k) (p .highs)
+  pub targets : Unsigned32 (p .links) (p .targets)
+  pub sources : Unsigned32 (p .links) (p .sources)
+  pub coefficients : Signed32 (p .links) (p .coefficients)
+  pub ticks : Unsigned32 (p .commands) (p .ticks)
+  pub numbers : Unsigned32 (p .commands) (p .numbers)
+  pub values : Signed32 (p .commands) (p .values)
+
+-- a number within ±M does
+within-fits : {count : ℕ} {zs : List ℤ} → ((i : ℕ) → i < count → Within M (int zs i)) → Signed32 count zs
+within-fits {zs = xs} h = record { small = λ i l. signed-size (int xs i) (h i l) }
+
+module _ (p : Plan) (r : PlanRules p) where
+  -- word c of each entry of section k does
+  column-fits : (k c : ℕ) (xs : List ℕ) → k < sections → ((i : ℕ) → getD (entryWords p k i) c 0 ≡ nat xs i)
+      → Unsigned32 (nat (counts p) k) xs
+  column-fits k c xs h e = record { small = λ i l. rw (e i) at (small-at (entryWords p k i) (entry-small p r k i h l) c) }
+
+  pub fitting : Fitting p
+  unfolding counts entryWords integratorWords inputWords nodeWords linkWords commandWords
+  fitting =
+      record {
+        starts = within-fits (λ i h. r .integrators i h .start);
+        quanta = within-fits (λ i h. let e = r .integrators i h in omega (arith, zs, neg (pos M)));
+        firsts = within-fits (r .inputs);
+        kinds = column-fits 2 0 (p .kinds) (omega arith) (λ i. refl);
+        lefts = column-fits 2 1 (p .lefts) (omega arith) (λ i. refl);
+        rights = column-fits 2 2 (p .rights) (omega arith) (λ i. refl);
+        lows = within-fits (λ j h. node-limits p j (r .nodes j h) .0);
+        highs = within-fits (λ j h. node-limits p j (r .nodes j h) .1);
+        targets = column-fits 3 0 (p .targets) (omega arith) (λ i. refl);
+        sources = column-fits 3 1 (p .sources) (omega arith) (λ i. refl);
+        coefficients = within-fits (λ e h. coefficient-within (r .links e h .coefficient));
+        ticks = column-fits 4 0 (p .ticks) (omega arith) (λ i. refl);
+        numbers = column-fits 4 1 (p .numbers) (omega arith) (λ i. refl);
+        values = within-fits (λ e h. r .commands e h .value);
+      }
+
+-- ---- the sections
+-- the header and the first k sections of a plan's file are written into a buffer that holds the file; s is the buffer now
+pub record Stage (p : Plan) (old : List ℕ) (k : ℕ) (s : List ℕ) : Type 0 where
+  pub room : fileLength p ≤ length old
+  pub begun : Begun (wordsTo p k) old s
+
+module _ {p : Plan} {old : List ℕ} {k : ℕ} {s : List ℕ} (g : Stage p old k s) (h : k < sections)
+    {at : ℕ} (e : at ≡ offsetFrom (counts p) k) where
+  -- section k starts inside the buffer, and there is room for it
+  pub inside : at ≤ length s
+  inside =
+      let m = offset-most p k h in
+      let o = offset-counts p k in
+      let z = g .begun .size in
+      omega (arith, g .room)
+
+  pub section-room : lengthFrom (counts p) k ≤ length (behind s at)
+  unfolding lengthOf
+  section-room =
+      let m = offset-most p k h in
+      let o = offset-counts p k in
+      let z = g .begun .size in
+      let l = length-behind s at in
+      omega (arith, g .room)
+
+  -- section k is written into the part behind what there is
+  pub next : {t : List ℕ} → t ≡ written (sectionWords p k) (behind s at) → Stage p old (k + 1) (back s at t)
+  unfolding wordsTo
+  next q =
+      let m = offset-most p k h in
+      let o = offset-counts p k in
+      let a = length-to p k (omega arith) in
+      let l = length-section p k h in
+      record {
+        room = g .room;
+        begun = turn (headerWords p) (sectionWords p) old k at (g .begun) (omega arith) (omega (arith, g .room)) q;
+      }
+
+-- `size` is the file's length as the code works it out: the offset behind the last section
+module _ (p : Plan) (old : List ℕ) {size : ℕ} (e : size ≡ offsetFrom (counts p) sections) where
+  length-of : size ≡ fileLength p
+  unfolding fileLength
+  length-of = e ∙ offset-counts p sections
+
+  -- the header
+  pub header-room : size ≤ length old → headerLength ≤ length old
+  unfolding offsetFrom
+  header-room h = omega arith
+
+  pub headed : {s : List ℕ} → size ≤ length old → s ≡ written (p .horizon ∷ joined (headerEntry (counts p)) sections) old
+      → Stage p old 0 s
+  unfolding wordsTo joined
+  headed room q =
+      let l = length-to p 0 (omega arith) in
+      let m = offset-most p 0 (omega arith) in
+      let f = length-of in
+      record { room = omega arith; begun = begun-of (rw (append-nil, ← header-counts p) q) (omega arith) }
+
+  -- the whole file
+  pub filed : {s : List ℕ} → Stage p old sections s → (size ≡ writtenLength p (length old)) × (s ≡ writtenBuffer p old)
+  unfolding writtenLength writtenBuffer written encode
+  filed g =
+      let b = le-leb (fileLength p) (length old) (g .room) in
+      (rw b length-of, rw b (g .begun .words ∙ rw (← words-to p, length-flat (fileWords p))))
+
+  -- a buffer that is too short
+  pub short : length old < size → (0 ≡ writtenLength p (length old)) × (old ≡ writtenBuffer p old)
+  unfolding writtenLength writtenBuffer
+  short h =
+      let f = length-of in
+      let b = lt-leb (fileLength p) (length old) (omega arith) in
+      (rw b, rw b)
