@@ -2,7 +2,7 @@
 
 use crate::engine::run::run;
 use crate::engine::{Engine, Rules, State, Wrong};
-use crate::file::{encode, read, section};
+use crate::file::{read, section, write};
 use crate::limits::{BUDGET_MAX, EVENT_BYTES};
 use crate::raw::RawState;
 use crate::sound::accept;
@@ -116,12 +116,10 @@ impl Simulator for Checker {
         let Some(sound) = accept(state) else {
             return answer(UNSOUND, 0);
         };
-        let file = encode(&sound.plan);
-        if buffer.len() < file.len() {
-            return answer(SHORT_FILE_BUFFER, 0);
+        match write(&sound.plan, buffer) {
+            None => answer(SHORT_FILE_BUFFER, 0),
+            Some(length) => answer(0, length),
         }
-        buffer[..file.len()].copy_from_slice(&file);
-        answer(0, file.len())
     }
 
     fn run(&self, engine: Engine, state: &RawState, budget: u64, buffer: &mut [u8]) -> Ran {

@@ -6,7 +6,7 @@ use common::{every_section, loaded, refusal, refusal_of_plan, CHECKER};
 use cup_check::calls::Simulator;
 use cup_check::file::layout::{assemble, section_bytes};
 use cup_check::file::{encode, read, Cause};
-use cup_check::generate::plant::{in_file, in_plan, planted};
+use cup_check::generate::plant::{in_file, in_plan, planted, twice_in_one_entry};
 use cup_check::generate::{plans, Rng};
 use cup_check::limits::{Section, HORIZON_MAX, M};
 use cup_check::plan::Plan;
@@ -95,6 +95,22 @@ const ENTRY_CAUSES: [Cause; 15] = [
     Cause::ValueBeyond,
     Cause::TickZero,
 ];
+
+#[test]
+fn two_faults_of_one_entry_are_one_answer() {
+    let mut highest_entry = 0;
+    for seed in 0..1_000 {
+        let mut rng = Rng::new(seed);
+        let mut plan = plans::any(&mut rng);
+        if let Some(entry) = twice_in_one_entry(&mut rng, &mut plan) {
+            let (number, answered) = refusal_of_plan(&plan);
+            assert!(number >= 8, "seed {seed}");
+            assert_eq!(answered, entry, "seed {seed}");
+            highest_entry = highest_entry.max(entry);
+        }
+    }
+    assert!(highest_entry >= 250);
+}
 
 #[test]
 fn a_fault_of_the_file_goes_before_a_fault_of_an_entry() {

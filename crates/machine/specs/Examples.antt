@@ -10,12 +10,12 @@ use Rattle.integers.specs.Range.{limited, within}
 use Rattle.bitset.specs.Mask.{countOf}
 use Rattle.words.specs.Word.{numberAt, bytesOf, signedOf, unsignedOf, wordOf, flat}
 use Rattle.plan.specs.Lists.{nat, int, table, row, joined, every, some, all, firstFrom}
-use Rattle.plan.specs.Format.{horizonIn, offsetIn, lengthIn, startIn, countIn, part, sectionIn, columnIn, planIn}
+use Rattle.plan.specs.Format.{horizonIn, offsetIn, lengthIn, startIn, countIn, part, sectionIn, columnOf, columnIn, planIn}
 use Rattle.plan.specs.Tests.{longEnough, offsetsKept, countKept, sizesKept, horizonKept, counts, countsKept, integratorKept, inputKept}
 use Rattle.plan.specs.Tests.{kindKept, ascends, nodeKept, linkLimits, linkOrdered, commandLimits, commandOrdered}
 use Rattle.plan.specs.Refusals.{numberOf, isClean, orElse, firstFinding, horizonFinding, integratorsFinding, inputsFinding, nodesFinding}
 use Rattle.plan.specs.Refusals.{linksFinding, commandsFinding, planFinding, findingOf, accepted}
-use Rattle.plan.specs.Encoding.{lengthOf, offsetOf, headerWords, integratorWords, inputWords, nodeWords, linkWords, commandWords}
+use Rattle.plan.specs.Encoding.{offsetFrom, lengthOf, offsetOf, headerWords, integratorWords, inputWords, nodeWords, linkWords, commandWords}
 use Rattle.plan.specs.Encoding.{fileWords, encode}
 use Rattle.plan.specs.Idle.{idlePlan}
 use Rattle.plan.specs.Cases.{Case, case, AllRight, end, _&_}
@@ -368,10 +368,10 @@ examples =
 -- every example is right: each pair of values is equal by computation
 pub examples-right : AllRight examples
 unfolding examples ceilDiv limited within countOf numberAt bytesOf signedOf unsignedOf flat table row joined every some all firstFrom
-    horizonIn offsetIn lengthIn startIn countIn part sectionIn columnIn planIn longEnough offsetsKept countKept sizesKept
+    horizonIn offsetIn lengthIn startIn countIn part sectionIn columnOf columnIn planIn longEnough offsetsKept countKept sizesKept
     horizonKept counts countsKept integratorKept inputKept kindKept ascends nodeKept linkLimits linkOrdered commandLimits
     commandOrdered numberOf isClean orElse firstFinding horizonFinding integratorsFinding inputsFinding nodesFinding linksFinding
-    commandsFinding planFinding findingOf accepted lengthOf offsetOf headerWords integratorWords inputWords nodeWords linkWords
+    commandsFinding planFinding findingOf accepted offsetFrom lengthOf offsetOf headerWords integratorWords inputWords nodeWords linkWords
     commandWords fileWords encode nodeOf valueWith valueOf sumOver rateOf upperLevel lowerLevel distance ticksTo dueTick dueOf
     nextCommand commandTick leastDue nextTick startSlope startDue startOf startState idleState isDue setsInput isCommanded changes
     dependsWith linkReaches reached positionAt settingOf settings moves eventBytes eventsAt outputs slopeThen xThen dueThen takenAt

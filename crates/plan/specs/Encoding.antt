@@ -1,43 +1,66 @@
 -- The file of a plan: "The writer writes the state's plan and returns the length".
 use mathlib.Core.List.{List, [], _∷_, _++_}
 use Prim.Native.Nat.{ℕ, zero, suc, _+_, _*_}
+use lib.IntN.{ℤ}
 use Rattle.words.specs.Word.{wordOf, flat}
 use Rattle.plan.specs.Lists.{nat, int, joined}
 use Rattle.plan.specs.Format.{sections, entrySizes, headerLength}
 use Rattle.plan.specs.Tests.{counts}
 use Rattle.plan.specs.declared.Plan.{Plan}
 
+-- of sections with these counts: the length of section k, and its offset
+abbrev pub lengthFrom : List ℕ → ℕ → ℕ
+lengthFrom counts k = nat entrySizes k * nat counts k
+
+unfoldable pub offsetFrom : List ℕ → ℕ → ℕ
+offsetFrom counts zero = headerLength
+offsetFrom counts (suc k) = offsetFrom counts k + lengthFrom counts k
+
+-- the words of the header's pairs, and of an entry of each section: those of links and of commands are two numbers and a signed one
+abbrev pub pairEntry : List ℕ → ℕ → List ℕ
+pairEntry counts k = offsetFrom counts k ∷ lengthFrom counts k ∷ []
+
+abbrev pub integratorEntry : List ℤ → List ℤ → ℕ → List ℕ
+integratorEntry starts quanta i = wordOf (int starts i) ∷ wordOf (int quanta i) ∷ []
+
+abbrev pub inputEntry : List ℤ → ℕ → List ℕ
+inputEntry firsts j = wordOf (int firsts j) ∷ []
+
+abbrev pub nodeEntry : List ℕ → List ℕ → List ℕ → List ℤ → List ℤ → ℕ → List ℕ
+nodeEntry kinds lefts rights lows highs j =
+    nat kinds j ∷ nat lefts j ∷ nat rights j ∷ wordOf (int lows j) ∷ wordOf (int highs j) ∷ []
+
+abbrev pub tripleEntry : List ℕ → List ℕ → List ℤ → ℕ → List ℕ
+tripleEntry xs ys zs e = nat xs e ∷ nat ys e ∷ wordOf (int zs e) ∷ []
+
 module _ (p : Plan) where
-  -- the length of section k, and its offset; the offset behind the last section is the file's length
   unfoldable pub lengthOf : ℕ → ℕ
-  lengthOf k = nat entrySizes k * nat (counts p) k
+  lengthOf k = lengthFrom (counts p) k
 
   unfoldable pub offsetOf : ℕ → ℕ
-  offsetOf zero = headerLength
-  offsetOf (suc k) = offsetOf k + lengthOf k
+  offsetOf k = offsetFrom (counts p) k
 
+  -- the offset behind the last section is the file's length
   unfoldable pub fileLength : ℕ
   fileLength = offsetOf sections
 
-  -- the words of the header, and of each entry
   unfoldable pub headerWords : List ℕ
-  headerWords = p .horizon ∷ joined (λ k. offsetOf k ∷ lengthOf k ∷ []) sections
+  headerWords = p .horizon ∷ joined (pairEntry (counts p)) sections
 
   unfoldable pub integratorWords : ℕ → List ℕ
-  integratorWords i = wordOf (int (p .starts) i) ∷ wordOf (int (p .quanta) i) ∷ []
+  integratorWords i = integratorEntry (p .starts) (p .quanta) i
 
   unfoldable pub inputWords : ℕ → List ℕ
-  inputWords j = wordOf (int (p .firsts) j) ∷ []
+  inputWords j = inputEntry (p .firsts) j
 
   unfoldable pub nodeWords : ℕ → List ℕ
-  nodeWords j =
-      nat (p .kinds) j ∷ nat (p .lefts) j ∷ nat (p .rights) j ∷ wordOf (int (p .lows) j) ∷ wordOf (int (p .highs) j) ∷ []
+  nodeWords j = nodeEntry (p .kinds) (p .lefts) (p .rights) (p .lows) (p .highs) j
 
   unfoldable pub linkWords : ℕ → List ℕ
-  linkWords e = nat (p .targets) e ∷ nat (p .sources) e ∷ wordOf (int (p .coefficients) e) ∷ []
+  linkWords e = tripleEntry (p .targets) (p .sources) (p .coefficients) e
 
   unfoldable pub commandWords : ℕ → List ℕ
-  commandWords e = nat (p .ticks) e ∷ nat (p .numbers) e ∷ wordOf (int (p .values) e) ∷ []
+  commandWords e = tripleEntry (p .ticks) (p .numbers) (p .values) e
 
   -- the header, then the sections one behind the other
   unfoldable pub fileWords : List ℕ

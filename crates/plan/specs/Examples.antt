@@ -9,12 +9,12 @@ use lib.ListN.{length, take, drop, replicate}
 use Rattle.integers.specs.Range.{within}
 use Rattle.words.specs.Word.{numberAt, bytesOf, signedOf, unsignedOf, flat}
 use Rattle.plan.specs.Lists.{table, row, joined, every}
-use Rattle.plan.specs.Format.{horizonIn, offsetIn, lengthIn, startIn, countIn, part, sectionIn, columnIn, planIn}
+use Rattle.plan.specs.Format.{horizonIn, offsetIn, lengthIn, startIn, countIn, part, sectionIn, columnOf, columnIn, planIn}
 use Rattle.plan.specs.Tests.{longEnough, offsetsKept, countKept, sizesKept, horizonKept, counts, integratorKept, inputKept}
 use Rattle.plan.specs.Tests.{kindKept, ascends, nodeKept, linkLimits, linkOrdered, commandLimits, commandOrdered}
 use Rattle.plan.specs.Refusals.{numberOf, entryOf, isClean, orElse, firstFinding, horizonFinding, integratorsFinding, inputsFinding}
 use Rattle.plan.specs.Refusals.{nodesFinding, linksFinding, commandsFinding, planFinding, findingOf, accepted, sectionOf}
-use Rattle.plan.specs.Encoding.{lengthOf, offsetOf, fileLength, headerWords, integratorWords, inputWords, nodeWords, linkWords}
+use Rattle.plan.specs.Encoding.{offsetFrom, lengthOf, offsetOf, fileLength, headerWords, integratorWords, inputWords, nodeWords, linkWords}
 use Rattle.plan.specs.Encoding.{commandWords, fileWords, encode}
 use Rattle.plan.specs.Idle.{idlePlan}
 use Rattle.plan.specs.Cases.{Case, case, AllRight, end, _&_}
@@ -195,10 +195,10 @@ examples =
 -- every example is right: each pair of values is equal by computation
 pub examples-right : AllRight examples
 unfolding examples numberAt bytesOf signedOf unsignedOf flat within table row joined every horizonIn offsetIn lengthIn startIn countIn
-    part sectionIn columnIn planIn longEnough offsetsKept countKept sizesKept horizonKept counts integratorKept inputKept kindKept
+    part sectionIn columnOf columnIn planIn longEnough offsetsKept countKept sizesKept horizonKept counts integratorKept inputKept kindKept
     ascends nodeKept linkLimits linkOrdered commandLimits commandOrdered numberOf entryOf isClean orElse firstFinding horizonFinding
     integratorsFinding inputsFinding nodesFinding linksFinding commandsFinding planFinding findingOf accepted sectionOf lengthOf
-    offsetOf fileLength headerWords integratorWords inputWords nodeWords linkWords commandWords fileWords encode
+    offsetFrom offsetOf fileLength headerWords integratorWords inputWords nodeWords linkWords commandWords fileWords encode
 examples-right =
     refl & refl & refl & refl & refl & refl & refl & refl & refl & refl & refl & refl & refl & refl & refl & refl & refl & refl & refl & refl &
     refl & refl & refl & refl & refl & refl & refl & refl & refl & refl & refl & refl & refl & refl & refl & refl & refl & refl & refl & refl &

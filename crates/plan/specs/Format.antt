@@ -54,12 +54,20 @@ part file offset length = take length (drop offset file)
 unfoldable pub sectionIn : List ℕ → ℕ → List ℕ
 sectionIn file k = part file (offsetIn file k) (lengthIn file k)
 
--- one column of section k as an array: word number `column` of each entry by a reading of words, and a zero in the unused entries
-unfoldable pub columnIn : {A : Type 0} → A → (List ℕ → ℕ → A) → List ℕ → ℕ → ℕ → List A
-columnIn unused read file k column =
-    row unused (nat largestCounts k) (countIn file k) (λ i. read (sectionIn file k) (nat entrySizes k * i + 4 * column))
+-- one column of a section as an array of `wide` entries: word number `column` of each of `count` entries of `size` bytes by a reading of words,
+-- and a zero in the unused entries
+unfoldable pub columnOf : {A : Type 0} → A → (List ℕ → ℕ → A) → ℕ → ℕ → ℕ → List ℕ → ℕ → List A
+columnOf unused read wide size count section column = row unused wide count (λ i. read section (size * i + 4 * column))
 
--- of numbers that are not signed, of signed ones, and of an amount that is not signed
+-- of section k of a file
+unfoldable pub columnIn : {A : Type 0} → A → (List ℕ → ℕ → A) → List ℕ → ℕ → ℕ → List A
+columnIn unused read file k = columnOf unused read (nat largestCounts k) (nat entrySizes k) (countIn file k) (sectionIn file k)
+
+-- an amount, which is not signed
+abbrev pub amountWord : List ℕ → ℕ → ℤ
+amountWord section at = pos (word section at)
+
+-- of numbers that are not signed, of signed ones, and of amounts
 abbrev pub wordsIn : List ℕ → ℕ → ℕ → List ℕ
 wordsIn = columnIn 0 word
 
@@ -67,7 +75,7 @@ abbrev pub signedsIn : List ℕ → ℕ → ℕ → List ℤ
 signedsIn = columnIn (pos 0) signedWord
 
 abbrev pub amountsIn : List ℕ → ℕ → ℕ → List ℤ
-amountsIn = columnIn (pos 0) (λ s at. pos (word s at))
+amountsIn = columnIn (pos 0) amountWord
 
 -- the plan that a file holds, number for number
 unfoldable pub planIn : List ℕ → Plan

@@ -1,14 +1,10 @@
--- A column of a section as an array: word number `column` of each of `count` entries of `size` bytes, and a zero in the unused entries.
+-- Columns of a section by the kind of their numbers: not signed, signed, and amounts, which are not signed.
 use mathlib.Core.List.{List}
-use Prim.Native.Nat.{ℕ, _+_, _*_}
+use Prim.Native.Nat.{ℕ}
 use lib.IntN.{ℤ, pos}
 use Rattle.words.specs.Word.{word, signedWord}
-use Rattle.plan.specs.Lists.{row}
+use Rattle.plan.specs.Format.{columnOf, amountWord}
 
-unfoldable pub columnOf : {A : Type 0} → A → (List ℕ → ℕ → A) → ℕ → ℕ → ℕ → List ℕ → ℕ → List A
-columnOf unused read wide size count part column = row unused wide count (λ i. read part (size * i + 4 * column))
-
--- of numbers that are not signed, of signed ones, and of an amount that is not signed
 abbrev pub wordsOf : ℕ → ℕ → ℕ → List ℕ → ℕ → List ℕ
 wordsOf = columnOf 0 word
 
@@ -16,4 +12,4 @@ abbrev pub signedsOf : ℕ → ℕ → ℕ → List ℕ → ℕ → List ℤ
 signedsOf = columnOf (pos 0) signedWord
 
 abbrev pub amountsOf : ℕ → ℕ → ℕ → List ℕ → ℕ → List ℤ
-amountsOf = columnOf (pos 0) (λ s at. pos (word s at))
+amountsOf = columnOf (pos 0) amountWord

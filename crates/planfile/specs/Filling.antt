@@ -15,8 +15,9 @@ use mir.Val.{toZ, ofZ}
 use mir.Facts.{toZ-ofZ, toZ-pos}
 use Rattle.words.specs.Word.{word, signedWord}
 use Rattle.plan.specs.Lists.{table, row}
+use Rattle.plan.specs.Format.{columnOf, amountWord}
 use Rattle.plan.specs.Laws.Rows.{table-ext}
-use Rattle.planfile.specs.Columns.{columnOf, signedsOf, amountsOf}
+use Rattle.planfile.specs.Columns.{signedsOf, amountsOf}
 
 module _ {A : Type 0} where
   -- a list of one value is the table of that value
@@ -79,4 +80,4 @@ module _ (wide size : ℕ) (part : List ℕ) (column i : ℕ) {at : ℕ} {xs : L
   pub amounts-turn : {x : ℕ} → xs ≡ amountsOf wide size i part column → (x ≡ word part at) × (x < 2 ^ 32) → at ≡ size * i + 4 * column
       → set xs i (toZ w64 x) ≡ amountsOf wide size (i + 1) part column
   amounts-turn e r p =
-      column-turn (pos 0) (λ s a. pos (word s a)) wide size part column i e (toZ-pos w64 (omega arith) ∙ ap pos (r .0)) p
+      column-turn (pos 0) amountWord wide size part column i e (toZ-pos w64 (omega arith) ∙ ap pos (r .0)) p

@@ -5,9 +5,8 @@ use Prim.Native.Nat.{ℕ, _*_, _≤_, _<_}
 use native.Mathlib.Omega.{arith}
 use lib.ListN.{length}
 use Rattle.plan.specs.Lists.{nat}
-use Rattle.plan.specs.Format.{sections, entrySizes, largestCounts, countIn, sectionIn, columnIn}
+use Rattle.plan.specs.Format.{sections, entrySizes, largestCounts, countIn, sectionIn, columnOf, columnIn}
 use Rattle.plan.specs.Laws.Parts.{length-section-in, length-entries}
-use Rattle.planfile.specs.Columns.{columnOf}
 use Rattle.planfile.specs.Directory.{Directory}
 
 module _ (file : List ℕ) (k : ℕ) {n : ℕ} {part : List ℕ} (e : n ≡ countIn file k) (p : part ≡ sectionIn file k) where
@@ -21,5 +20,5 @@ module _ (file : List ℕ) (k : ℕ) {n : ℕ} {part : List ℕ} (e : n ≡ coun
   -- a column that was read from the part is the column of the plan
   pub column-section : {A : Type 0} (unused : A) (read : List ℕ → ℕ → A) (column : ℕ) {xs : List A}
       → xs ≡ columnOf unused read (nat largestCounts k) (nat entrySizes k) n part column → xs ≡ columnIn unused read file k column
-  unfolding columnOf columnIn
+  unfolding columnIn
   column-section unused read column q = rw (e, p) at q

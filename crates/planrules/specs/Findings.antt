@@ -100,6 +100,15 @@ not-clean (Node j) k = refl
 not-clean (Link e) k = refl
 not-clean (Command e) k = refl
 
+-- two checks that are tried as one
+pub orElse-join : (a b c : Finding) → orElse a (orElse b c) ≡ orElse (orElse a b) c
+unfolding orElse
+orElse-join a b c = go (isClean a) refl
+  where
+    go : (t : Bool) → isClean a ≡ t → orElse a (orElse b c) ≡ orElse (orElse a b) c
+    go true e = rw e
+    go false e = rw (e, e)
+
 -- what is left of a plan's finding from a refusal's number on
 module _ (p : Plan) where
   abbrev pub from8 : Finding

@@ -2,10 +2,10 @@
 // just the arrays that they look at, and ask that the counts are inside their limits, so that no index and no sum is wild.
 ghost use mathlib.Core.Path.{_≡_};
 ghost use mathlib.Core.Bool.{_&&_};
-ghost use Prim.Native.Nat.{_≤_};
+ghost use Prim.Native.Nat.{_+_, _≤_};
 ghost use Rattle.plan.specs.Tests.{horizonKept, countsKept};
 ghost use Rattle.plan.specs.Rules.{CountsRule};
-ghost use Rattle.plan.specs.Refusals.{isClean, unless, planFinding};
+ghost use Rattle.plan.specs.Refusals.{isClean, unless, orElse, planFinding};
 ghost use Rattle.plan.specs.declared.Finding.the-variants.{Horizon};
 ghost use Rattle.planrules.specs.Checks.{integratorsCheck, inputsCheck, nodesCheck, linksCheck, commandsCheck};
 use crate::entries::command_limits;
@@ -106,6 +106,34 @@ pub fn check_links<'a>(
     Finding::Clean
 }
 
+// The refusals 7 and 8, in this order.
+fn check_nodes_and_links<'a>(
+    n: usize,
+    m: usize,
+    k: usize,
+    links: usize,
+    kinds: &'a [usize; 16],
+    lefts: &'a [usize; 16],
+    rights: &'a [usize; 16],
+    lows: &'a [i64; 16],
+    highs: &'a [i64; 16],
+    targets: &'a [usize; 256],
+    sources: &'a [usize; 256],
+    coefficients: &'a [i64; 256],
+) -> Finding
+    requires { ⌜ (n + m ≤ 40) × (k ≤ 16) × (links ≤ 256) ⌝ }
+    ensures { λ r. ⌜ r ≡ orElse (nodesCheck (n + m) k (now (kinds .entry)) (now (lefts .entry)) (now (rights .entry)) (now (lows .entry)) (now (highs .entry)))
+        (linksCheck n (n + m + k) links (now (targets .entry)) (now (sources .entry)) (now (coefficients .entry))) ⌝ }
+{
+    let base = n + m;
+    let all = base + k;
+    let found = check_nodes(base, k, kinds, lefts, rights, lows, highs);
+    let Finding::Clean = found else {
+        return found;
+    };
+    check_links(n, all, links, targets, sources, coefficients)
+}
+
 pub fn check_commands<'a>(
     horizon: u32,
     m: usize,
@@ -150,14 +178,16 @@ pub fn check_plan(p: Plan) -> Finding
     let Finding::Clean = found else {
         return found;
     };
-    let found = check_nodes(n + m, k, &p.kinds, &p.lefts, &p.rights, &p.lows, &p.highs);
-    let Finding::Clean = found else {
-        return found;
-    };
-    let found = check_links(
+    let found = check_nodes_and_links(
         n,
-        n + m + k,
+        m,
+        k,
         p.links,
+        &p.kinds,
+        &p.lefts,
+        &p.rights,
+        &p.lows,
+        &p.highs,
         &p.targets,
         &p.sources,
         &p.coefficients,

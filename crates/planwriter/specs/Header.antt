@@ -1,18 +1,16 @@
--- Laws of the header's numbers: how large they are where the counts are limited, and that for the counts of a plan they are those of
--- `plan/Encoding`. Assumes nothing.
+-- Laws of the header's numbers: how large they are where the counts are limited. Assumes nothing.
 use mathlib.Core.Path.{_≡_, refl}
-use mathlib.Core.List.{List, _∷_}
+use mathlib.Core.List.{List}
 use Prim.Native.Nat.{ℕ, zero, suc, _+_, _*_, _≤_, _<_}
 use native.Mathlib.Numerals.{add-one}
 use native.Mathlib.Omega.{arith}
-use Rattle.plan.specs.Lists.{joined}
 use Rattle.plan.specs.Format.{sections, headerLength}
 use Rattle.plan.specs.Tests.{counts}
 use Rattle.plan.specs.Rules.{CountsRule}
-use Rattle.plan.specs.Encoding.{lengthOf, offsetOf, headerWords}
 use Rattle.plan.specs.Laws.Layout.{each-section}
 use Rattle.plan.specs.declared.Plan.{Plan}
-use Rattle.planwriter.specs.Entries.{lengthFrom, offsetFrom, headerEntry, Limited}
+use Rattle.plan.specs.Encoding.{lengthFrom, offsetFrom}
+use Rattle.planwriter.specs.Entries.{Limited}
 
 module _ (cs : List ℕ) where
   -- the first offset, and each next one in the code's form
@@ -41,12 +39,3 @@ module _ (cs : List ℕ) where
 module _ (p : Plan) where
   pub limited : CountsRule p → Limited (counts p)
   limited r k h = r k h .1
-
-  pub offset-counts : (k : ℕ) → offsetFrom (counts p) k ≡ offsetOf p k
-  unfolding offsetFrom offsetOf lengthOf
-  offset-counts zero = refl
-  offset-counts (suc k) = rw (offset-counts k)
-
-  pub header-counts : p .horizon ∷ joined (headerEntry (counts p)) sections ≡ headerWords p
-  unfolding headerWords joined offsetFrom offsetOf lengthOf
-  header-counts = refl

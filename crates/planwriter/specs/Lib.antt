@@ -1,5 +1,5 @@
 pub mod Entries
-pub mod Writing
 pub mod Header
 pub mod Plans
 pub mod Stages
+pub mod Writing

@@ -1,25 +1,24 @@
 -- Laws of the plan writer: every number of a plan that keeps the rules fits a word, and the file grows section by section. Assumes nothing.
 use mathlib.Core.Path.{_≡_, refl, _∙_}
-use mathlib.Core.List.{List, _∷_, append-nil}
+use mathlib.Core.List.{List, _∷_, _++_, append-nil}
 use Prim.Native.Nat.{ℕ, _+_, _≤_, _<_}
 use native.Mathlib.Omega.{arith}
-use lib.IntN.{ℤ, pos}
-use lib.ListN.{length, getD}
+use lib.IntN.{ℤ}
+use lib.ListN.{length, getD, drop}
 use borrow.Author.Tests.{le-leb, lt-leb}
-use Rattle.integers.specs.Parts.{neg, zs}
+use Rattle.integers.specs.Parts.{zs}
 use Rattle.words.specs.Word.{written}
 use Rattle.words.specs.Flat.{length-flat}
 use Rattle.plan.specs.Lists.{nat, int, joined}
 use Rattle.plan.specs.Format.{M, sections, headerLength}
 use Rattle.plan.specs.Tests.{counts}
 use Rattle.plan.specs.Rules.{Within, PlanRules}
-use Rattle.plan.specs.Encoding.{lengthOf, fileLength, headerWords, integratorWords, inputWords, nodeWords, linkWords, commandWords}
-use Rattle.plan.specs.Encoding.{fileWords, encode}
+use Rattle.plan.specs.Encoding.{lengthFrom, offsetFrom, pairEntry, lengthOf, offsetOf, fileLength, headerWords, integratorWords}
+use Rattle.plan.specs.Encoding.{inputWords, nodeWords, linkWords, commandWords, fileWords, encode}
 use Rattle.plan.specs.Laws.Layout.{entryWords, sectionWords, wordsTo, words-to, length-to, length-section, offset-most}
-use Rattle.plan.specs.Laws.Small.{signed-size, coefficient-within, node-limits, small-at, entry-small}
+use Rattle.plan.specs.Laws.Small.{signed-size, coefficient-within, quantum-within, node-limits, small-at, entry-small}
 use Rattle.plan.specs.declared.Plan.{Plan}
-use Rattle.planwriter.specs.Entries.{Unsigned32, Signed32, lengthFrom, offsetFrom, headerEntry}
-use Rattle.planwriter.specs.Header.{offset-counts, header-counts}
+use Rattle.planwriter.specs.Entries.{Unsigned32, Signed32}
 use Rattle.planwriter.specs.Plans.{writtenLength, writtenBuffer}
 use Rattle.planwriter.specs.Writing.{Begun, begun-of, behind, back, length-behind, turn}
 
@@ -56,7 +55,7 @@ module _ (p : Plan) (r : PlanRules p) where
   fitting =
       record {
         starts = within-fits (λ i h. r .integrators i h .start);
-        quanta = within-fits (λ i h. let e = r .integrators i h in omega (arith, zs, neg (pos M)));
+        quanta = within-fits (λ i h. let e = r .integrators i h in quantum-within (e .least) (e .most));
         firsts = within-fits (r .inputs);
         kinds = column-fits 2 0 (p .kinds) (omega arith) (λ i. refl);
         lefts = column-fits 2 1 (p .lefts) (omega arith) (λ i. refl);
@@ -81,27 +80,25 @@ module _ {p : Plan} {old : List ℕ} {k : ℕ} {s : List ℕ} (g : Stage p old k
     {at : ℕ} (e : at ≡ offsetFrom (counts p) k) where
   -- section k starts inside the buffer, and there is room for it
   pub inside : at ≤ length s
+  unfolding offsetOf
   inside =
       let m = offset-most p k h in
-      let o = offset-counts p k in
       let z = g .begun .size in
       omega (arith, g .room)
 
   pub section-room : lengthFrom (counts p) k ≤ length (behind s at)
-  unfolding lengthOf
+  unfolding offsetOf lengthOf
   section-room =
       let m = offset-most p k h in
-      let o = offset-counts p k in
       let z = g .begun .size in
       let l = length-behind s at in
       omega (arith, g .room)
 
   -- section k is written into the part behind what there is
   pub next : {t : List ℕ} → t ≡ written (sectionWords p k) (behind s at) → Stage p old (k + 1) (back s at t)
-  unfolding wordsTo
+  unfolding wordsTo offsetOf
   next q =
       let m = offset-most p k h in
-      let o = offset-counts p k in
       let a = length-to p k (omega arith) in
       let l = length-section p k h in
       record {
@@ -109,32 +106,37 @@ module _ {p : Plan} {old : List ℕ} {k : ℕ} {s : List ℕ} (g : Stage p old k
         begun = turn (headerWords p) (sectionWords p) old k at (g .begun) (omega arith) (omega (arith, g .room)) q;
       }
 
+-- the file, and the rest as it was
+file-written : (p : Plan) (old : List ℕ) → written (fileWords p) old ≡ encode p ++ drop (length (encode p)) old
+unfolding written encode
+file-written p old = rw (length-flat (fileWords p))
+
 -- `size` is the file's length as the code works it out: the offset behind the last section
 module _ (p : Plan) (old : List ℕ) {size : ℕ} (e : size ≡ offsetFrom (counts p) sections) where
   length-of : size ≡ fileLength p
-  unfolding fileLength
-  length-of = e ∙ offset-counts p sections
+  unfolding fileLength offsetOf
+  length-of = e
 
   -- the header
   pub header-room : size ≤ length old → headerLength ≤ length old
   unfolding offsetFrom
   header-room h = omega arith
 
-  pub headed : {s : List ℕ} → size ≤ length old → s ≡ written (p .horizon ∷ joined (headerEntry (counts p)) sections) old
+  pub headed : {s : List ℕ} → size ≤ length old → s ≡ written (p .horizon ∷ joined (pairEntry (counts p)) sections) old
       → Stage p old 0 s
-  unfolding wordsTo joined
+  unfolding wordsTo joined headerWords
   headed room q =
       let l = length-to p 0 (omega arith) in
       let m = offset-most p 0 (omega arith) in
       let f = length-of in
-      record { room = omega arith; begun = begun-of (rw (append-nil, ← header-counts p) q) (omega arith) }
+      record { room = omega arith; begun = begun-of (rw append-nil q) (omega arith) }
 
   -- the whole file
   pub filed : {s : List ℕ} → Stage p old sections s → (size ≡ writtenLength p (length old)) × (s ≡ writtenBuffer p old)
-  unfolding writtenLength writtenBuffer written encode
+  unfolding writtenLength writtenBuffer
   filed g =
       let b = le-leb (fileLength p) (length old) (g .room) in
-      (rw b length-of, rw b (g .begun .words ∙ rw (← words-to p, length-flat (fileWords p))))
+      (rw b length-of, rw b (g .begun .words ∙ rw (← words-to p) (file-written p old)))
 
   -- a buffer that is too short
   pub short : length old < size → (0 ≡ writtenLength p (length old)) × (old ≡ writtenBuffer p old)

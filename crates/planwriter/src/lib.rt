@@ -8,8 +8,10 @@ ghost use Rattle.words.specs.Word.{wordOf, written};
 ghost use Rattle.plan.specs.Lists.{joined};
 ghost use Rattle.plan.specs.Format.{sections, headerLength};
 ghost use Rattle.plan.specs.Rules.{PlanRules};
-ghost use Rattle.planwriter.specs.Entries.{integratorEntry, inputEntry, nodeEntry, tripleEntry, Unsigned32, Signed32};
-ghost use Rattle.planwriter.specs.Entries.{lengthFrom, offsetFrom, headerEntry, Limited};
+ghost use Rattle.plan.specs.Encoding.{integratorEntry, inputEntry, nodeEntry, tripleEntry};
+ghost use Rattle.planwriter.specs.Entries.{Unsigned32, Signed32};
+ghost use Rattle.plan.specs.Encoding.{lengthFrom, offsetFrom, pairEntry};
+ghost use Rattle.planwriter.specs.Entries.{Limited};
 ghost use Rattle.planwriter.specs.Plans.{writtenLength, writtenBuffer};
 use plan::Plan;
 use planrules::HEADER_LENGTH;
@@ -184,7 +186,7 @@ fn section_offset(counts: &[usize; 5], k: usize) -> usize
 // The header's pairs, one for each section.
 fn write_pairs(buf: &mut [u8], counts: &[usize; 5])
     requires { ⌜ (8 * sections ≤ length (now buf)) × Limited (now counts) ⌝ }
-    ensures { λ _. ⌜ now (buf .exit) ≡ written (joined (headerEntry (now (counts .entry))) sections) (now (buf .entry)) ⌝ }
+    ensures { λ _. ⌜ now (buf .exit) ≡ written (joined (pairEntry (now (counts .entry))) sections) (now (buf .entry)) ⌝ }
 {
     let mut k = 0;
     while k < SECTIONS {
@@ -198,7 +200,7 @@ fn write_pairs(buf: &mut [u8], counts: &[usize; 5])
 // The header: the horizon, then the pairs.
 fn write_header(buf: &mut [u8], horizon: u32, counts: &[usize; 5])
     requires { ⌜ (headerLength ≤ length (now buf)) × Limited (now counts) ⌝ }
-    ensures { λ _. ⌜ now (buf .exit) ≡ written (horizon ∷ joined (headerEntry (now (counts .entry))) sections) (now (buf .entry)) ⌝ }
+    ensures { λ _. ⌜ now (buf .exit) ≡ written (horizon ∷ joined (pairEntry (now (counts .entry))) sections) (now (buf .entry)) ⌝ }
 {
     write_u32(buf, 0, horizon as u64);
     write_pairs(&mut buf[4..], counts);

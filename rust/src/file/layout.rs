@@ -9,6 +9,14 @@ pub fn encode(plan: &Plan) -> Vec<u8> {
     assemble(plan.horizon, &section_bytes(plan))
 }
 
+/// Writes the file of a plan from the buffer's start and answers its length; `None`, and no byte
+/// changed, if the buffer is shorter.
+pub fn write(plan: &Plan, buffer: &mut [u8]) -> Option<usize> {
+    let file = encode(plan);
+    buffer.get_mut(..file.len())?.copy_from_slice(&file);
+    Some(file.len())
+}
+
 /// A file from a horizon and the bytes of its sections, with the pairs that the offset rule asks.
 pub fn assemble(horizon: u32, sections: &[Vec<u8>; 5]) -> Vec<u8> {
     let mut file = Vec::new();

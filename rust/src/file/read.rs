@@ -1,6 +1,7 @@
 //! Reading a plan file and viewing its sections.
 
 use super::cause::{Cause, Refusal};
+use super::reading::Reading;
 use super::rules;
 use crate::limits::{Section, HEADER_BYTES, WORD_BYTES};
 use crate::plan::{Command, Integrator, Link, Node, Plan};
@@ -9,46 +10,69 @@ use crate::words::{signed_at, word_at};
 /// The five sections of a file, each a part of the file itself.
 pub type Parts<'f> = [&'f [u8]; 5];
 
+/// Offset and length of the five sections.
+type Pairs = [(u64, u64); 5];
+
 /// The plan of a file, or the first of the refusals 1 to 9 that it meets.
 pub fn read(file: &[u8]) -> Result<Plan, Refusal> {
-    let parts = split(file)?;
-    check_counts(&parts)?;
-    let plan = decode(file, &parts);
-    rules::check(&plan)?;
+    read_by(&Reading::DOCUMENT, file)
+}
+
+/// The same by a table of rules.
+pub fn read_by(rules: &Reading, file: &[u8]) -> Result<Plan, Refusal> {
+    let pairs = pairs(file)?;
+    check_offsets(rules, &pairs, file.len() as u64)?;
+    if !rules.counts_first {
+        rules::horizon(word_at(file, 0))?;
+    }
+    check_counts(rules, &pairs)?;
+    let plan = decode(file, &parts(file, &pairs));
+    rules::check_by(rules, &plan)?;
     Ok(plan)
 }
 
 /// The section view: a part of the caller's own file, "or an empty part if the file would be
 /// refused or the number is above 4".
 pub fn section(file: &[u8], number: usize) -> &[u8] {
-    match read(file).and_then(|_| split(file)) {
-        Ok(parts) if number < parts.len() => parts[number],
+    section_by(&Reading::DOCUMENT, file, number)
+}
+
+/// The same by a table of rules.
+pub fn section_by<'f>(rules: &Reading, file: &'f [u8], number: usize) -> &'f [u8] {
+    match read_by(rules, file).and_then(|_| pairs(file)) {
+        Ok(pairs) if number < pairs.len() => parts(file, &pairs)[number],
         _ => &file[..0],
     }
 }
 
-/// Refusals 1 and 2. Offset and length are added as u64, where two words cannot wrap.
+/// The sections of a file that meets neither refusal 1 nor 2.
 pub fn split(file: &[u8]) -> Result<Parts<'_>, Refusal> {
+    let pairs = pairs(file)?;
+    check_offsets(&Reading::DOCUMENT, &pairs, file.len() as u64)?;
+    Ok(parts(file, &pairs))
+}
+
+/// The sections by their pairs. All ends are at most the file's length by now, so they fit a usize.
+fn parts<'f>(file: &'f [u8], pairs: &Pairs) -> Parts<'f> {
+    pairs.map(|(offset, length)| &file[offset as usize..(offset + length) as usize])
+}
+
+/// The pairs of a header, or refusal 1.
+fn pairs(file: &[u8]) -> Result<Pairs, Refusal> {
     if file.len() < HEADER_BYTES {
         return Err(Refusal::whole(Cause::ShortFile));
     }
-    let pairs = pairs(file);
-    check_offsets(&pairs, file.len() as u64)?;
-    // All ends are at most the file's length now, so they fit a usize.
-    Ok(pairs.map(|(offset, length)| &file[offset as usize..(offset + length) as usize]))
-}
-
-fn pairs(file: &[u8]) -> [(u64, u64); 5] {
-    std::array::from_fn(|number| {
+    Ok(std::array::from_fn(|number| {
         let at = WORD_BYTES + number * 2 * WORD_BYTES;
         (
             u64::from(word_at(file, at)),
             u64::from(word_at(file, at + WORD_BYTES)),
         )
-    })
+    }))
 }
 
-fn check_offsets(pairs: &[(u64, u64); 5], file_length: u64) -> Result<(), Refusal> {
+/// Refusal 2.
+fn check_offsets(rules: &Reading, pairs: &Pairs, file_length: u64) -> Result<(), Refusal> {
     let mut expected = HEADER_BYTES as u64;
     for (number, &(offset, length)) in pairs.iter().enumerate() {
         if offset != expected {
@@ -59,25 +83,26 @@ fn check_offsets(pairs: &[(u64, u64); 5], file_length: u64) -> Result<(), Refusa
                 Cause::NextOffset
             }));
         }
-        expected = offset + length;
+        expected = (rules.end)(offset, length);
     }
-    if expected != file_length {
+    if !(rules.ends_file)(expected, file_length) {
         return Err(Refusal::whole(Cause::FileEnd));
     }
     Ok(())
 }
 
 /// Refusal 3, for all sections before the horizon is looked at.
-fn check_counts(parts: &Parts) -> Result<(), Refusal> {
-    for (section, part) in Section::ALL.into_iter().zip(parts) {
-        let count = part.len() / section.entry_bytes();
-        if part.len() % section.entry_bytes() != 0 {
+fn check_counts(rules: &Reading, pairs: &Pairs) -> Result<(), Refusal> {
+    for (section, &(_, length)) in Section::ALL.into_iter().zip(pairs) {
+        let size = section.entry_bytes() as u64;
+        let count = length / size;
+        if length % size != 0 {
             return Err(Refusal::whole(Cause::PartOfEntry));
         }
-        if count < section.least() {
+        if count < section.least() as u64 {
             return Err(Refusal::whole(Cause::TooFewEntries));
         }
-        if count > section.most() {
+        if count > (rules.most)(section) as u64 {
             return Err(Refusal::whole(Cause::TooManyEntries));
         }
     }

@@ -1,49 +1,86 @@
 //! The rules 4 to 9 for a plan whose counts are within their limits.
 
 use super::cause::{Cause, Refusal};
+use super::reading::Reading;
 use crate::limits::{COEFFICIENT_BOUND, HORIZON_MAX, M};
 use crate::plan::{Command, Integrator, Link, Node, Plan};
-use crate::plan::{DIFFERENCE, LIMIT, PRODUCT, THRESHOLD};
+use crate::plan::{DIFFERENCE, PRODUCT, THRESHOLD};
 use std::cmp::Ordering;
 
 /// The first rule broken, tried in the order of the numbers 4 to 9.
 pub fn check(plan: &Plan) -> Result<(), Refusal> {
-    horizon(plan.horizon)?;
-    lowest_fault(&plan.integrators, |_, entry| integrator(entry))?;
-    lowest_fault(&plan.inputs, |_, &first| input(first))?;
-    lowest_fault(&plan.nodes, |number, entry| {
-        node(entry, plan.node_source(number))
-    })?;
-    lowest_fault(&plan.links, |number, entry| {
-        let key = |link: &Link| (link.target, link.source);
-        let causes = [Cause::LinkRepeats, Cause::LinkDescends];
-        link(entry, plan).or_else(|| out_of_order(&plan.links, number, key, causes))
-    })?;
-    lowest_fault(&plan.commands, |number, entry| {
-        let key = |command: &Command| (command.tick, command.input);
-        let causes = [Cause::CommandRepeats, Cause::CommandDescends];
-        command(entry, plan).or_else(|| out_of_order(&plan.commands, number, key, causes))
-    })
+    check_by(&Reading::DOCUMENT, plan)
+}
+
+/// The same by a table of rules.
+pub fn check_by(rules: &Reading, plan: &Plan) -> Result<(), Refusal> {
+    let mut numbers = rules.order.into_iter();
+    numbers.try_for_each(|number| check_number(rules, plan, number))
+}
+
+fn check_number(rules: &Reading, plan: &Plan, number: u32) -> Result<(), Refusal> {
+    match number {
+        4 => horizon(plan.horizon),
+        5 => check_entries(rules, &plan.integrators, |_, entry| {
+            integrator(rules, entry)
+        }),
+        6 => check_entries(rules, &plan.inputs, |_, &first| input(rules, first)),
+        7 => check_entries(rules, &plan.nodes, |number, entry| {
+            node(rules, entry, plan.node_source(number))
+        }),
+        8 => check_links(rules, plan),
+        _ => check_commands(rules, plan),
+    }
+}
+
+fn check_links(rules: &Reading, plan: &Plan) -> Result<(), Refusal> {
+    let limits = |entry: &Link| link(rules, entry, plan);
+    let key = |link: &Link| (link.target, link.source);
+    let causes = [Cause::LinkRepeats, Cause::LinkDescends];
+    check_ascending(rules, &plan.links, limits, key, causes)
+}
+
+fn check_commands(rules: &Reading, plan: &Plan) -> Result<(), Refusal> {
+    let limits = |entry: &Command| command(rules, entry, plan);
+    let key = |command: &Command| (command.tick, command.input);
+    let causes = [Cause::CommandRepeats, Cause::CommandDescends];
+    check_ascending(rules, &plan.commands, limits, key, causes)
 }
 
 /// Tries the entries upwards, so that the entry answered is the lowest.
-fn lowest_fault<T>(
+fn check_entries<T>(
+    rules: &Reading,
     entries: &[T],
     fault: impl Fn(usize, &T) -> Option<Cause>,
 ) -> Result<(), Refusal> {
-    for (entry, item) in entries.iter().enumerate() {
-        if let Some(cause) = fault(entry, item) {
-            return Err(Refusal { cause, entry });
-        }
+    let mut faults = entries.iter().enumerate().filter_map(|(number, item)| {
+        let cause = fault(number, item)?;
+        let entry = (rules.entry)(cause, number);
+        Some(Refusal { cause, entry })
+    });
+    (rules.answered)(&mut faults).map_or(Ok(()), Err)
+}
+
+/// Tries the limits of an entry and its order before the next entry is looked at.
+fn check_ascending<T, K: Ord>(
+    rules: &Reading,
+    entries: &[T],
+    limits: impl Fn(&T) -> Option<Cause>,
+    key: impl Fn(&T) -> K,
+    causes: [Cause; 2],
+) -> Result<(), Refusal> {
+    let order = |number| out_of_order(rules, entries, number, &key, causes);
+    if rules.order_with_limits {
+        return check_entries(rules, entries, |number, entry| {
+            limits(entry).or_else(|| order(number))
+        });
     }
-    Ok(())
+    check_entries(rules, entries, |_, entry| limits(entry))?;
+    check_entries(rules, entries, |number, _| order(number))
 }
 
-fn beyond(value: i64, bound: i64) -> bool {
-    value < -bound || value > bound
-}
-
-fn horizon(horizon: u32) -> Result<(), Refusal> {
+/// Refusal 4.
+pub fn horizon(horizon: u32) -> Result<(), Refusal> {
     match horizon {
         0 => Err(Refusal::whole(Cause::HorizonZero)),
         1..=HORIZON_MAX => Ok(()),
@@ -51,8 +88,8 @@ fn horizon(horizon: u32) -> Result<(), Refusal> {
     }
 }
 
-fn integrator(entry: &Integrator) -> Option<Cause> {
-    if beyond(entry.start, M) {
+fn integrator(rules: &Reading, entry: &Integrator) -> Option<Cause> {
+    if (rules.beyond)(entry.start, M) {
         Some(Cause::StartBeyond)
     } else if entry.quantum < 1 {
         Some(Cause::QuantumBelow)
@@ -63,65 +100,57 @@ fn integrator(entry: &Integrator) -> Option<Cause> {
     }
 }
 
-fn input(first: i64) -> Option<Cause> {
-    beyond(first, M).then_some(Cause::FirstValueBeyond)
+fn input(rules: &Reading, first: i64) -> Option<Cause> {
+    (rules.beyond)(first, M).then_some(Cause::FirstValueBeyond)
 }
 
-/// A node may name the sources below `places`: integrators, inputs and lower-numbered nodes.
-fn node(entry: &Node, places: usize) -> Option<Cause> {
+/// A node may name the sources below its own: integrators, inputs and lower-numbered nodes.
+fn node(rules: &Reading, entry: &Node, own_source: usize) -> Option<Cause> {
+    let places = (rules.node_names)(own_source);
     if entry.kind > THRESHOLD {
         return Some(Cause::KindAbove);
     }
     if entry.a >= places {
         return Some(Cause::AOutOfPlace);
     }
-    node_b(entry, places).or_else(|| node_limits(entry))
-}
-
-/// "B is 0 and names nothing" for kind 2; the other kinds use it.
-fn node_b(entry: &Node, places: usize) -> Option<Cause> {
-    if entry.kind == LIMIT {
-        (entry.b != 0).then_some(Cause::UnusedBNotZero)
-    } else {
-        (entry.b >= places).then_some(Cause::BOutOfPlace)
-    }
+    (rules.node_b)(entry, places).or_else(|| node_limits(rules, entry))
 }
 
 /// lo and hi are 0 for kinds 0 and 1 and within ±M for 2 and 3; only kind 2 asks lo ≤ hi.
-fn node_limits(entry: &Node) -> Option<Cause> {
+fn node_limits(rules: &Reading, entry: &Node) -> Option<Cause> {
     match entry.kind {
         DIFFERENCE | PRODUCT if entry.low != 0 => Some(Cause::UnusedLowNotZero),
         DIFFERENCE | PRODUCT if entry.high != 0 => Some(Cause::UnusedHighNotZero),
         DIFFERENCE | PRODUCT => None,
-        _ if beyond(entry.low, M) => Some(Cause::LowBeyond),
-        _ if beyond(entry.high, M) => Some(Cause::HighBeyond),
-        LIMIT if entry.low > entry.high => Some(Cause::LowAboveHigh),
+        _ if (rules.beyond)(entry.low, M) => Some(Cause::LowBeyond),
+        _ if (rules.beyond)(entry.high, M) => Some(Cause::HighBeyond),
+        kind if (rules.limits_ordered)(kind) && entry.low > entry.high => Some(Cause::LowAboveHigh),
         _ => None,
     }
 }
 
-fn link(entry: &Link, plan: &Plan) -> Option<Cause> {
+fn link(rules: &Reading, entry: &Link, plan: &Plan) -> Option<Cause> {
     if entry.target >= plan.integrators.len() {
         Some(Cause::TargetOutOfPlace)
-    } else if entry.source >= plan.sources() {
+    } else if entry.source >= (rules.link_names)(plan) {
         Some(Cause::SourceOutOfPlace)
     } else if entry.coefficient == 0 {
         Some(Cause::CoefficientZero)
-    } else if beyond(entry.coefficient, COEFFICIENT_BOUND) {
+    } else if (rules.beyond)(entry.coefficient, COEFFICIENT_BOUND) {
         Some(Cause::CoefficientBeyond)
     } else {
         None
     }
 }
 
-fn command(entry: &Command, plan: &Plan) -> Option<Cause> {
+fn command(rules: &Reading, entry: &Command, plan: &Plan) -> Option<Cause> {
     if entry.tick == 0 {
         Some(Cause::TickZero)
-    } else if entry.tick > plan.horizon {
+    } else if entry.tick > (rules.last_tick)(plan.horizon) {
         Some(Cause::TickAboveHorizon)
     } else if entry.input >= plan.inputs.len() {
         Some(Cause::InputOutOfPlace)
-    } else if beyond(entry.value, M) {
+    } else if (rules.beyond)(entry.value, M) {
         Some(Cause::ValueBeyond)
     } else {
         None
@@ -130,15 +159,19 @@ fn command(entry: &Command, plan: &Plan) -> Option<Cause> {
 
 /// "An order fault is the later entry's": an entry is compared with the one before it.
 fn out_of_order<T, K: Ord>(
+    rules: &Reading,
     entries: &[T],
     number: usize,
     key: impl Fn(&T) -> K,
     [repeats, descends]: [Cause; 2],
 ) -> Option<Cause> {
     let before = entries.get(number.checked_sub(1)?)?;
-    match key(before).cmp(&key(&entries[number])) {
-        Ordering::Less => None,
-        Ordering::Equal => Some(repeats),
-        Ordering::Greater => Some(descends),
+    let compared = key(before).cmp(&key(&entries[number]));
+    if (rules.may_follow)(compared) {
+        return None;
     }
+    Some(match compared {
+        Ordering::Equal => repeats,
+        _ => descends,
+    })
 }

@@ -38,6 +38,9 @@ pub enum Damage {
     MoveLength,
     /// The border of two sections moved, which keeps the offset rule.
     MoveBorder,
+    /// Two lengths and the offsets between them changed, so that the offset rule is kept if sums
+    /// of 32 bits may wrap.
+    WrapSums,
     /// A section with a part of an entry more, the pairs set right.
     OddLength,
     /// A section with one entry too many, the pairs set right.
@@ -52,7 +55,7 @@ pub enum Damage {
 
 impl Damage {
     /// Every way.
-    pub const ALL: [Damage; 17] = [
+    pub const ALL: [Damage; 18] = [
         Damage::FlipBits,
         Damage::Cut,
         Damage::Lengthen,
@@ -65,6 +68,7 @@ impl Damage {
         Damage::MoveOffset,
         Damage::MoveLength,
         Damage::MoveBorder,
+        Damage::WrapSums,
         Damage::OddLength,
         Damage::CountAboveLimit,
         Damage::EmptySection,
@@ -85,6 +89,7 @@ impl Damage {
             Damage::MoveOffset => replace_pair_word(rng, file, 0),
             Damage::MoveLength => replace_pair_word(rng, file, WORD_BYTES),
             Damage::MoveBorder => move_border(rng, file),
+            Damage::WrapSums => wrap_sums(rng, file),
             Damage::Horizon => change_horizon(rng, file),
             Damage::Noise => noise(rng, file.len()),
             _ => self.rebuild(rng, file),
@@ -154,8 +159,22 @@ const BOUNDS: [i64; 15] = [
     1 << 32,
 ];
 
+/// Every bound and its neighbours, with either sign.
+pub(super) fn boundary_words() -> Vec<u32> {
+    let near = |bound: i64| [bound - 1, bound, bound + 1].map(|number| [number, -number]);
+    let mut words: Vec<u32> = BOUNDS
+        .into_iter()
+        .flat_map(near)
+        .flatten()
+        .map(|w| w as u32)
+        .collect();
+    words.sort();
+    words.dedup();
+    words
+}
+
 /// A bound or a neighbour of one, with either sign.
-fn boundary_word(rng: &mut Rng, _former: u32) -> u32 {
+pub(super) fn boundary_word(rng: &mut Rng, _former: u32) -> u32 {
     let number = rng.pick(&BOUNDS) + rng.within(-1, 1);
     (number * rng.pick(&[1, -1])) as u32
 }
@@ -180,7 +199,8 @@ fn lengthen(rng: &mut Rng, file: &[u8]) -> Vec<u8> {
     [file, &noise(rng, more)].concat()
 }
 
-fn noise(rng: &mut Rng, most: usize) -> Vec<u8> {
+/// Random bytes, at most so many.
+pub(super) fn noise(rng: &mut Rng, most: usize) -> Vec<u8> {
     let length = rng.below(most + 1);
     (0..length).map(|_| rng.bits() as u8).collect()
 }
@@ -227,6 +247,28 @@ fn move_border(rng: &mut Rng, file: &[u8]) -> Vec<u8> {
     sections[first] = joined[..border].to_vec();
     sections[first + 1] = joined[border..].to_vec();
     assemble(word_at(file, 0), &sections)
+}
+
+/// Adds a number to one length and to the offsets up to a later section, and takes it from that
+/// section's length, all in 32 bits.
+fn wrap_sums(rng: &mut Rng, file: &[u8]) -> Vec<u8> {
+    let mut damaged = file.to_vec();
+    if file.len() < HEADER_BYTES {
+        return damaged;
+    }
+    let near = rng.pick(&[4_u32, 8, 12, 20, 1 << 24, 1 << 31]);
+    let any = rng.bits() as u32;
+    let change = rng.pick(&[near, near.wrapping_neg(), any]);
+    let first = rng.below(4);
+    let last = first + 1 + rng.below(4 - first);
+    let mut add = |place, change| {
+        let word = word_at(&damaged, place).wrapping_add(change);
+        set_word(&mut damaged, place, word);
+    };
+    add(offset_place(first) + WORD_BYTES, change);
+    (first + 1..=last).for_each(|section| add(offset_place(section), change));
+    add(offset_place(last) + WORD_BYTES, change.wrapping_neg());
+    damaged
 }
 
 fn change_horizon(rng: &mut Rng, file: &[u8]) -> Vec<u8> {

@@ -4,6 +4,7 @@
 
 pub mod breakage;
 pub mod damage;
+pub mod files;
 pub mod lists;
 pub mod plans;
 pub mod plant;
@@ -13,6 +14,7 @@ pub mod states;
 
 pub use breakage::Breakage;
 pub use damage::Damage;
+pub use files::Origin;
 pub use lists::{run_list, Call};
 pub use plans::Family;
 pub use rng::Rng;

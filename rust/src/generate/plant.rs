@@ -47,6 +47,22 @@ pub fn in_plan(rng: &mut Rng, plan: &mut Plan, cause: Cause) -> Option<usize> {
     }
 }
 
+/// Plants an order fault, and at the same entry a number beyond its limit, and answers the entry.
+pub fn twice_in_one_entry(rng: &mut Rng, plan: &mut Plan) -> Option<usize> {
+    let cause = rng.pick(&[
+        Cause::LinkRepeats,
+        Cause::LinkDescends,
+        Cause::CommandRepeats,
+        Cause::CommandDescends,
+    ]);
+    let entry = in_plan(rng, plan, cause)?;
+    match cause.number() {
+        8 => plan.links[entry].coefficient = rng.pick(&[0, COEFFICIENT_BOUND + 1]),
+        _ => plan.commands[entry].value = rng.pick(&BEYOND_M),
+    }
+    Some(entry)
+}
+
 fn plant_horizon(rng: &mut Rng, plan: &mut Plan, cause: Cause) -> usize {
     plan.horizon = match cause {
         Cause::HorizonZero => 0,
@@ -133,7 +149,10 @@ fn plant_command(rng: &mut Rng, plan: &mut Plan, cause: Cause) -> Option<usize> 
     let entry = entry_from(rng, commands.len(), usize::from(ordered))?;
     match cause {
         Cause::TickZero => commands[entry].tick = 0,
-        Cause::TickAboveHorizon => commands[entry].tick = rng.pick(&[horizon + 1, u32::MAX]),
+        Cause::TickAboveHorizon => {
+            // The horizon may be beyond its own limit already.
+            commands[entry].tick = rng.pick(&[horizon.saturating_add(1), u32::MAX]);
+        }
         Cause::InputOutOfPlace => commands[entry].input = rng.pick(&[inputs, u32::MAX as usize]),
         Cause::ValueBeyond => commands[entry].value = rng.pick(&BEYOND_M),
         Cause::CommandRepeats => {

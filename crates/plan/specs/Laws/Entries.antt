@@ -7,7 +7,7 @@ use lib.Dec.{eqb}
 use lib.ListN.{length, getD}
 use Rattle.integers.specs.Parts.{∣_∣}
 use Rattle.plan.specs.Lists.{nat, int}
-use Rattle.plan.specs.Format.{largestCounts, countIn, columnIn, planIn, Shaped}
+use Rattle.plan.specs.Format.{largestCounts, countIn, columnOf, columnIn, planIn, Shaped}
 use Rattle.plan.specs.Unused.{UnusedNat, UnusedInt, PlanUnused, unusedNat, unusedInt, planUnused}
 use Rattle.plan.specs.declared.Plan.{Plan}
 use Rattle.plan.specs.Laws.Rows.{row-unused, length-row}
@@ -64,11 +64,11 @@ plan-unused p =
 module _ (file : List ℕ) where
   module _ {A : Type 0} (z : A) (read : List ℕ → ℕ → A) where
     column-unused : (k column i : ℕ) → countIn file k ≤ i → getD (columnIn z read file k column) i z ≡ z
-    unfolding columnIn
+    unfolding columnOf columnIn
     column-unused k column i h = row-unused z (nat largestCounts k) (countIn file k) _ i h
 
     column-length : (k column : ℕ) → length (columnIn z read file k column) ≡ nat largestCounts k
-    unfolding columnIn
+    unfolding columnOf columnIn
     column-length k column = length-row z (nat largestCounts k) (countIn file k) _
 
   pub file-unused : PlanUnused (planIn file)

@@ -14,7 +14,7 @@ use Rattle.plan.specs.Format.{sections, entrySizes, leastCounts, largest
 use Rattle.plan.specs.Format.{countIn, sectionIn}
 use Rattle.plan.specs.Tests.{longEnough, offsetsKept, countKept, sizesKept, counts}
 use Rattle.plan.specs.Rules.{PlanRules}
-use Rattle.plan.specs.Encoding.{lengthOf, offsetOf, fileLength, headerWords, fileWords, encode}
+use Rattle.plan.specs.Encoding.{offsetFrom, lengthOf, offsetOf, fileLength, headerWords, fileWords, encode}
 use Rattle.plan.specs.Laws.Searches.{every-true}
 use Rattle.plan.specs.Laws.Layout.{each-section, sectionWords, wordsTo, words-to, length-header, length-encode, part-encode}
 use Rattle.plan.specs.Laws.Layout.{header-offset, header-length, file-least}
@@ -56,7 +56,7 @@ module _ (p : Plan) (r : PlanRules p) where
       let e : 8 + 8 * k ≡ 4 * (2 + 2 * k) = omega arith in rw e (header-read (2 + 2 * k) (omega arith) ∙ header-length p k h)
 
   pub start-back : (k : ℕ) → k ≤ sections → startIn (encode p) k ≡ offsetOf p k
-  unfolding startIn offsetOf
+  unfolding startIn offsetFrom offsetOf lengthOf
   start-back zero h = refl
   start-back (suc k) h = rw (offset-back k h, length-back k h)
 

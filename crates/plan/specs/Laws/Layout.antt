@@ -12,7 +12,7 @@ use Rattle.plan.specs.Lists.{nat, joined}
 use Rattle.plan.specs.Format.{sections, entrySizes, headerLength, part}
 use Rattle.plan.specs.Tests.{counts}
 use Rattle.plan.specs.Rules.{CountsRule}
-use Rattle.plan.specs.Encoding.{lengthOf, offsetOf, fileLength, headerWords, integratorWords, inputWords, nodeWords, linkWords}
+use Rattle.plan.specs.Encoding.{offsetFrom, lengthOf, offsetOf, fileLength, headerWords, integratorWords, inputWords, nodeWords, linkWords}
 use Rattle.plan.specs.Encoding.{commandWords, fileWords, encode}
 use Rattle.plan.specs.Laws.Joined.{joined-split, getD-joined, length-joined}
 use Rattle.plan.specs.declared.Plan.{Plan}
@@ -44,6 +44,15 @@ module _ (p : Plan) where
   unfoldable pub wordsTo : ℕ → List ℕ
   wordsTo k = headerWords p ++ joined sectionWords k
 
+  -- ---- offsets
+  pub offset-first : offsetOf p 0 ≡ headerLength
+  unfolding offsetFrom offsetOf
+  offset-first = refl
+
+  pub offset-next : (k : ℕ) → offsetOf p (suc k) ≡ offsetOf p k + lengthOf p k
+  unfolding offsetFrom offsetOf lengthOf
+  offset-next k = refl
+
   -- ---- lengths
   pub length-entry : (k i : ℕ) → k < sections → length (entryWords k i) ≡ nat entryWidths k
   unfolding entryWords integratorWords inputWords nodeWords linkWords commandWords
@@ -61,7 +70,7 @@ module _ (p : Plan) where
 
   -- where section k starts
   pub length-to : (k : ℕ) → k ≤ sections → 4 * length (wordsTo k) ≡ offsetOf p k
-  unfolding wordsTo offsetOf joined
+  unfolding wordsTo offsetFrom offsetOf lengthOf joined
   length-to zero h = simp length-append (omega (arith, length-header))
   length-to (suc k) h =
       let ih = length-to k (omega arith) in
@@ -121,26 +130,26 @@ module _ (p : Plan) where
 
   -- the header's words
   pub header-offset : (k : ℕ) → k < sections → getD (headerWords p) (1 + 2 * k) 0 ≡ offsetOf p k
-  unfolding headerWords joined
+  unfolding headerWords offsetOf joined
   header-offset = each-section (λ k. getD (headerWords p) (1 + 2 * k) 0 ≡ offsetOf p k) refl refl refl refl refl
 
   pub header-length : (k : ℕ) → k < sections → getD (headerWords p) (2 + 2 * k) 0 ≡ lengthOf p k
-  unfolding headerWords joined
+  unfolding headerWords lengthOf joined
   header-length = each-section (λ k. getD (headerWords p) (2 + 2 * k) 0 ≡ lengthOf p k) refl refl refl refl refl
 
   -- ---- limits
   module _ (r : CountsRule p) where
     pub file-least : 52 ≤ fileLength p
-    unfolding fileLength offsetOf lengthOf counts
+    unfolding fileLength offsetFrom offsetOf lengthOf counts
     file-least = omega (arith, r 0 (omega arith))
 
     pub file-most : fileLength p ≤ 4492
-    unfolding fileLength offsetOf lengthOf counts
+    unfolding fileLength offsetFrom offsetOf lengthOf counts
     file-most = omega (arith, r 0 (omega arith), r 1 (omega arith), r 2 (omega arith), r 3 (omega arith), r 4 (omega arith))
 
   -- no offset and no end of a section lies behind the file's end
   pub offset-most : (k : ℕ) → k < sections → offsetOf p k + lengthOf p k ≤ fileLength p
-  unfolding fileLength offsetOf
+  unfolding fileLength offsetFrom offsetOf lengthOf
   offset-most =
       each-section (λ k. offsetOf p k + lengthOf p k ≤ fileLength p)
       (omega arith) (omega arith) (omega arith) (omega arith) (omega arith)

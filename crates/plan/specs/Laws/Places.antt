@@ -10,7 +10,7 @@ use Rattle.words.specs.Word.{signedOf, word}
 use Rattle.words.specs.Reading.{number-part}
 use Rattle.plan.specs.Lists.{nat}
 use Rattle.plan.specs.Format.{sections, entrySizes, largestCounts, horizonIn, offsetIn, lengthIn, countIn, part}
-use Rattle.plan.specs.Format.{sectionIn, columnIn, planIn}
+use Rattle.plan.specs.Format.{sectionIn, columnOf, columnIn, planIn}
 use Rattle.plan.specs.Rules.{SizeRule}
 use Rattle.plan.specs.Places.{HeaderPlaces, EntryPlaces}
 use Rattle.plan.specs.Laws.Rows.{row-at}
@@ -21,7 +21,7 @@ module _ (file : List ℕ) (z : SizeRule file) where
   -- entry i of column c is what stands there in its section
   pub column-at : {A : Type 0} (unused : A) (read : List ℕ → ℕ → A) (k i : ℕ) → k < sections → i < countIn file k → (c : ℕ)
       → getD (columnIn unused read file k c) i unused ≡ read (sectionIn file k) (nat entrySizes k * i + 4 * c)
-  unfolding columnIn
+  unfolding columnOf columnIn
   column-at unused read k i h l c =
       let most = z .count k h .1 in
       row-at unused (nat largestCounts k) (countIn file k) (λ j. read (sectionIn file k) (nat entrySizes k * j + 4 * c)) i most l

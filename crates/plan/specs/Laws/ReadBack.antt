@@ -11,7 +11,7 @@ use Rattle.integers.specs.Parts.{zs}
 use Rattle.words.specs.Word.{unsignedOf, signedOf, word, wordOf, flat}
 use Rattle.words.specs.Signs.{signed-unsigned}
 use Rattle.plan.specs.Lists.{nat, int}
-use Rattle.plan.specs.Format.{M, sections, entrySizes, largestCounts, columnIn, planIn, Shaped}
+use Rattle.plan.specs.Format.{M, sections, entrySizes, largestCounts, columnOf, columnIn, planIn, Shaped}
 use Rattle.plan.specs.Tests.{counts}
 use Rattle.plan.specs.Rules.{Within, PlanRules}
 use Rattle.plan.specs.Unused.{PlanUnused}
@@ -54,7 +54,7 @@ module _ (p : Plan) (r : PlanRules p) (u : PlanUnused p) (s : Shaped p) where
       → length xs ≡ nat largestCounts k → ((i : ℕ) → nat (counts p) k ≤ i → getD xs i z ≡ z)
       → ((i : ℕ) → i < nat (counts p) k → decode (getD (entryWords p k i) c 0) ≡ getD xs i z)
       → columnIn z (λ part at. decode (word part at)) (encode p) k c ≡ xs
-  unfolding columnIn
+  unfolding columnOf columnIn
   column-back z decode k c xs h g l unused e =
       rw (count-back p r k h, section-back p r k h)
       (row-ext z (nat largestCounts k) (nat (counts p) k) _ (λ i. getD xs i z) entry

@@ -16,7 +16,7 @@ use Rattle.plan.specs.Lists.{nat, int, joined}
 use Rattle.plan.specs.Format.{M, sections}
 use Rattle.plan.specs.Tests.{counts}
 use Rattle.plan.specs.Rules.{Within, NodeRule, PlanRules}
-use Rattle.plan.specs.Encoding.{lengthOf, offsetOf, headerWords, integratorWords, inputWords, nodeWords, linkWords, commandWords}
+use Rattle.plan.specs.Encoding.{pairEntry, lengthOf, offsetOf, headerWords, integratorWords, inputWords, nodeWords, linkWords, commandWords}
 use Rattle.plan.specs.Encoding.{fileWords}
 use Rattle.plan.specs.Laws.Layout.{each-section, entryWords, sectionWords, wordsTo, words-to, file-most, offset-most}
 use Rattle.plan.specs.declared.Plan.{Plan}
@@ -52,7 +52,7 @@ signed-size z h = omega (arith, zs, neg (pos M), tight z, size-mag z)
 pub coefficient-within : {z : ℤ} → Within 16777216 z → Within M z
 coefficient-within h = omega (arith, zs, neg (pos 16777216), neg (pos M))
 
-quantum-within : {z : ℤ} → pos 1 ≤ℤ z → z ≤ℤ pos M → Within M z
+pub quantum-within : {z : ℤ} → pos 1 ≤ℤ z → z ≤ℤ pos M → Within M z
 quantum-within h l = omega (arith, zs, neg (pos M))
 
 signed-small : (z : ℤ) → Within M z → wordOf z < 2 ^ 32
@@ -77,8 +77,8 @@ module _ (p : Plan) (j : ℕ) (r : NodeRule p j) where
 -- ---- the words of each part
 module _ (p : Plan) (r : PlanRules p) where
   header-small : Small (headerWords p)
-  unfolding headerWords
-  header-small = (omega (arith, r .horizon), small-joined (λ k. offsetOf p k ∷ lengthOf p k ∷ []) sections pair)
+  unfolding headerWords offsetOf lengthOf
+  header-small = (omega (arith, r .horizon), small-joined (pairEntry (counts p)) sections pair)
     where
       pair : (k : ℕ) → k < sections → Small (offsetOf p k ∷ lengthOf p k ∷ [])
       pair k h = omega (arith, offset-most p k h, file-most p (r .counts))

@@ -19,7 +19,7 @@ use Rattle.plan.specs.Encoding.{lengthOf, offsetOf, headerWords, integra
 use Rattle.plan.specs.Encoding.{commandWords, encode}
 use Rattle.plan.specs.Laws.Answers.{counts-at}
 use Rattle.plan.specs.Laws.Joined.{joined-parts, flat-joined}
-use Rattle.plan.specs.Laws.Layout.{each-section, size-width, entryWords, sectionWords, wordsTo, length-entry, words-to}
+use Rattle.plan.specs.Laws.Layout.{offset-first, offset-next, each-section, size-width, entryWords, sectionWords, wordsTo, length-entry, words-to}
 use Rattle.plan.specs.Laws.Places.{column-at}
 use Rattle.plan.specs.Laws.Parts.{bytes-section, offsets, length-section-in, length-entries}
 
@@ -98,12 +98,11 @@ module _ (file : List ℕ) (b : Bytes file) (o : OffsetRule file) (z : SizeRule 
 
   -- ---- the header
   offset-in : (k : ℕ) → k < sections → offsetOf (planIn file) k ≡ offsetIn file k
-  unfolding offsetOf
-  offset-in zero h = sym (o .first)
-  offset-in (suc k) h = rw (offset-in k (omega arith), length-in k (omega arith)) (sym (o .next k h))
+  offset-in zero h = offset-first (planIn file) ∙ sym (o .first)
+  offset-in (suc k) h = rw (offset-next (planIn file) k, offset-in k (omega arith), length-in k (omega arith)) (sym (o .next k h))
 
   header-written : flat (headerWords (planIn file)) ≡ take headerLength file
-  unfolding headerWords flat planIn horizonIn offsetIn lengthIn
+  unfolding headerWords offsetOf lengthOf flat planIn horizonIn offsetIn lengthIn
   header-written = rw (bytes-number 4 0 b (omega (arith, long))) (joined-reads file pairs (λ k. 4 + 8 * k) sections b follows)
     where
       long : headerLength ≤ length file
@@ -120,11 +119,11 @@ module _ (file : List ℕ) (b : Bytes file) (o : OffsetRule file) (z : SizeRule 
 
   -- ---- the file
   pub file-back : encode (planIn file) ≡ file
-  unfolding encode wordsTo offsetOf sectionIn part
+  unfolding encode wordsTo sectionIn part
   file-back =
       let last : 4 < sections = omega arith in
-      let end : length file ≡ offsetOf (planIn file) sections = rw (offset-in 4 last, length-in 4 last) (o .last 4 refl) in
-      let all = joined-parts sectionBytes file (offsetOf (planIn file)) sections follows in
+      let end : length file ≡ offsetOf (planIn file) sections = rw (offset-next (planIn file) 4, offset-in 4 last, length-in 4 last) (o .last 4 refl) in
+      let all = rw (offset-first (planIn file)) at (joined-parts sectionBytes file (offsetOf (planIn file)) sections follows) in
       rw (words-to (planIn file), flat-append, flat-joined, header-written)
       (all ∙ take-all (offsetOf (planIn file) sections) file (omega arith))
     where
@@ -134,4 +133,5 @@ module _ (file : List ℕ) (b : Bytes file) (o : OffsetRule file) (z : SizeRule 
       follows : (k : ℕ) → k < sections
           → (offsetOf (planIn file) (suc k) ≡ offsetOf (planIn file) k + length (sectionBytes k))
           × (sectionBytes k ≡ take (length (sectionBytes k)) (drop (offsetOf (planIn file) k) file))
-      follows k h = rw (section-written k h, length-section-in file o k h, offset-in k h, length-in k h) (refl, refl)
+      follows k h =
+          rw (offset-next (planIn file) k, section-written k h, length-section-in file o k h, offset-in k h, length-in k h) (refl, refl)

@@ -4,7 +4,7 @@ use Prim.Native.Nat.{_-_, _≤_}
 use native.Mathlib.Omega.{arith}
 use denote.Ref.{now}
 use borrow.Author.Needs.{needs}
-use Rattle.planwriter.specs.Entries.{offsetFrom}
+use Rattle.plan.specs.Encoding.{offsetFrom}
 use Rattle.planwriter.specs.Header.{offset-none, offset-more, offset-limit, length-limit}
 use Rattle.planwriter.proofs.section_offset.Statement.{statement}
 use Rattle.planwriter.proofs.section_offset.Tie as tie

@@ -7,7 +7,7 @@ use borrow.Author.Needs.{needs}
 use Rattle.words.specs.Flat.{written-part}
 use Rattle.plan.specs.Lists.{joined}
 use Rattle.plan.specs.Format.{sections}
-use Rattle.planwriter.specs.Entries.{headerEntry}
+use Rattle.plan.specs.Encoding.{pairEntry}
 use Rattle.planwriter.specs.Writing.{begin, more}
 use Rattle.planwriter.proofs.write_header.Statement.{statement}
 use Rattle.planwriter.proofs.write_header.Tie as tie
@@ -39,7 +39,7 @@ returns c =
     let old = now (a .buf) in
     let first = more (begin old) (a .horizon) (horizon .write-u32 .ensures) .words in
     let h = start .pre .0 in
-    written-part (a .horizon ∷ []) (joined (headerEntry (now (a .counts))) sections) old 4 first refl (omega arith) (pairs .write-pairs .ensures)
+    written-part (a .horizon ∷ []) (joined (pairEntry (now (a .counts))) sections) old 4 first refl (omega arith) (pairs .write-pairs .ensures)
 
 pub write-header-spec : {M : Type 1} → statement M
 write-header-spec =

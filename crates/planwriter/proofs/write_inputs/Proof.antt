@@ -6,7 +6,7 @@ use native.Mathlib.Omega.{arith}
 use denote.Ref.{now}
 use borrow.Author.Needs.{needs}
 use Rattle.plan.specs.Lists.{joined}
-use Rattle.planwriter.specs.Entries.{inputEntry}
+use Rattle.plan.specs.Encoding.{inputEntry}
 use Rattle.planwriter.specs.Writing.{rd-at, rd-small, Begun, none, all, length-behind, entry}
 use Rattle.planwriter.proofs.write_inputs.Statement.{statement}
 use Rattle.planwriter.proofs.write_inputs.Tie as tie

@@ -6,7 +6,7 @@ use native.Mathlib.Omega.{arith}
 use denote.Ref.{now}
 use borrow.Author.Needs.{needs}
 use Rattle.plan.specs.Lists.{joined}
-use Rattle.planwriter.specs.Entries.{nodeEntry}
+use Rattle.plan.specs.Encoding.{nodeEntry}
 use Rattle.planwriter.specs.Writing.{rd-at, rd-small, Begun, none, all, length-behind, entry}
 use Rattle.planwriter.proofs.write_nodes.Statement.{statement}
 use Rattle.planwriter.proofs.write_nodes.Tie as tie

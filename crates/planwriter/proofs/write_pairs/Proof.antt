@@ -6,20 +6,20 @@ use denote.Ref.{now}
 use borrow.Author.Needs.{needs}
 use Rattle.plan.specs.Lists.{joined}
 use Rattle.plan.specs.Format.{sections}
-use Rattle.planwriter.specs.Entries.{headerEntry}
+use Rattle.plan.specs.Encoding.{pairEntry}
 use Rattle.planwriter.specs.Header.{offset-limit, length-limit}
 use Rattle.planwriter.specs.Writing.{Begun, none, all, length-behind, entry}
 use Rattle.planwriter.proofs.write_pairs.Statement.{statement}
 use Rattle.planwriter.proofs.write_pairs.Tie as tie
 
 abbrev Inv-loop : tie.InvT-loop
-Inv-loop buf₀ counts k₀ buf k = (k ≤ sections) × Begun (joined (headerEntry counts) k) buf₀ buf
+Inv-loop buf₀ counts k₀ buf k = (k ≤ sections) × Begun (joined (pairEntry counts) k) buf₀ buf
 
 abbrev μ-loop : tie.MeasureT-loop
 μ-loop buf₀ counts k₀ buf k = sections - k
 
 loop-holds : tie.Need-loop-holds Inv-loop μ-loop
-loop-holds c = let a = c .before .args in (omega arith, none (headerEntry (now (a .counts))) (now (a .buf)))
+loop-holds c = let a = c .before .args in (omega arith, none (pairEntry (now (a .counts))) (now (a .buf)))
 
 section-offset-requires : tie.Need-section-offset-requires Inv-loop μ-loop
 section-offset-requires c κs = (omega arith, c .before .before .before .pre .1)
@@ -63,7 +63,7 @@ loop-again c =
     let offset = done .before .before .before .section-offset .ensures in
     let size = done .before .before .section-length .ensures in
     let e = rw (offset, size) at (done .write-pair .ensures) in
-    let more = entry (headerEntry (now (a .counts))) 2 (λ _. refl) (now (a .buf)) (b .k) (8 * b .k) (b .inv .1) (omega arith) (omega arith) e in
+    let more = entry (pairEntry (now (a .counts))) 2 (λ _. refl) (now (a .buf)) (b .k) (8 * b .k) (b .inv .1) (omega arith) (omega arith) e in
     (omega arith, more)
 
 same-length : tie.Need-same-length Inv-loop μ-loop
@@ -73,7 +73,7 @@ returns : tie.Need-returns Inv-loop μ-loop
 returns c =
     let a = c .before .before .before .args in
     let b = c .before .loop in
-    all (headerEntry (now (a .counts))) (now (a .buf)) (b .inv .0) (c .loop-test .left) (b .inv .1)
+    all (pairEntry (now (a .counts))) (now (a .buf)) (b .inv .0) (c .loop-test .left) (b .inv .1)
 
 pub write-pairs-spec : {M : Type 1} → statement M
 write-pairs-spec =

@@ -2,7 +2,7 @@
 use mathlib.Core.Path.{refl, sym, _∙_}
 use Rattle.plan.specs.Format.{planIn}
 use Rattle.plan.specs.Tests.{counts}
-use Rattle.plan.specs.Encoding.{lengthOf, offsetOf, fileLength}
+use Rattle.plan.specs.Encoding.{offsetFrom, lengthOf, offsetOf, fileLength}
 use Rattle.plan.specs.Idle.{idlePlan}
 use Rattle.plan.specs.Laws.Answers.{accepted-rules}
 use Rattle.plan.specs.Laws.Entries.{file-unused}
@@ -23,7 +23,7 @@ load-sound file =
     load-either file Sound (λ yes. start-sound (planIn file) (accepted-rules file yes) (file-unused file)) idle-sound
 
 pub idle-loaded : IdleLoaded
-unfolding idleState counts lengthOf offsetOf fileLength
+unfolding idleState counts offsetFrom lengthOf offsetOf fileLength
 idle-loaded =
     record {
       start = refl;

@@ -1,12 +1,12 @@
--- `planfile::check_plan` meets its contract: where a check has found nothing, the plan's finding is that of the checks that are left.
--- Assumes nothing.
+-- Where a check has found nothing, the plan's finding is that of the checks that are left.
 use borrow.Author.Needs.{needs}
 use mathlib.Core.Path.{_≡_, refl, sym, _∙_}
 use native.Mathlib.Omega.{arith}
 use Rattle.plan.specs.Tests.{integratorKept, inputKept, nodeKept, linkLimits, linkOrdered, commandLimits, commandOrdered}
 use Rattle.plan.specs.Refusals.{horizonFinding, integratorsFinding, inputsFinding, nodesFinding, linksFinding, commandsFinding, planFinding}
+use Rattle.plan.specs.Refusals.{orElse}
 use Rattle.plan.specs.Laws.Counts.{Counts, counts-of}
-use Rattle.planrules.specs.Findings.{tried, refused, not-clean, from5, from6, from7, from8}
+use Rattle.planrules.specs.Findings.{tried, refused, not-clean, orElse-join, from5, from6}
 use Rattle.planrules.proofs.checks.check_plan.Statement.{statement}
 use Rattle.planrules.proofs.checks.check_plan.Tie as tie
 
@@ -22,10 +22,7 @@ abbrev back3 : tie.After-enum-told3 → tie.After-enum-told2
 back3 c = c .before .before .before .before .before
 
 abbrev back4 : tie.After-enum-told4 → tie.After-enum-told3
-back4 c = c .before .before .before .before .before .before .before .before .before
-
-abbrev back5 : tie.After-enum-told5 → tie.After-enum-told4
-back5 c = c .before .before .before .before .before .before .before
+back4 c = c .before .before .before .before .before .before .before .before .before .before .before .before
 
 abbrev start1 : tie.After-enum-told → tie.Start
 start1 c = c .before .before .before
@@ -39,9 +36,6 @@ start3 c = start2 (back3 c)
 abbrev start4 : tie.After-enum-told4 → tie.Start
 start4 c = start3 (back4 c)
 
-abbrev start5 : tie.After-enum-told5 → tie.Start
-start5 c = start4 (back5 c)
-
 -- the checks that are left there
 left1 : (c : tie.After-enum-told) → let p = start1 c .args .t1 in planFinding p ≡ from5 p
 unfolding planFinding horizonFinding
@@ -51,17 +45,16 @@ left2 : (c : tie.After-enum-told2) → let p = start2 c .args .t1 in planFinding
 unfolding integratorsFinding integratorKept
 left2 c = tried _ (left1 (back2 c)) (c .before .before .check-integrators .ensures) (c .enum-told2 .given .1)
 
-left3 : (c : tie.After-enum-told3) → let p = start3 c .args .t1 in planFinding p ≡ from7 p
+left3 : (c : tie.After-enum-told3) → let p = start3 c .args .t1 in planFinding p ≡ orElse (orElse (nodesFinding p) (linksFinding p)) (commandsFinding p)
 unfolding inputsFinding inputKept
-left3 c = tried _ (left2 (back3 c)) (c .before .before .check-inputs .ensures) (c .enum-told3 .given .1)
+left3 c =
+    let p = start3 c .args .t1 in
+    tried _ (left2 (back3 c)) (c .before .before .check-inputs .ensures) (c .enum-told3 .given .1)
+    ∙ orElse-join (nodesFinding p) (linksFinding p) (commandsFinding p)
 
-left4 : (c : tie.After-enum-told4) → let p = start4 c .args .t1 in planFinding p ≡ from8 p
-unfolding nodesFinding nodeKept
-left4 c = tried _ (left3 (back4 c)) (c .before .before .check-nodes .ensures) (c .enum-told4 .given .1)
-
-left5 : (c : tie.After-enum-told5) → let p = start5 c .args .t1 in planFinding p ≡ commandsFinding p
-unfolding linksFinding linkLimits linkOrdered
-left5 c = tried _ (left4 (back5 c)) (c .before .before .check-links .ensures) (c .enum-told5 .given .1)
+left4 : (c : tie.After-enum-told4) → let p = start4 c .args .t1 in planFinding p ≡ commandsFinding p
+unfolding nodesFinding nodeKept linksFinding linkLimits linkOrdered
+left4 c = tried _ (left3 (back4 c)) (c .before .before .check-nodes-and-links .ensures) (c .enum-told4 .given .1)
 
 check-horizon-requires : tie.Need-check-horizon-requires
 check-horizon-requires c κs = search needs
@@ -94,44 +87,25 @@ returns-3 : tie.Need-returns-3
 unfolding inputsFinding inputKept
 returns-3 c = refused _ (left2 (c .before .before .before .before)) (c .before .check-inputs .ensures) (not-clean _ (c .match3 .keys2))
 
-add-check-nodes : tie.Need-add-check-nodes
-add-check-nodes c = let l = limits (start3 c) in record { fits = omega arith }
-
-check-nodes-requires : tie.Need-check-nodes-requires
-check-nodes-requires c κs = let l = limits (start3 (c .before .before .before .before .before .before)) in (omega arith, l .k)
+check-nodes-and-links-requires : tie.Need-check-nodes-and-links-requires
+check-nodes-and-links-requires c κs =
+    let l = limits (start3 (c .before .before .before .before .before .before .before .before .before)) in (omega arith, l .k, l .links)
 
 enum-told-4 : tie.Need-enum-told-4
 enum-told-4 c = search needs
 
 returns-4 : tie.Need-returns-4
-unfolding nodesFinding nodeKept
+unfolding nodesFinding nodeKept linksFinding linkLimits linkOrdered
 returns-4 c =
-    refused _ (left3 (c .before .before .before .before .before .before .before .before)) (c .before .check-nodes .ensures)
-    (not-clean _ (c .match4 .keys2))
-
-add-check-links : tie.Need-add-check-links
-add-check-links c = let l = limits (start4 c) in record { fits = omega arith }
-
-add-check-links-2 : tie.Need-add-check-links-2
-add-check-links-2 c = let l = limits (start4 c) in record { fits = omega arith }
-
-check-links-requires : tie.Need-check-links-requires
-check-links-requires c κs = limits (start4 (c .before .before .before .before)) .links
-
-enum-told-5 : tie.Need-enum-told-5
-enum-told-5 c = search needs
-
-returns-5 : tie.Need-returns-5
-unfolding linksFinding linkLimits linkOrdered
-returns-5 c =
-    refused _ (left4 (c .before .before .before .before .before .before)) (c .before .check-links .ensures) (not-clean _ (c .match5 .keys2))
+    refused _ (left3 (c .before .before .before .before .before .before .before .before .before .before .before))
+    (c .before .check-nodes-and-links .ensures) (not-clean _ (c .match4 .keys2))
 
 check-commands-requires : tie.Need-check-commands-requires
-check-commands-requires c κs = limits (start5 (c .before .before .before .before)) .commands
+check-commands-requires c κs = limits (start4 (c .before .before .before .before)) .commands
 
-returns-6 : tie.Need-returns-6
+returns-5 : tie.Need-returns-5
 unfolding commandsFinding commandLimits commandOrdered
-returns-6 c = c .check-commands .ensures ∙ sym (left5 (c .before .before .before .before .before))
+returns-5 c = c .check-commands .ensures ∙ sym (left4 (c .before .before .before .before .before))
 
 pub check-plan-spec : {M : Type 1} → statement M
 check-plan-spec =
@@ -146,14 +120,8 @@ check-plan-spec =
     check-inputs-requires
     enum-told-3
     returns-3
-    add-check-nodes
-    check-nodes-requires
+    check-nodes-and-links-requires
     enum-told-4
     returns-4
-    add-check-links
-    add-check-links-2
-    check-links-requires
-    enum-told-5
-    returns-5
     check-commands-requires
-    returns-6)
+    returns-5)

@@ -1,0 +1,93 @@
+//! What a campaign has met.
+
+use cup_check::file::{Cause, Refusal};
+use cup_check::generate::Origin;
+use cup_check::plan::Plan;
+use std::collections::BTreeMap;
+use std::fmt;
+
+/// How often each answer has to be met.
+const ENOUGH: u64 = 100;
+
+/// Counts of files and of answers.
+#[derive(Clone, Debug, Default)]
+pub struct Met {
+    /// Files compared.
+    pub files: u64,
+    /// Bytes of the longest.
+    pub longest: usize,
+    /// How the files came about.
+    pub origins: BTreeMap<Origin, u64>,
+    /// How often each number 0 to 9 was the reader's answer.
+    pub numbers: [u64; 10],
+    /// How often each cause was the second simulator's.
+    pub causes: BTreeMap<Cause, u64>,
+    /// Faults at an entry above 0.
+    pub later_entries: u64,
+    /// Section views that were not empty.
+    pub parts: u64,
+    /// How often each number 0 to 13 was the answer to rewriting.
+    pub rewritten: [u64; 14],
+}
+
+impl Met {
+    /// Counts a file by what the second simulator says of it.
+    pub fn count(&mut self, origin: Origin, file: &[u8], read: &Result<Plan, Refusal>) {
+        self.files += 1;
+        self.longest = self.longest.max(file.len());
+        *self.origins.entry(origin).or_default() += 1;
+        match read {
+            Ok(_) => self.numbers[0] += 1,
+            Err(refusal) => {
+                self.numbers[refusal.number() as usize] += 1;
+                *self.causes.entry(refusal.cause).or_default() += 1;
+                self.later_entries += u64::from(refusal.entry > 0);
+            }
+        }
+    }
+
+    /// The answers that were met too seldom to count as compared.
+    pub fn thin(&self) -> Vec<String> {
+        let numbers = (0..).zip(self.numbers);
+        let numbers = numbers.map(|(number, count)| (format!("number {number}"), count));
+        let causes = Cause::ALL.map(|cause| (format!("{cause:?}"), self.of_cause(cause)));
+        let others = [
+            ("rewritten".to_string(), self.rewritten[0]),
+            ("buffers too short".to_string(), self.rewritten[13]),
+            ("parts".to_string(), self.parts),
+            ("later entries".to_string(), self.later_entries),
+        ];
+        let all = numbers.chain(causes).chain(others);
+        all.filter(|(_, count)| *count < ENOUGH)
+            .map(|(what, count)| format!("{what}: {count}"))
+            .collect()
+    }
+
+    fn of_cause(&self, cause: Cause) -> u64 {
+        self.causes.get(&cause).copied().unwrap_or(0)
+    }
+}
+
+impl fmt::Display for Met {
+    fn fmt(&self, out: &mut fmt::Formatter) -> fmt::Result {
+        let (files, longest) = (self.files, self.longest);
+        writeln!(out, "campaign: {files} files of up to {longest} bytes")?;
+        for (number, count) in self.numbers.iter().enumerate() {
+            write!(out, "  number {number}: {count}")?;
+            let causes = Cause::ALL.into_iter();
+            for cause in causes.filter(|cause| cause.number() as usize == number) {
+                write!(out, ", {cause:?} {}", self.of_cause(cause))?;
+            }
+            writeln!(out)?;
+        }
+        writeln!(out, "  faults at an entry above 0: {}", self.later_entries)?;
+        writeln!(out, "  section views not empty: {}", self.parts)?;
+        let refused: u64 = self.rewritten[1..10].iter().sum();
+        writeln!(
+            out,
+            "  rewriting: {} written, {} into a buffer too short, {refused} of refused files",
+            self.rewritten[0], self.rewritten[13]
+        )?;
+        writeln!(out, "  how the files came about: {:?}", self.origins)
+    }
+}

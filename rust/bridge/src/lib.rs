@@ -1,0 +1,110 @@
+//! The proved calls for Rust: the reader of plan files, the section view and the plan writer.
+//!
+//! The functions come from the library that `rt staticlib exports` makes of the proved crates. Only
+//! this file has unsafe code: what the C functions ask of their pointers is what references and
+//! slices give. [`campaign`] compares the calls with the second simulator.
+
+#![deny(unsafe_code)]
+#![warn(missing_docs)]
+
+pub mod campaign;
+
+/// The functions of include/cup.h.
+#[allow(unsafe_code)]
+mod exports {
+    extern "C" {
+        pub fn cup_read(file: *const u8, file_length: usize, entry: *mut usize) -> usize;
+        pub fn cup_section(
+            file: *const u8,
+            file_length: usize,
+            number: usize,
+            offset: *mut usize,
+        ) -> usize;
+        pub fn cup_rewrite(
+            file: *const u8,
+            file_length: usize,
+            buffer: *mut u8,
+            buffer_length: usize,
+            length: *mut usize,
+        ) -> usize;
+    }
+}
+
+/// What the reader answers.
+#[derive(Clone, Copy, Debug, PartialEq, Eq)]
+pub struct Answer {
+    /// Document 01's number: 0 for an accepted file, else 1 to 9.
+    pub number: usize,
+    /// The lowest faulty entry, 0 for the numbers 0 to 4.
+    pub entry: usize,
+}
+
+/// What rewriting a plan file answers.
+#[derive(Clone, Copy, Debug, PartialEq, Eq)]
+pub struct Rewritten {
+    /// 0, the reader's number 1 to 9, or 13 for a buffer shorter than the file.
+    pub number: usize,
+    /// Bytes written from the buffer's start, 0 if the number is not 0.
+    pub length: usize,
+}
+
+/// Reads a plan file.
+#[allow(unsafe_code)]
+pub fn read(file: &[u8]) -> Answer {
+    let mut entry = 0;
+    // SAFETY: the slice is readable for its length, and the word is this function's own.
+    let number = unsafe { exports::cup_read(file.as_ptr(), file.len(), &mut entry) };
+    Answer { number, entry }
+}
+
+/// The section view: the part of the file with this number, 0 to 4; an empty part if the file would
+/// be refused or the number is above 4.
+#[allow(unsafe_code)]
+pub fn section(file: &[u8], number: usize) -> &[u8] {
+    let mut offset = 0;
+    // SAFETY: the slice is readable for its length, and the word is this function's own.
+    let length = unsafe { exports::cup_section(file.as_ptr(), file.len(), number, &mut offset) };
+    // Slicing tests that the part lies in the file.
+    &file[offset..][..length]
+}
+
+/// Reads a plan file and writes its plan from the buffer's start; later bytes keep their value, and
+/// all do if the number is not 0.
+#[allow(unsafe_code)]
+pub fn rewrite(file: &[u8], buffer: &mut [u8]) -> Rewritten {
+    let mut length = 0;
+    // SAFETY: both slices are valid for their lengths and share no byte, since one of them is
+    // borrowed mutably; the word is this function's own.
+    let number = unsafe {
+        exports::cup_rewrite(
+            file.as_ptr(),
+            file.len(),
+            buffer.as_mut_ptr(),
+            buffer.len(),
+            &mut length,
+        )
+    };
+    Rewritten { number, length }
+}
+
+/// What a number of document 01 means, in the words of the repository's README.
+pub fn meaning(number: usize) -> &'static str {
+    match number {
+        0 => "accepted",
+        1 => "the file is shorter than 44 bytes",
+        2 => "a pair breaks the offset rule, or the file does not end with its last section",
+        3 => "a section is no whole number of entries, or has too few or too many",
+        4 => "the horizon is outside its limits",
+        5 => "an integrator's start or quantum is outside its limits",
+        6 => "an input's first value is outside its limits",
+        7 => "a node has a kind above 3, names a source that is not below it, or breaks its kind's rule for B, lo and hi",
+        8 => "a link's target, source or coefficient is outside its limits, or it does not stand above its predecessor",
+        9 => "a command's tick, input or value is outside its limits, or it does not stand above its predecessor",
+        10 => "the state is not sound",
+        11 => "a run's budget is above 1,024",
+        12 => "a run's buffer is shorter than budget × (n + m) × 12 bytes",
+        13 => "the plan writer's buffer is shorter than the file",
+        14 => "the position call's integrator number is n or more",
+        _ => "no number of document 01",
+    }
+}

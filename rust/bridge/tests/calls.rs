@@ -1,0 +1,90 @@
+//! The proved calls from Rust, with answers that are known.
+
+use cup_bridge::{meaning, read, rewrite, section, Answer, Rewritten};
+use cup_check::samples;
+use std::fs;
+use std::path::Path;
+
+fn kept(place: &str) -> Vec<u8> {
+    let path = Path::new(env!("CARGO_MANIFEST_DIR"))
+        .join("../..")
+        .join(place);
+    fs::read(&path).unwrap_or_else(|error| panic!("{}: {error}", path.display()))
+}
+
+fn answer(number: usize, entry: usize) -> Answer {
+    Answer { number, entry }
+}
+
+#[test]
+fn the_samples_are_read() {
+    for sample in samples::all() {
+        let expected = match sample.name {
+            "refused" => answer(8, 4),
+            _ => answer(0, 0),
+        };
+        assert_eq!(read(&sample.file), expected, "{}", sample.name);
+    }
+    assert_eq!(read(&[]), answer(1, 0));
+    assert_eq!(read(&[0; 43]), answer(1, 0));
+    assert_eq!(read(&[0; 44]), answer(2, 0));
+}
+
+/// Document 01: "Pairs: (44,16) (60,4) (64,0) (64,24) (88,12)".
+#[test]
+fn a_section_is_a_part_of_the_callers_file() {
+    let file = kept("plans/sample.plan");
+    for (number, (offset, length)) in [(44, 16), (60, 4), (64, 0), (64, 24), (88, 12)]
+        .into_iter()
+        .enumerate()
+    {
+        let part = section(&file, number);
+        assert_eq!(part, &file[offset..offset + length]);
+        assert!(part.is_empty() || part.as_ptr() == file[offset..].as_ptr());
+    }
+    for number in [5, 1 << 32, usize::MAX] {
+        assert!(section(&file, number).is_empty());
+    }
+    assert!(section(&kept("plans/refused.plan"), 0).is_empty());
+}
+
+#[test]
+fn a_plan_is_rewritten() {
+    let file = kept("plans/full.plan");
+    let mut buffer = vec![7; file.len() + 3];
+    let whole = Rewritten {
+        number: 0,
+        length: file.len(),
+    };
+    assert_eq!(rewrite(&file, &mut buffer), whole);
+    assert_eq!(&buffer[..file.len()], file);
+    assert_eq!(&buffer[file.len()..], [7, 7, 7]);
+    let mut short = vec![7; file.len() - 1];
+    let declined = Rewritten {
+        number: 13,
+        length: 0,
+    };
+    assert_eq!(rewrite(&file, &mut short), declined);
+    assert!(short.iter().all(|&byte| byte == 7));
+}
+
+/// The table in the repository's README has the same words.
+#[test]
+fn every_number_means_what_the_readme_says() {
+    let readme = String::from_utf8(kept("README.md")).expect("text");
+    let (_, table) = readme
+        .split_once("## What each refusal means")
+        .expect("the table of refusals");
+    let rows = table
+        .lines()
+        .map(|line| line.split('|').map(str::trim).collect::<Vec<_>>());
+    let mut next = 0;
+    for row in rows.filter(|row| row.len() == 5) {
+        if row[1].parse() == Ok(next) {
+            assert_eq!(meaning(next), row[2], "{next}");
+            next += 1;
+        }
+    }
+    assert_eq!(next, 15);
+    assert_eq!(meaning(15), meaning(usize::MAX));
+}

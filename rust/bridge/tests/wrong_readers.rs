@@ -1,0 +1,136 @@
+//! The campaign can fail: it finds every slip of the second simulator, and every fault of the calls.
+
+use cup_bridge::campaign::{Archive, Campaign, Reader};
+use cup_bridge::{Answer, Rewritten};
+use cup_check::file::read::split;
+use cup_check::file::Slip;
+
+/// Enough for all files next to samples and some thousand random ones.
+const FILES: u64 = 45_000;
+
+fn first_difference(reader: &dyn Reader, slip: Slip) -> Option<String> {
+    let campaign = Campaign {
+        files: FILES,
+        seed: 1,
+        slip,
+    };
+    let differences = campaign.run(reader).differences;
+    let first = differences.into_iter().next()?;
+    // Without the file's bytes.
+    let (file, rest) = first.split_once(", ")?;
+    let (_, difference) = rest.split_once("): ")?;
+    Some(format!("{file}): {difference}"))
+}
+
+#[test]
+fn without_a_slip_the_same_files_agree() {
+    assert_eq!(first_difference(&Archive, Slip::None), None);
+}
+
+#[test]
+fn every_slip_is_found() {
+    for slip in Slip::ALL {
+        let found = first_difference(&Archive, slip);
+        println!("{slip:?}: {found:?}");
+        assert!(found.is_some(), "{slip:?} was not found");
+    }
+}
+
+#[test]
+fn every_slip_has_a_name() {
+    for slip in Slip::ALL.into_iter().chain([Slip::None]) {
+        assert_eq!(Slip::named(&format!("{slip:?}")), Some(slip));
+    }
+    assert_eq!(Slip::named("none"), None);
+}
+
+/// The proved calls with one fault.
+#[derive(Clone, Copy, Debug)]
+enum Fault {
+    EntryOneHigher,
+    EntryOfWholeFile,
+    SectionShifted,
+    SectionOneEntryShort,
+    EmptySectionAtItsPlace,
+    SectionOfRefused,
+    SectionAboveFour,
+    SectionNumberIn32Bits,
+    LastByteUnwritten,
+    ByteBehindTouched,
+    ShortBufferTouched,
+    OneByteShortAccepted,
+    ShortBeforeRefused,
+    LengthOfShort,
+}
+
+const FAULTS: [Fault; 14] = [
+    Fault::EntryOneHigher,
+    Fault::EntryOfWholeFile,
+    Fault::SectionShifted,
+    Fault::SectionOneEntryShort,
+    Fault::EmptySectionAtItsPlace,
+    Fault::SectionOfRefused,
+    Fault::SectionAboveFour,
+    Fault::SectionNumberIn32Bits,
+    Fault::LastByteUnwritten,
+    Fault::ByteBehindTouched,
+    Fault::ShortBufferTouched,
+    Fault::OneByteShortAccepted,
+    Fault::ShortBeforeRefused,
+    Fault::LengthOfShort,
+];
+
+impl Reader for Fault {
+    fn read(&self, file: &[u8]) -> Answer {
+        let mut answer = Archive.read(file);
+        match self {
+            Fault::EntryOneHigher if answer.number == 9 => answer.entry += 1,
+            Fault::EntryOfWholeFile if answer.number == 3 => answer.entry = 1,
+            _ => (),
+        }
+        answer
+    }
+
+    fn section<'f>(&self, file: &'f [u8], number: usize) -> &'f [u8] {
+        let part = Archive.section(file, number);
+        let at = part.as_ptr() as usize - file.as_ptr() as usize;
+        match self {
+            Fault::SectionShifted if !part.is_empty() => &file[at - 1..][..part.len()],
+            Fault::SectionOneEntryShort if number == 3 => &part[part.len().min(12)..],
+            Fault::EmptySectionAtItsPlace if part.is_empty() => &file[file.len()..],
+            Fault::SectionOfRefused if number < 5 => split(file).map_or(part, |all| all[number]),
+            Fault::SectionAboveFour => Archive.section(file, number.min(4)),
+            Fault::SectionNumberIn32Bits => Archive.section(file, number as u32 as usize),
+            _ => part,
+        }
+    }
+
+    fn rewrite(&self, file: &[u8], buffer: &mut [u8]) -> Rewritten {
+        let before = buffer.to_vec();
+        let mut answer = Archive.rewrite(file, buffer);
+        let (number, length) = (answer.number, answer.length);
+        match self {
+            Fault::LastByteUnwritten if number == 0 => buffer[length - 1] = before[length - 1],
+            Fault::ByteBehindTouched if number == 0 && length < before.len() => buffer[length] ^= 1,
+            Fault::ShortBufferTouched if number == 13 => {
+                buffer.copy_from_slice(&file[..before.len()]);
+            }
+            Fault::OneByteShortAccepted if number == 13 && before.len() + 1 == file.len() => {
+                answer.number = 0;
+            }
+            Fault::ShortBeforeRefused if before.len() < file.len() => answer.number = 13,
+            Fault::LengthOfShort if number == 13 => answer.length = file.len(),
+            _ => (),
+        }
+        answer
+    }
+}
+
+#[test]
+fn every_fault_of_the_calls_is_found() {
+    for fault in FAULTS {
+        let found = first_difference(&fault, Slip::None);
+        println!("{fault:?}: {found:?}");
+        assert!(found.is_some(), "{fault:?} was not found");
+    }
+}

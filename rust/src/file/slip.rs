@@ -1,0 +1,150 @@
+//! Readers that are wrong in one rule each, to show that a comparison notices.
+
+use super::cause::Cause;
+use super::reading::Reading;
+use crate::limits::Section;
+use crate::plan::{Plan, LIMIT, THRESHOLD};
+use std::cmp::Ordering;
+
+/// One exchanged rule of the reader, or none.
+#[derive(Clone, Copy, Debug, Default, PartialEq, Eq)]
+pub enum Slip {
+    /// Document 01 as it stands.
+    #[default]
+    None,
+    /// Offset and length are added in 32 bits, so that a sum may wrap.
+    SumIn32Bits,
+    /// Bytes after the last section are accepted.
+    EndIgnored,
+    /// A section may have one entry more than its limit.
+    OneEntryMore,
+    /// The horizon is tried before the counts.
+    HorizonBeforeCounts,
+    /// The links are tried before the nodes.
+    NodesAfterLinks,
+    /// The highest faulty entry is answered.
+    HighestEntry,
+    /// An order fault is the earlier entry's.
+    EarlierEntry,
+    /// The order of a section is tried after the limits of all its entries.
+    OrderAfterLimits,
+    /// An entry may have the key of the entry before it.
+    RepeatAllowed,
+    /// A value at its bound is beyond it.
+    BoundExcluded,
+    /// A node may name itself.
+    NodeNamesItself,
+    /// B of kind 2 may name a source.
+    UnusedBNames,
+    /// Kind 3 asks lo ≤ hi as well.
+    KindThreeOrdered,
+    /// Links may name integrators and inputs only.
+    LinksNameNoNode,
+    /// A command's tick must be below the horizon.
+    TickBelowHorizon,
+}
+
+impl Slip {
+    /// Every slip.
+    pub const ALL: [Slip; 15] = [
+        Slip::SumIn32Bits,
+        Slip::EndIgnored,
+        Slip::OneEntryMore,
+        Slip::HorizonBeforeCounts,
+        Slip::NodesAfterLinks,
+        Slip::HighestEntry,
+        Slip::EarlierEntry,
+        Slip::OrderAfterLimits,
+        Slip::RepeatAllowed,
+        Slip::BoundExcluded,
+        Slip::NodeNamesItself,
+        Slip::UnusedBNames,
+        Slip::KindThreeOrdered,
+        Slip::LinksNameNoNode,
+        Slip::TickBelowHorizon,
+    ];
+
+    /// The slip that is written so; "None" is none.
+    pub fn named(name: &str) -> Option<Slip> {
+        let mut all = Slip::ALL.into_iter().chain([Slip::None]);
+        all.find(|slip| format!("{slip:?}") == name)
+    }
+
+    /// Document 01 with this one rule exchanged.
+    pub fn reading(self) -> Reading {
+        let right = Reading::DOCUMENT;
+        match self {
+            Slip::None => right,
+            Slip::SumIn32Bits => Reading {
+                end: |offset, length| u64::from((offset + length) as u32),
+                ..right
+            },
+            Slip::EndIgnored => Reading {
+                ends_file: |end, file_length| end <= file_length,
+                ..right
+            },
+            Slip::OneEntryMore => Reading {
+                most: |section: Section| section.most() + 1,
+                ..right
+            },
+            Slip::HorizonBeforeCounts => Reading {
+                counts_first: false,
+                ..right
+            },
+            Slip::NodesAfterLinks => Reading {
+                order: [4, 5, 6, 8, 7, 9],
+                ..right
+            },
+            Slip::HighestEntry => Reading {
+                answered: |faults| faults.next_back(),
+                ..right
+            },
+            Slip::EarlierEntry => Reading {
+                entry: earlier_entry,
+                ..right
+            },
+            Slip::OrderAfterLimits => Reading {
+                order_with_limits: false,
+                ..right
+            },
+            Slip::RepeatAllowed => Reading {
+                may_follow: |before| before != Ordering::Greater,
+                ..right
+            },
+            Slip::BoundExcluded => Reading {
+                beyond: |value, bound| value.abs() >= bound,
+                ..right
+            },
+            Slip::NodeNamesItself => Reading {
+                node_names: |source| source + 1,
+                ..right
+            },
+            Slip::UnusedBNames => Reading {
+                node_b: |node, places| (node.b >= places).then_some(Cause::BOutOfPlace),
+                ..right
+            },
+            Slip::KindThreeOrdered => Reading {
+                limits_ordered: |kind| kind == LIMIT || kind == THRESHOLD,
+                ..right
+            },
+            Slip::LinksNameNoNode => Reading {
+                link_names: |plan: &Plan| plan.node_source(0),
+                ..right
+            },
+            Slip::TickBelowHorizon => Reading {
+                last_tick: |horizon| horizon - 1,
+                ..right
+            },
+        }
+    }
+}
+
+fn earlier_entry(cause: Cause, found_at: usize) -> usize {
+    match cause {
+        Cause::LinkRepeats
+        | Cause::LinkDescends
+        | Cause::CommandRepeats
+        | Cause::CommandDescends => found_at - 1,
+        _ => found_at,
+    }
+}

@@ -1,0 +1,180 @@
+//! Files for comparing two readers, of every sort: lawful, with planted faults, damaged, loose and
+//! large.
+
+use super::damage::{boundary_word, boundary_words, damaged, noise};
+use super::plans;
+use super::plant::{in_file, in_plan, planted, twice_in_one_entry};
+use super::rng::Rng;
+use super::Damage;
+use crate::file::layout::{assemble, section_bytes};
+use crate::file::{encode, Cause};
+use crate::limits::{Section, HORIZON_MAX, WORD_BYTES};
+use crate::plan::Plan;
+use crate::words::set_word;
+
+/// How a file comes about.
+#[derive(Clone, Copy, Debug, PartialEq, Eq, PartialOrd, Ord)]
+pub enum Origin {
+    /// The file of a lawful plan.
+    Lawful,
+    /// One planted fault.
+    OneFault,
+    /// Two planted faults, often in one section.
+    TwoFaults,
+    /// An order fault and a number beyond its limit at one entry.
+    TwiceInOneEntry,
+    /// A faulty entry in a file that is faulty as a whole.
+    FaultyFileAndEntry,
+    /// Damage in one to three ways.
+    Damaged,
+    /// Pairs that keep the offset rule only if sums wrap at 32 bits.
+    WrappedSums,
+    /// Pairs in order over sections of any length, filled with small and boundary words.
+    Loose,
+    /// Random bytes, often fewer than a header.
+    Noise,
+    /// Up to [`LARGE_BYTES`] more than a plan needs.
+    Large,
+    /// One step away from a sample, every such step in turn.
+    NextToSample,
+}
+
+/// How far large files go beyond the longest plan.
+pub const LARGE_BYTES: usize = 100_000;
+
+/// Of a hundred random files, how many come about in each way.
+const SHARES: [(Origin, usize); 10] = [
+    (Origin::Lawful, 16),
+    (Origin::OneFault, 25),
+    (Origin::TwoFaults, 16),
+    (Origin::TwiceInOneEntry, 4),
+    (Origin::FaultyFileAndEntry, 4),
+    (Origin::Damaged, 20),
+    (Origin::WrappedSums, 5),
+    (Origin::Loose, 5),
+    (Origin::Noise, 4),
+    (Origin::Large, 1),
+];
+
+/// A random file and how it came about.
+pub fn any(rng: &mut Rng) -> (Origin, Vec<u8>) {
+    let mut place = rng.below(SHARES.iter().map(|(_, share)| share).sum());
+    for (origin, share) in SHARES {
+        if place < share {
+            return (origin, file(rng, origin));
+        }
+        place -= share;
+    }
+    unreachable!("the place is below the sum")
+}
+
+fn file(rng: &mut Rng, origin: Origin) -> Vec<u8> {
+    let mut plan = plans::any(rng);
+    match origin {
+        Origin::OneFault => return one_fault(rng, plan),
+        Origin::TwoFaults => two_faults(rng, &mut plan),
+        // Where a plan has no entry for the fault, its file is a lawful one.
+        Origin::TwiceInOneEntry => _ = twice_in_one_entry(rng, &mut plan),
+        Origin::FaultyFileAndEntry => {
+            let (entry_cause, cause) = (cause_of(rng, 4..=9), cause_of(rng, 1..=3));
+            in_plan(rng, &mut plan, entry_cause);
+            return in_file(rng, &plan, cause);
+        }
+        Origin::Damaged => return damaged(rng, &encode(&plan)),
+        Origin::WrappedSums => return Damage::WrapSums.apply(rng, &encode(&plan)),
+        Origin::Loose => return loose(rng),
+        Origin::Noise => {
+            let most = rng.pick(&[0, 50, 50, 5_000]);
+            return noise(rng, most);
+        }
+        Origin::Large => return large(rng, &plan),
+        Origin::Lawful | Origin::NextToSample => (),
+    }
+    encode(&plan)
+}
+
+fn cause_of(rng: &mut Rng, numbers: std::ops::RangeInclusive<u32>) -> Cause {
+    let all = Cause::ALL.into_iter();
+    let fitting: Vec<Cause> = all.filter(|c| numbers.contains(&c.number())).collect();
+    rng.pick(&fitting)
+}
+
+/// Every cause is as likely as any other; a plan that has no entry for it makes way for another.
+fn one_fault(rng: &mut Rng, mut plan: Plan) -> Vec<u8> {
+    let cause = rng.pick(&Cause::ALL);
+    loop {
+        if let Some(planted) = planted(rng, &plan, cause) {
+            return planted.file;
+        }
+        plan = plans::any(rng);
+    }
+}
+
+fn two_faults(rng: &mut Rng, plan: &mut Plan) {
+    let first = cause_of(rng, 4..=9);
+    let second = match rng.once_in(2) {
+        true => cause_of(rng, first.number()..=first.number()),
+        false => cause_of(rng, 4..=9),
+    };
+    in_plan(rng, plan, first);
+    in_plan(rng, plan, second);
+}
+
+fn loose(rng: &mut Rng) -> Vec<u8> {
+    let horizon = rng.pick(&[0, 1, 100, 100, 100, HORIZON_MAX, HORIZON_MAX + 1]);
+    let sections = Section::ALL.map(|section| {
+        // Often few entries, so that the sections after it are reached too.
+        let most = rng.pick(&[1, 2, section.most() + 1]);
+        let entries = rng.within(section.least() as i64, most as i64) as usize;
+        let words = entries * section.entry_bytes() / WORD_BYTES;
+        let mut bytes: Vec<u8> = (0..words).flat_map(|_| loose_word(rng)).collect();
+        if rng.once_in(20) {
+            bytes.extend(noise(rng, section.entry_bytes()));
+        }
+        bytes
+    });
+    assemble(horizon, &sections)
+}
+
+fn loose_word(rng: &mut Rng) -> [u8; WORD_BYTES] {
+    let word = match rng.once_in(4) {
+        true => boundary_word(rng, 0),
+        false => rng.below(4) as u32,
+    };
+    word.to_le_bytes()
+}
+
+fn large(rng: &mut Rng, plan: &Plan) -> Vec<u8> {
+    let more = noise(rng, LARGE_BYTES);
+    let mut sections = section_bytes(plan);
+    let section = rng.pick(&Section::ALL);
+    let size = section.entry_bytes();
+    let grown = &mut sections[section as usize];
+    match rng.below(4) {
+        0 => return more,
+        1 => return [encode(plan), more].concat(),
+        2 => grown.extend(&more),
+        _ => grown.extend(&more[..more.len() / size * size]),
+    }
+    assemble(plan.horizon, &sections)
+}
+
+/// Every file one step away from a file: each beginning of it, each of its bits turned, each of its
+/// words replaced by each bound and its neighbours.
+pub fn next_to(file: &[u8]) -> Vec<Vec<u8>> {
+    let cut = (0..file.len()).map(|length| file[..length].to_vec());
+    let turned = (0..8 * file.len()).map(|bit| {
+        let mut next = file.to_vec();
+        next[bit / 8] ^= 1 << (bit % 8);
+        next
+    });
+    let bounds = boundary_words();
+    let replaced = (0..file.len() / WORD_BYTES).flat_map(|word| {
+        bounds.iter().map(move |&bound| {
+            let mut next = file.to_vec();
+            set_word(&mut next, word * WORD_BYTES, bound);
+            next
+        })
+    });
+    cut.chain(turned).chain(replaced).collect()
+}
