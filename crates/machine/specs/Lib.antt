@@ -12,4 +12,3 @@ pub mod Updates
 pub mod Sound
 pub mod SoundTest
 pub mod Laws
-pub mod Examples

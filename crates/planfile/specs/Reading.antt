@@ -24,7 +24,8 @@ module _ (file : List ℕ) {finding : Finding} (e : finding ≡ findingOf file) 
   unfolding readingOf accepted
   reading-refused k = rw (← e, k)
 
-  pub reading-accepted : {plan : Plan} → finding ≡ Clean → plan ≡ planIn file → _≡_ {A = Reading} (record { finding = Clean; plan = plan }) (readingOf file)
+  pub reading-accepted : {plan : Plan} → finding ≡ Clean → plan ≡ planIn file
+      → _≡_ {A = Reading} (record { finding = Clean; plan = plan }) (readingOf file)
   unfolding readingOf accepted isClean numberOf
   reading-accepted c p = rw (← e, c, p)
 

@@ -20,7 +20,7 @@ use crate::layout::counts_kept;
 use plan::Finding;
 use plan::Plan;
 
-pub fn check_horizon(horizon: u32) -> Finding
+fn check_horizon(horizon: u32) -> Finding
     ensures { λ r. ⌜ r ≡ unless (horizonKept horizon) Horizon ⌝ }
 {
     if horizon_kept(horizon) {
@@ -30,7 +30,7 @@ pub fn check_horizon(horizon: u32) -> Finding
     }
 }
 
-pub fn check_integrators<'a>(n: usize, starts: &'a [i64; 32], quanta: &'a [i64; 32]) -> Finding
+fn check_integrators<'a>(n: usize, starts: &'a [i64; 32], quanta: &'a [i64; 32]) -> Finding
     requires { ⌜ n ≤ 32 ⌝ }
     ensures { λ r. ⌜ r ≡ integratorsCheck n (now (starts .entry)) (now (quanta .entry)) ⌝ }
 {
@@ -44,7 +44,7 @@ pub fn check_integrators<'a>(n: usize, starts: &'a [i64; 32], quanta: &'a [i64; 
     Finding::Clean
 }
 
-pub fn check_inputs(m: usize, firsts: &[i64; 8]) -> Finding
+fn check_inputs(m: usize, firsts: &[i64; 8]) -> Finding
     requires { ⌜ m ≤ 8 ⌝ }
     ensures { λ r. ⌜ r ≡ inputsCheck m (now (firsts .entry)) ⌝ }
 {
@@ -59,7 +59,7 @@ pub fn check_inputs(m: usize, firsts: &[i64; 8]) -> Finding
 }
 
 // `base` is n + m, the source number of node 0.
-pub fn check_nodes<'a>(
+fn check_nodes<'a>(
     base: usize,
     k: usize,
     kinds: &'a [usize; 16],
@@ -82,7 +82,7 @@ pub fn check_nodes<'a>(
 }
 
 // `all` is n + m + k, the number of sources.
-pub fn check_links<'a>(
+fn check_links<'a>(
     n: usize,
     all: usize,
     links: usize,
@@ -134,7 +134,7 @@ fn check_nodes_and_links<'a>(
     check_links(n, all, links, targets, sources, coefficients)
 }
 
-pub fn check_commands<'a>(
+fn check_commands<'a>(
     horizon: u32,
     m: usize,
     commands: usize,

@@ -1,3 +1,4 @@
+-- Number and entry are those of the finding that the reading has.
 use mathlib.Core.Path.{ap, _∙_}
 use denote.Ref.{now}
 use Rattle.plan.specs.Refusals.{numberOf, entryOf}
@@ -6,19 +7,15 @@ use borrow.Author.Needs.{needs}
 use Rattle.exports.proofs.cup_read.Statement.{statement}
 use Rattle.exports.proofs.cup_read.Tie as tie
 
--- src/lib.rt:23:9
 read-plan-requires : tie.Need-read-plan-requires
 read-plan-requires c κs = search needs
 
--- src/lib.rt:25:15
 entry-of-requires : tie.Need-entry-of-requires
 entry-of-requires c κs = search needs
 
--- src/lib.rt:26:5
 number-of-requires : tie.Need-number-of-requires
 number-of-requires c κs = search needs
 
--- src/lib.rt:18:1
 returns : tie.Need-returns
 returns c =
     let finding = reading-finding (now (c .before .before .before .before .args .file)) (c .before .before .read-plan .ensures) in

@@ -1,3 +1,4 @@
+-- A refused file leaves the buffer; an accepted one has a plan that keeps the rules, and 0 bytes written mean a short buffer.
 use mathlib.Core.Path.{_≡_, ap, _∙_}
 use mathlib.Core.Bool.{true}
 use denote.Ref.{now}
@@ -11,14 +12,12 @@ use borrow.Author.Needs.{needs}
 use Rattle.exports.proofs.cup_rewrite.Statement.{statement}
 use Rattle.exports.proofs.cup_rewrite.Tie as tie
 
--- src/lib.rt:52:9
 read-plan-requires : tie.Need-read-plan-requires
 read-plan-requires c κs = search needs
 
 enum-told : tie.Need-enum-told
 enum-told c = search needs
 
--- src/lib.rt:56:9
 number-of-requires : tie.Need-number-of-requires
 number-of-requires c κs = search needs
 
@@ -29,7 +28,6 @@ accepts c = reading-accepts _ (c .before .before .read-plan .ensures) (c .enum-t
 plan-is : (c : tie.After-enum-told) → c .before .before .read-plan .result .plan ≡ planIn (now (c .before .before .before .before .before .args .file))
 plan-is c = reading-plan _ (c .before .before .read-plan .ensures) (c .enum-told .given .1)
 
--- src/lib.rt:56:9
 returns : tie.Need-returns
 returns c =
     let a = c .before .before .before .before .before .args in
@@ -38,27 +36,22 @@ returns c =
     let refused = rewrite-refused (now (a .file)) (now (a .buffer)) (reading-refuses (now (a .file)) reading (not-clean _ (c .before .match .keys2))) in
     (number ∙ refused .0, refused .1)
 
--- src/lib.rt:59:9
 write-plan-requires : tie.Need-write-plan-requires
 write-plan-requires c κs =
     let told = c .before .before in rw (plan-is told) (accepted-rules _ (accepts told))
 
--- src/lib.rt:62:9
 same-length : tie.Need-same-length
 same-length c = search needs
 
--- src/lib.rt:62:9
 returns-2 : tie.Need-returns-2
 returns-2 c =
     let told = c .before .before .before .before .before .before in
     let written = rw (plan-is told) at (c .before .before .before .write-plan .ensures) in
     rewrite-short _ _ (accepts told) (written .0) (written .1) (c .if1 .taken)
 
--- src/lib.rt:46:1
 same-length-2 : tie.Need-same-length-2
 same-length-2 c = search needs
 
--- src/lib.rt:46:1
 returns-3 : tie.Need-returns-3
 returns-3 c =
     let told = c .before .before .before .before .before .before in

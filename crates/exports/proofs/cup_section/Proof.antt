@@ -1,3 +1,4 @@
+-- A part that is not empty is a section of an accepted file, so its offset can be read.
 use mathlib.Core.Path.{_≡_, sym, ap, _∙_}
 use denote.Ref.{now}
 use lib.ListN.{length}
@@ -6,7 +7,6 @@ use borrow.Author.Needs.{needs}
 use Rattle.exports.proofs.cup_section.Statement.{statement}
 use Rattle.exports.proofs.cup_section.Tie as tie
 
--- src/lib.rt:35:18
 section-requires : tie.Need-section-requires
 section-requires c κs = search needs
 
@@ -15,7 +15,6 @@ some : (c : tie.Else1) → let a = c .before .before .before .args in viewLength
 unfolding viewLength
 some c e = c .if1 .left (ap length (c .before .section .ensures) ∙ e)
 
--- src/lib.rt:38:9
 returns : tie.Need-returns
 unfolding viewLength
 returns c =
@@ -24,11 +23,9 @@ returns c =
     let at = offset-empty (now (a .file)) (a .number) none in
     (sym none, (sym at, rw (at, none) at (view-part (now (a .file)) (a .number))))
 
--- src/lib.rt:40:15
 offset-in-requires : tie.Need-offset-in-requires
 offset-in-requires c κs = let s = shown _ _ (some c) in (s .long, s .known)
 
--- src/lib.rt:30:1
 returns-2 : tie.Need-returns-2
 unfolding viewLength
 returns-2 c =

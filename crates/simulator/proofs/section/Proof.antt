@@ -1,3 +1,4 @@
+-- Where the reading is clean the file is accepted, and its directory keeps its rules.
 use native.Mathlib.Omega.{arith}
 use mathlib.Core.Path.{sym, _∙_}
 use denote.Ref.{now}
@@ -9,40 +10,33 @@ use borrow.Author.Needs.{needs}
 use Rattle.simulator.proofs.section.Statement.{statement}
 use Rattle.simulator.proofs.section.Tie as tie
 
--- src/lib.rt:42:9
 slice-aggregate-result : tie.Need-slice-aggregate-result
 slice-aggregate-result c = search needs
 
--- src/lib.rt:42:9
 returns : tie.Need-returns
 returns c = let a = c .before .before .before .args in sym (view-above (now (a .file)) (a .number) (omega arith))
 
--- src/lib.rt:44:9
 read-plan-requires : tie.Need-read-plan-requires
 read-plan-requires c κs = search needs
 
 enum-told : tie.Need-enum-told
 enum-told c = search needs
 
--- src/lib.rt:47:9
 slice-aggregate-result-2 : tie.Need-slice-aggregate-result-2
 slice-aggregate-result-2 c = search needs
 
--- src/lib.rt:47:9
 returns-2 : tie.Need-returns-2
 returns-2 c =
     let a = c .before .before .before .before .before .args in
     let refuses = reading-refuses (now (a .file)) (c .before .before .read-plan .ensures) (not-clean _ (c .before .match .keys2)) in
     sym (view-refused (now (a .file)) (a .number) refuses)
 
--- src/lib.rt:49:5
 section-in-requires : tie.Need-section-in-requires
 section-in-requires c κs =
     let a = c .before .before .before .before .before .args in
     let finding = reading-finding (now (a .file)) (c .before .before .read-plan .ensures) in
     (directory-accepted (now (a .file)) (sym (c .enum-told .given .1) ∙ finding), omega arith)
 
--- src/lib.rt:38:1
 returns-3 : tie.Need-returns-3
 returns-3 c =
     let a = c .before .before .before .before .before .before .args in

@@ -1,3 +1,4 @@
+-- The three tests are tried in the order of their numbers.
 use native.Mathlib.Omega.{arith}
 use mathlib.Core.Path.{_≡_, sym, _∙_}
 use mathlib.Core.Bool.{true}
@@ -20,36 +21,30 @@ long c = let file = now (c .before .before .args .file) in le-leb headerLength (
 offsets : (c : tie.Else2) → offsetsKept (now (c .before .before .before .before .args .file)) ≡ true
 offsets c = sym (c .before .offsets-kept .ensures) ∙ not-false _ (c .if2 .left)
 
--- src/directory.rt:131:9
 returns : tie.Need-returns
 unfolding directoryFinding orElse isClean numberOf longEnough
 returns c =
     let file = now (c .before .before .args .file) in
     sym (rw (lt-leb headerLength (length file) (omega arith)))
 
--- src/directory.rt:133:9
 offsets-kept-requires : tie.Need-offsets-kept-requires
 offsets-kept-requires c κs = search needs
 
--- src/directory.rt:134:9
 returns-2 : tie.Need-returns-2
 unfolding directoryFinding orElse isClean numberOf
 returns-2 c =
     let broken = sym (c .before .offsets-kept .ensures) ∙ not-true _ (c .if2 .taken) in
     sym (rw (long (c .before .before), broken))
 
--- src/directory.rt:136:9
 sizes-kept-requires : tie.Need-sizes-kept-requires
 sizes-kept-requires c κs = search needs
 
--- src/directory.rt:137:9
 returns-3 : tie.Need-returns-3
 unfolding directoryFinding orElse isClean numberOf
 returns-3 c =
     let broken = sym (c .before .sizes-kept .ensures) ∙ not-true _ (c .if3 .taken) in
     sym (rw (long (c .before .before .before .before), offsets (c .before .before), broken))
 
--- src/directory.rt:127:1
 returns-4 : tie.Need-returns-4
 unfolding directoryFinding orElse isClean numberOf
 returns-4 c =

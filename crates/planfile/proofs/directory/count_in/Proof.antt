@@ -1,21 +1,18 @@
+-- The length is divided by the entry's size.
 use Rattle.plan.specs.Format.{countIn}
 use borrow.Author.Needs.{needs}
 use Rattle.planfile.proofs.directory.count_in.Statement.{statement}
 use Rattle.planfile.proofs.directory.count_in.Tie as tie
 
--- src/directory.rt:147:6
 length-in-requires : tie.Need-length-in-requires
 length-in-requires c κs = search needs
 
--- src/directory.rt:147:27
 entry-size-requires : tie.Need-entry-size-requires
 entry-size-requires c κs = search needs
 
--- src/directory.rt:147:6
 div-result : tie.Need-div-result
 div-result c = search needs
 
--- src/directory.rt:143:1
 returns : tie.Need-returns
 unfolding countIn
 returns c = rw (c .entry-size .ensures .0, c .before .length-in .ensures .0)

@@ -1,21 +1,18 @@
+-- The word behind the pair's offset.
 use Rattle.plan.specs.Format.{lengthIn}
 use borrow.Author.Needs.{needs}
 use Rattle.planfile.proofs.directory.length_in.Statement.{statement}
 use Rattle.planfile.proofs.directory.length_in.Tie as tie
 
--- src/directory.rt:78:24
 mul-read-u32 : tie.Need-mul-read-u32
 mul-read-u32 c = search needs
 
--- src/directory.rt:78:20
 add-read-u32 : tie.Need-add-read-u32
 add-read-u32 c = search needs
 
--- src/directory.rt:78:5
 read-u32-requires : tie.Need-read-u32-requires
 read-u32-requires c κs = search needs
 
--- src/directory.rt:74:1
 returns : tie.Need-returns
 unfolding lengthIn
 returns c = c .read-u32 .ensures

@@ -1,3 +1,4 @@
+-- Before the turn of section k every offset below it is right, and `start` is where section k is to start. Two words add up to less than 2^33.
 use borrow.Author.Needs.{needs}
 use borrow.Author.Tests.{eq-eqb, ne-eqb}
 use native.Mathlib.Omega.{arith}
@@ -20,16 +21,13 @@ Inv-loop file start₀ k₀ start k = (k ≤ sections) × (every (λ j. eqb (off
 abbrev μ-loop : tie.MeasureT-loop
 μ-loop file start₀ k₀ start k = sections - k
 
--- src/directory.rt:89:5
 loop-holds : tie.Need-loop-holds Inv-loop μ-loop
 unfolding startIn
 loop-holds c = (search needs, every-none _, refl)
 
--- src/directory.rt:90:13
 offset-in-requires : tie.Need-offset-in-requires Inv-loop μ-loop
 offset-in-requires c κs = search needs
 
--- src/directory.rt:92:13
 returns : tie.Need-returns Inv-loop μ-loop
 unfolding offsetsKept
 returns c =
@@ -38,23 +36,18 @@ returns c =
     let differs = ne-eqb (offsetIn file (b .k)) (startIn file (b .k)) (λ e. omega arith) in
     sym (rw (every-fails _ sections (b .k) (omega arith) differs))
 
--- src/directory.rt:94:26
 length-in-requires : tie.Need-length-in-requires Inv-loop μ-loop
 length-in-requires c κs = search needs
 
--- src/directory.rt:94:17
 add-start : tie.Need-add-start Inv-loop μ-loop
 add-start c = search needs
 
--- src/directory.rt:95:9
 add-k : tie.Need-add-k Inv-loop μ-loop
 add-k c = search needs
 
--- src/directory.rt:89:5
 loop-less : tie.Need-loop-less Inv-loop μ-loop
 loop-less c = search needs
 
--- src/directory.rt:89:5
 loop-again : tie.Need-loop-again Inv-loop μ-loop
 unfolding startIn
 loop-again c =
@@ -65,7 +58,6 @@ loop-again c =
     rw add-one (omega arith) in
     (omega arith, every-more _ (b .inv .1) same, end)
 
--- src/directory.rt:83:1
 returns-2 : tie.Need-returns-2 Inv-loop μ-loop
 unfolding offsetsKept
 returns-2 c =

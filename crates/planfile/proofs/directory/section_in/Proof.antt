@@ -1,3 +1,4 @@
+-- A section ends inside the file, by the offset rule.
 use mathlib.Core.Path.{_≡_}
 use Prim.Native.Nat.{_+_, _-_}
 use denote.Ref.{now}
@@ -8,34 +9,27 @@ use borrow.Author.Needs.{needs}
 use Rattle.planfile.proofs.directory.section_in.Statement.{statement}
 use Rattle.planfile.proofs.directory.section_in.Tie as tie
 
--- src/directory.rt:155:18
 offset-in-requires : tie.Need-offset-in-requires
 offset-in-requires c κs = search needs
 
--- src/directory.rt:156:24
 length-in-requires : tie.Need-length-in-requires
 length-in-requires c κs = search needs
 
--- src/directory.rt:156:15
 add-end : tie.Need-add-end
 add-end c = search needs
 
--- src/directory.rt:157:5
 sub-result : tie.Need-sub-result
 sub-result c = search needs
 
--- src/directory.rt:157:5
 part-result-start : tie.Need-part-result-start
 part-result-start c = search needs
 
--- src/directory.rt:157:5
 part-result-end : tie.Need-part-result-end
 part-result-end c =
     let a = c .before .before .before .args in
     let pre = c .before .before .before .pre in
     omega (arith, section-end (now (a .file)) (pre .0 .offsets) (a .k) (pre .1))
 
--- src/directory.rt:151:1
 returns : tie.Need-returns
 unfolding sectionIn part
 returns c =

@@ -1,3 +1,4 @@
+-- Before the turn of section k every section below it has passed.
 use borrow.Author.Needs.{needs}
 use borrow.Author.Tests.{not-true, not-false}
 use native.Mathlib.Omega.{arith}
@@ -18,19 +19,15 @@ Inv-loop file k₀ k = (k ≤ sections) × (every (λ j. eqb (lengthIn file j % 
 abbrev μ-loop : tie.MeasureT-loop
 μ-loop file k₀ k = sections - k
 
--- src/directory.rt:117:5
 loop-holds : tie.Need-loop-holds Inv-loop μ-loop
 loop-holds c = (search needs, every-none _)
 
--- src/directory.rt:118:26
 length-in-requires : tie.Need-length-in-requires Inv-loop μ-loop
 length-in-requires c κs = search needs
 
--- src/directory.rt:118:13
 size-kept-requires : tie.Need-size-kept-requires Inv-loop μ-loop
 size-kept-requires c κs = search needs
 
--- src/directory.rt:119:13
 returns : tie.Need-returns Inv-loop μ-loop
 unfolding sizesKept countIn
 returns c =
@@ -39,15 +36,12 @@ returns c =
     let fails = sym (c .before .size-kept .ensures) ∙ not-true _ (c .if1 .taken) in
     sym (every-fails _ sections (b .k) (omega arith) (rw (← size) fails))
 
--- src/directory.rt:121:9
 add-k : tie.Need-add-k Inv-loop μ-loop
 add-k c = search needs
 
--- src/directory.rt:117:5
 loop-less : tie.Need-loop-less Inv-loop μ-loop
 loop-less c = search needs
 
--- src/directory.rt:117:5
 loop-again : tie.Need-loop-again Inv-loop μ-loop
 unfolding countIn
 loop-again c =
@@ -56,7 +50,6 @@ loop-again c =
     let passes = sym (c .before .size-kept .ensures) ∙ not-false _ (c .if1 .left) in
     (omega arith, every-more _ (b .inv .1) (rw (← size) passes))
 
--- src/directory.rt:112:1
 returns-2 : tie.Need-returns-2 Inv-loop μ-loop
 unfolding sizesKept
 returns-2 c =

@@ -1,3 +1,4 @@
+-- Where the directory is clean the finding is that of the plan, which is decoded then.
 use mathlib.Core.Path.{_≡_, sym, _∙_}
 use denote.Ref.{now}
 use Rattle.plan.specs.Format.{planIn}
@@ -10,18 +11,15 @@ use borrow.Author.Needs.{needs}
 use Rattle.planfile.proofs.reading.read_plan.Statement.{statement}
 use Rattle.planfile.proofs.reading.read_plan.Tie as tie
 
--- src/reading.rt:31:9
 check-directory-requires : tie.Need-check-directory-requires
 check-directory-requires c κs = search needs
 
 enum-told : tie.Need-enum-told
 enum-told c = search needs
 
--- src/reading.rt:33:9
 refused-requires : tie.Need-refused-requires
 refused-requires c κs = search needs
 
--- src/reading.rt:33:9
 returns : tie.Need-returns
 returns c =
     let file = now (c .before .before .before .before .args .file) in
@@ -35,29 +33,24 @@ directory c = directory-kept _ (sym (c .before .before .check-directory .ensures
 left : (c : tie.After-enum-told) → let file = now (c .before .before .before .before .args .file) in findingOf file ≡ planFinding (planIn file)
 left c = tried _ (finding-directory _) (c .before .before .check-directory .ensures) (c .enum-told .given .1)
 
--- src/reading.rt:35:9
 decode-requires : tie.Need-decode-requires
 decode-requires c κs = directory c
 
--- src/reading.rt:36:9
 check-plan-requires : tie.Need-check-plan-requires
 check-plan-requires c κs = rw (c .decode .ensures) (counts-in _ (directory (c .before) .sizes))
 
 enum-told-2 : tie.Need-enum-told-2
 enum-told-2 c = search needs
 
--- src/reading.rt:38:9
 refused-requires-2 : tie.Need-refused-requires-2
 refused-requires-2 c κs = search needs
 
--- src/reading.rt:38:9
 returns-2 : tie.Need-returns-2
 returns-2 c =
     let file = now (c .before .before .before .before .before .before .before .before .args .file) in
     let found = rw (c .before .before .before .decode .ensures, ← left (c .before .before .before .before)) at (c .before .before .check-plan .ensures) in
     c .refused2 .ensures ∙ reading-refused file found (not-clean _ (c .before .match2 .keys2))
 
--- src/reading.rt:28:1
 returns-3 : tie.Need-returns-3
 returns-3 c =
     let file = now (c .before .before .before .before .before .before .before .before .args .file) in

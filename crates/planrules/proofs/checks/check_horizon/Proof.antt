@@ -1,4 +1,4 @@
--- `planfile::check_horizon` meets its contract: each branch is a case of the test. Assumes nothing.
+-- `planrules::check_horizon` meets its contract: each branch is a case of the test. Assumes nothing.
 use borrow.Author.Needs.{needs}
 use mathlib.Core.Path.{sym, _∙_}
 use Rattle.planrules.proofs.checks.check_horizon.Statement.{statement}

@@ -1,4 +1,4 @@
--- `planfile::check_nodes` meets its contract: at each turn no entry below this one has a fault. Assumes nothing.
+-- `planrules::check_nodes` meets its contract: at each turn no entry below this one has a fault. Assumes nothing.
 use borrow.Author.Needs.{needs}
 use mathlib.Core.Path.{_≡_, refl}
 use Prim.Native.Nat.{_-_}

@@ -5,30 +5,24 @@ use borrow.Author.Needs.{needs}
 use Rattle.planrules.proofs.checks.check_nodes_and_links.Statement.{statement}
 use Rattle.planrules.proofs.checks.check_nodes_and_links.Tie as tie
 
--- src/checks.rt:128:16
 add-base : tie.Need-add-base
 add-base c = search needs
 
--- src/checks.rt:129:15
 add-all : tie.Need-add-all
 add-all c = search needs
 
--- src/checks.rt:130:9
 check-nodes-requires : tie.Need-check-nodes-requires
 check-nodes-requires c κs = search needs
 
 enum-told : tie.Need-enum-told
 enum-told c = search needs
 
--- src/checks.rt:132:9
 returns : tie.Need-returns
 returns c = refused _ refl (search needs) (not-clean _ (c .match .keys2))
 
--- src/checks.rt:134:5
 check-links-requires : tie.Need-check-links-requires
 check-links-requires c κs = search needs
 
--- src/checks.rt:110:1
 returns-2 : tie.Need-returns-2
 returns-2 c = _∙_ {b = _} (search needs) (sym (tried _ refl (search needs) (c .before .enum-told .given .1)))
 

@@ -1,3 +1,4 @@
+-- The counts are tested first, so the checks are handed limited ones; then the plan is kept where they find nothing.
 use mathlib.Core.Path.{_≡_, sym, _∙_}
 use mathlib.Core.Bool.{true}
 use borrow.Author.Tests.{not-true, not-false}
@@ -9,7 +10,6 @@ use borrow.Author.Needs.{needs}
 use Rattle.planrules.proofs.checks.plan_kept.Statement.{statement}
 use Rattle.planrules.proofs.checks.plan_kept.Tie as tie
 
--- src/reading.rt:51:9
 counts-kept-requires : tie.Need-counts-kept-requires
 counts-kept-requires c κs = search needs
 
@@ -18,26 +18,22 @@ kept : (c : tie.Else1) → countsKept (c .before .before .before .args .p) ≡ t
 unfolding countsKept counts
 kept c = sym (c .before .counts-kept .ensures) ∙ not-false _ (c .if1 .left)
 
--- src/reading.rt:52:9
 returns : tie.Need-returns
 unfolding countsKept counts
 returns c = let broken = sym (c .before .counts-kept .ensures) ∙ not-true _ (c .if1 .taken) in sym (rw broken)
 
--- src/reading.rt:54:9
 check-plan-requires : tie.Need-check-plan-requires
 check-plan-requires c κs = counts-kept (c .before .before .before .args .p) .0 (kept c)
 
 enum-told : tie.Need-enum-told
 enum-told c = search needs
 
--- src/reading.rt:56:9
 returns-2 : tie.Need-returns-2
 returns-2 c =
     let found = c .before .check-plan .ensures in
     let broken = not-clean (c .before .check-plan .result) (c .match .keys2) in
     sym (rw (kept (c .before .before), ← found, broken))
 
--- src/reading.rt:47:1
 returns-3 : tie.Need-returns-3
 unfolding isClean numberOf
 returns-3 c =

@@ -1,95 +1,76 @@
+-- Each arm is a case of the definition.
 use mathlib.Core.Path.{sym}
 use Rattle.plan.specs.Refusals.{numberOf}
 use borrow.Author.Needs.{needs}
 use Rattle.planrules.proofs.findings.number_of.Statement.{statement}
 use Rattle.planrules.proofs.findings.number_of.Tie as tie
 
--- src/reading.rt:66:27
 enum-told : tie.Need-enum-told
 enum-told c = search needs
 
--- src/reading.rt:67:27
 enum-told-2 : tie.Need-enum-told-2
 enum-told-2 c = search needs
 
--- src/reading.rt:68:29
 enum-told-3 : tie.Need-enum-told-3
 enum-told-3 c = search needs
 
--- src/reading.rt:69:27
 enum-told-4 : tie.Need-enum-told-4
 enum-told-4 c = search needs
 
--- src/reading.rt:70:29
 enum-told-5 : tie.Need-enum-told-5
 enum-told-5 c = search needs
 
--- src/reading.rt:71:35
 enum-told-6 : tie.Need-enum-told-6
 enum-told-6 c = search needs
 
--- src/reading.rt:72:30
 enum-told-7 : tie.Need-enum-told-7
 enum-told-7 c = search needs
 
--- src/reading.rt:73:29
 enum-told-8 : tie.Need-enum-told-8
 enum-told-8 c = search needs
 
--- src/reading.rt:74:29
 enum-told-9 : tie.Need-enum-told-9
 enum-told-9 c = search needs
 
--- src/reading.rt:75:32
 enum-told-10 : tie.Need-enum-told-10
 enum-told-10 c = search needs
 
--- src/reading.rt:62:1
 returns : tie.Need-returns
 unfolding numberOf
 returns c = sym (rw (c .enum-told .given .1))
 
--- src/reading.rt:62:1
 returns-2 : tie.Need-returns-2
 unfolding numberOf
 returns-2 c = sym (rw (c .enum-told2 .given .1))
 
--- src/reading.rt:62:1
 returns-3 : tie.Need-returns-3
 unfolding numberOf
 returns-3 c = sym (rw (c .enum-told3 .given .1))
 
--- src/reading.rt:62:1
 returns-4 : tie.Need-returns-4
 unfolding numberOf
 returns-4 c = sym (rw (c .enum-told4 .given .1))
 
--- src/reading.rt:62:1
 returns-5 : tie.Need-returns-5
 unfolding numberOf
 returns-5 c = sym (rw (c .enum-told5 .given .1))
 
--- src/reading.rt:62:1
 returns-6 : tie.Need-returns-6
 unfolding numberOf
 returns-6 c = sym (rw (c .enum-told6 .given .1))
 
--- src/reading.rt:62:1
 returns-7 : tie.Need-returns-7
 unfolding numberOf
 returns-7 c = sym (rw (c .enum-told7 .given .1))
 
--- src/reading.rt:62:1
 returns-8 : tie.Need-returns-8
 unfolding numberOf
 returns-8 c = sym (rw (c .enum-told8 .given .1))
 
--- src/reading.rt:62:1
 returns-9 : tie.Need-returns-9
 unfolding numberOf
 returns-9 c = sym (rw (c .enum-told9 .given .1))
 
--- src/reading.rt:62:1
 returns-10 : tie.Need-returns-10
 unfolding numberOf
 returns-10 c = sym (rw (c .enum-told10 .given .1))

@@ -1,3 +1,4 @@
+-- The two comparisons are the two ends of the range.
 use Rattle.plan.specs.Tests.{countKept}
 use Rattle.plan.specs.Lists.{nat}
 use Rattle.plan.specs.Format.{leastCounts}
@@ -8,11 +9,9 @@ use borrow.Author.Needs.{needs}
 use Rattle.planrules.proofs.layout.count_kept.Statement.{statement}
 use Rattle.planrules.proofs.layout.count_kept.Tie as tie
 
--- src/directory.rt:47:16
 least-count-requires : tie.Need-least-count-requires
 least-count-requires c κs = search needs
 
--- src/directory.rt:48:9
 returns : tie.Need-returns
 unfolding countKept
 returns c =
@@ -20,11 +19,9 @@ returns c =
     let low = lt-leb (nat leastCounts (a .k)) (a .count) (omega (arith, c .before .least-count .ensures)) in
     sym (rw low)
 
--- src/directory.rt:50:14
 largest-count-requires : tie.Need-largest-count-requires
 largest-count-requires c κs = search needs
 
--- src/directory.rt:43:1
 returns-2 : tie.Need-returns-2
 unfolding countKept
 returns-2 c =

@@ -1,3 +1,4 @@
+-- Before the turn of section k every section below it has passed.
 use borrow.Author.Needs.{needs}
 use borrow.Author.Tests.{not-true, not-false}
 use native.Mathlib.Omega.{arith}
@@ -17,45 +18,36 @@ Inv-loop counts k₀ k = (k ≤ sections) × (every (λ j. countKept j (nat coun
 abbrev μ-loop : tie.MeasureT-loop
 μ-loop counts k₀ k = sections - k
 
--- src/directory.rt:58:5
 loop-holds : tie.Need-loop-holds Inv-loop μ-loop
 loop-holds c = (search needs, every-none _)
 
--- src/directory.rt:59:27
 mul-count-kept : tie.Need-mul-count-kept Inv-loop μ-loop
 mul-count-kept c = search needs
 
--- src/directory.rt:59:27
 element-copy-out-count-kept : tie.Need-element-copy-out-count-kept Inv-loop μ-loop
 element-copy-out-count-kept c = search needs
 
--- src/directory.rt:59:13
 count-kept-requires : tie.Need-count-kept-requires Inv-loop μ-loop
 count-kept-requires c κs = search needs
 
--- src/directory.rt:60:13
 returns : tie.Need-returns Inv-loop μ-loop
 returns c =
     let b = c .before .before .before .before .loop in
     let fails = sym (c .before .count-kept .ensures) ∙ not-true _ (c .if1 .taken) in
     sym (every-fails _ sections (b .k) (omega arith) fails)
 
--- src/directory.rt:62:9
 add-k : tie.Need-add-k Inv-loop μ-loop
 add-k c = search needs
 
--- src/directory.rt:58:5
 loop-less : tie.Need-loop-less Inv-loop μ-loop
 loop-less c = search needs
 
--- src/directory.rt:58:5
 loop-again : tie.Need-loop-again Inv-loop μ-loop
 loop-again c =
     let b = c .before .before .before .before .loop in
     let passes = sym (c .before .count-kept .ensures) ∙ not-false _ (c .if1 .left) in
     (omega arith, every-more _ (b .inv .1) passes)
 
--- src/directory.rt:54:1
 returns-2 : tie.Need-returns-2 Inv-loop μ-loop
 returns-2 c =
     let b = c .before .loop in

@@ -1,18 +1,16 @@
+-- The table is the definition's, and none of its sizes is 0.
 use mathlib.Core.Path.{refl}
 use Rattle.planrules.specs.Layout.{size-positive}
 use borrow.Author.Needs.{needs}
 use Rattle.planrules.proofs.layout.entry_size.Statement.{statement}
 use Rattle.planrules.proofs.layout.entry_size.Tie as tie
 
--- src/directory.rt:25:5
 mul-result : tie.Need-mul-result
 mul-result c = search needs
 
--- src/directory.rt:25:5
 array-read-result : tie.Need-array-read-result
 array-read-result c = search needs
 
--- src/directory.rt:21:1
 returns : tie.Need-returns
 returns c = (refl, size-positive (c .args .k) (c .pre))
 
