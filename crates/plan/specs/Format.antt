@@ -63,19 +63,19 @@ columnOf unused read wide size count section column = row unused wide count (λ 
 unfoldable pub columnIn : {A : Type 0} → A → (List ℕ → ℕ → A) → List ℕ → ℕ → ℕ → List A
 columnIn unused read file k = columnOf unused read (nat largestCounts k) (nat entrySizes k) (countIn file k) (sectionIn file k)
 
--- an amount, which is not signed
-abbrev pub amountWord : List ℕ → ℕ → ℤ
-amountWord section at = pos (word section at)
+-- a number that is not signed, among the integers
+abbrev pub unsignedWord : List ℕ → ℕ → ℤ
+unsignedWord section at = pos (word section at)
 
--- of numbers that are not signed, of signed ones, and of amounts
+-- of numbers that are not signed, of signed ones, and of quanta, which are not signed but counted beside values
 abbrev pub wordsIn : List ℕ → ℕ → ℕ → List ℕ
 wordsIn = columnIn 0 word
 
 abbrev pub signedsIn : List ℕ → ℕ → ℕ → List ℤ
 signedsIn = columnIn (pos 0) signedWord
 
-abbrev pub amountsIn : List ℕ → ℕ → ℕ → List ℤ
-amountsIn = columnIn (pos 0) amountWord
+abbrev pub unsignedsIn : List ℕ → ℕ → ℕ → List ℤ
+unsignedsIn = columnIn (pos 0) unsignedWord
 
 -- the plan that a file holds, number for number
 unfoldable pub planIn : List ℕ → Plan
@@ -89,7 +89,7 @@ planIn file =
       commands = countIn file 4;
       -- "Integrators, .. 8 bytes: signed start ..; quantum"
       starts = signedsIn file 0 0;
-      quanta = amountsIn file 0 1;
+      quanta = unsignedsIn file 0 1;
       -- "Inputs, .. 4 bytes: signed first value"
       firsts = signedsIn file 1 0;
       -- "Nodes, .. 20 bytes: kind, A, B, signed lo, signed hi"

@@ -3,7 +3,7 @@ use mathlib.Core.Bool.{Bool, cond, _&&_}
 use mathlib.Core.List.{List, []}
 use Prim.Native.Nat.{ℕ, zero, suc, _+_}
 use lib.Dec.{ltb, eqb}
-use Rattle.plan.specs.Format.{sections, sectionIn, planIn}
+use Rattle.plan.specs.Format.{sections, offsetIn, sectionIn, planIn}
 use Rattle.plan.specs.Tests.{longEnough, offsetsKept, sizesKept, horizonKept, integratorKept, inputKept, nodeKept, linkLimits}
 use Rattle.plan.specs.Tests.{linkOrdered, commandLimits, commandOrdered}
 use Rattle.plan.specs.declared.Plan.{Plan}
@@ -89,3 +89,7 @@ accepted file = isClean (findingOf file)
 -- "hands back that part of the caller's own file, or an empty part if the file would be refused or the number is above 4"
 unfoldable pub sectionOf : List ℕ → ℕ → List ℕ
 sectionOf file number = cond (accepted file && ltb number sections) (sectionIn file number) []
+
+-- where that part starts: at its section's offset. Where an empty part of a refused file lies, or of a number above 4, is free; it is the start.
+unfoldable pub sectionStart : List ℕ → ℕ → ℕ
+sectionStart file number = cond (accepted file && ltb number sections) (offsetIn file number) 0

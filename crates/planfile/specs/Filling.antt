@@ -15,9 +15,9 @@ use mir.Val.{toZ, ofZ}
 use mir.Facts.{toZ-ofZ, toZ-pos}
 use Rattle.words.specs.Word.{word, signedWord}
 use Rattle.plan.specs.Lists.{table, row}
-use Rattle.plan.specs.Format.{columnOf, amountWord}
+use Rattle.plan.specs.Format.{columnOf, unsignedWord}
 use Rattle.plan.specs.Laws.Rows.{table-ext}
-use Rattle.planfile.specs.Columns.{signedsOf, amountsOf}
+use Rattle.planfile.specs.Columns.{signedsOf, unsignedsOf}
 
 module _ {A : Type 0} where
   -- a list of one value is the table of that value
@@ -70,14 +70,14 @@ module _ {A : Type 0} (unused : A) (read : List ℕ → ℕ → A) (wide size : 
       → xs ≡ columnOf unused read wide size n part column
   column-end {n} {i} e h l = let q : i ≡ n = omega arith in rw q at e
 
--- a signed number and an amount are stored as their bits
+-- a signed number and a quantum are stored as their bits
 module _ (wide size : ℕ) (part : List ℕ) (column i : ℕ) {at : ℕ} {xs : List ℤ} where
   pub signeds-turn : {x : ℤ} → xs ≡ signedsOf wide size i part column → mag x < 2 ^ 63 → x ≡ signedWord part at → at ≡ size * i + 4 * column
       → set xs i (toZ w64 (ofZ w64 x)) ≡ signedsOf wide size (i + 1) part column
   signeds-turn e f r p =
       column-turn (pos 0) signedWord wide size part column i e (toZ-ofZ (record { sfits = f }) ∙ r) p
 
-  pub amounts-turn : {x : ℕ} → xs ≡ amountsOf wide size i part column → (x ≡ word part at) × (x < 2 ^ 32) → at ≡ size * i + 4 * column
-      → set xs i (toZ w64 x) ≡ amountsOf wide size (i + 1) part column
-  amounts-turn e r p =
-      column-turn (pos 0) amountWord wide size part column i e (toZ-pos w64 (omega arith) ∙ ap pos (r .0)) p
+  pub unsigneds-turn : {x : ℕ} → xs ≡ unsignedsOf wide size i part column → (x ≡ word part at) × (x < 2 ^ 32) → at ≡ size * i + 4 * column
+      → set xs i (toZ w64 x) ≡ unsignedsOf wide size (i + 1) part column
+  unsigneds-turn e r p =
+      column-turn (pos 0) unsignedWord wide size part column i e (toZ-pos w64 (omega arith) ∙ ap pos (r .0)) p

@@ -12,20 +12,21 @@ use crate::readers::read_nodes;
 use plan::Plan;
 use words::read_u32;
 
+// Each section is handed to its reader as a part of the file.
 pub fn decode(file: &[u8]) -> Plan
     requires { ⌜ Directory (now file) ⌝ }
     ensures { λ r. ⌜ r ≡ planIn (now (file .entry)) ⌝ }
 {
-    let n = count_in(file, 0);
-    let m = count_in(file, 1);
-    let k = count_in(file, 2);
-    let links = count_in(file, 3);
-    let commands = count_in(file, 4);
+    let integrators = count_in(file, 0);
+    let inputs = count_in(file, 1);
+    let nodes = count_in(file, 2);
+    let link_count = count_in(file, 3);
+    let command_count = count_in(file, 4);
     let mut starts = [0; 32];
     let mut quanta = [0; 32];
-    read_integrators(section_in(file, 0), n, &mut starts, &mut quanta);
+    read_integrators(section_in(file, 0), integrators, &mut starts, &mut quanta);
     let mut firsts = [0; 8];
-    read_inputs(section_in(file, 1), m, &mut firsts);
+    read_inputs(section_in(file, 1), inputs, &mut firsts);
     let mut kinds = [0; 16];
     let mut lefts = [0; 16];
     let mut rights = [0; 16];
@@ -33,7 +34,7 @@ pub fn decode(file: &[u8]) -> Plan
     let mut highs = [0; 16];
     read_nodes(
         section_in(file, 2),
-        k,
+        nodes,
         &mut kinds,
         &mut lefts,
         &mut rights,
@@ -45,7 +46,7 @@ pub fn decode(file: &[u8]) -> Plan
     let mut coefficients = [0; 256];
     read_links(
         section_in(file, 3),
-        links,
+        link_count,
         &mut targets,
         &mut sources,
         &mut coefficients,
@@ -55,18 +56,18 @@ pub fn decode(file: &[u8]) -> Plan
     let mut values = [0; 64];
     read_commands(
         section_in(file, 4),
-        commands,
+        command_count,
         &mut ticks,
         &mut numbers,
         &mut values,
     );
     Plan {
         horizon: read_u32(file, 0) as u32,
-        n,
-        m,
-        k,
-        links,
-        commands,
+        n: integrators,
+        m: inputs,
+        k: nodes,
+        links: link_count,
+        commands: command_count,
         starts,
         quanta,
         firsts,

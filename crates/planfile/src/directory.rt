@@ -8,6 +8,7 @@ ghost use Rattle.plan.specs.Lists.{nat};
 ghost use Rattle.plan.specs.Format.{sections, entrySizes, headerLength, offsetIn, lengthIn, countIn, sectionIn};
 ghost use Rattle.plan.specs.Tests.{countKept, offsetsKept, sizesKept};
 ghost use Rattle.planfile.specs.Directory.{directoryFinding, Directory};
+ghost use Rattle.planfile.specs.Pointers.{further};
 use plan::Finding;
 use planrules::HEADER_LENGTH;
 use planrules::SECTIONS;
@@ -103,6 +104,7 @@ pub fn count_in(file: &[u8], k: usize) -> usize
 pub fn section_in(file: &[u8], k: usize) -> &[u8]
     requires { ⌜ Directory (now file) × (k < sections) ⌝ }
     ensures { λ r. ⌜ now r ≡ sectionIn (now (file .entry)) k ⌝ }
+    ensures { λ r. ⌜ r .ptr ≡ further (file .entry .ptr) (offsetIn (now (file .entry)) k) ⌝ }
 {
     let offset = offset_in(file, k) as usize;
     let end = offset + length_in(file, k) as usize;

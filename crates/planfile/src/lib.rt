@@ -6,5 +6,5 @@ mod reading;
 
 pub use directory::offset_in;
 pub use directory::section_in;
-pub use reading::Reading;
+pub use reading::FilePlan;
 pub use reading::read_plan;

@@ -4,7 +4,7 @@ ghost use mathlib.Core.Path.{_≡_};
 ghost use Prim.Native.Nat.{_*_, _≤_};
 ghost use lib.IntN.{pos};
 ghost use lib.ListN.{length, replicate};
-ghost use Rattle.planfile.specs.Columns.{wordsOf, signedsOf, amountsOf};
+ghost use Rattle.planfile.specs.Columns.{wordsOf, signedsOf, unsignedsOf};
 use words::read_i32;
 use words::read_u32;
 
@@ -13,7 +13,7 @@ pub fn read_integrators(part: &[u8], n: usize, starts: &mut [i64; 32], quanta: &
     requires { ⌜ (n ≤ 32) × (8 * n ≤ length (now part)) ⌝ }
     requires { ⌜ (now starts ≡ replicate 32 (pos 0)) × (now quanta ≡ replicate 32 (pos 0)) ⌝ }
     ensures { λ _. ⌜ now (starts .exit) ≡ signedsOf 32 8 n (now (part .entry)) 0 ⌝ }
-    ensures { λ _. ⌜ now (quanta .exit) ≡ amountsOf 32 8 n (now (part .entry)) 1 ⌝ }
+    ensures { λ _. ⌜ now (quanta .exit) ≡ unsignedsOf 32 8 n (now (part .entry)) 1 ⌝ }
 {
     let mut i = 0;
     while i < n {

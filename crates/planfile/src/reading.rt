@@ -1,6 +1,6 @@
 // Reading a plan file whole: the plan, or what it is refused for.
 ghost use mathlib.Core.Path.{_≡_};
-ghost use Rattle.planfile.specs.Reading.{readingOf, refusedWith};
+ghost use Rattle.planfile.specs.Reading.{filePlanOf, refusedWith};
 use crate::decoding::decode;
 use crate::directory::check_directory;
 use plan::Finding;
@@ -8,21 +8,21 @@ use plan::Plan;
 use planrules::check_plan;
 
 // The plan of an accepted file, whose finding is `Clean`; else the finding, and the idle plan.
-pub struct Reading {
+pub struct FilePlan {
     pub finding: Finding,
     pub plan: Plan,
 }
 
-fn refused(finding: Finding) -> Reading
+fn refused(finding: Finding) -> FilePlan
     ensures { λ r. ⌜ r ≡ refusedWith finding ⌝ }
 {
     let plan = Plan::idle();
-    Reading { finding, plan }
+    FilePlan { finding, plan }
 }
 
 // "Load tries 1 to 9": the directory before any entry, then the plan that the file holds.
-pub fn read_plan(file: &[u8]) -> Reading
-    ensures { λ r. ⌜ r ≡ readingOf (now (file .entry)) ⌝ }
+pub fn read_plan(file: &[u8]) -> FilePlan
+    ensures { λ r. ⌜ r ≡ filePlanOf (now (file .entry)) ⌝ }
 {
     let found = check_directory(file);
     let Finding::Clean = found else {
@@ -33,7 +33,7 @@ pub fn read_plan(file: &[u8]) -> Reading
     let Finding::Clean = found else {
         return refused(found);
     };
-    Reading {
+    FilePlan {
         finding: Finding::Clean,
         plan,
     }

@@ -38,17 +38,17 @@ failed e t = sym e ∙ not-true _ t
 
 -- ---- the loop
 -- It has come to entry i of n, and every entry before it passed its test: what is left has the finding of the whole.
-pub record Reached (test : ℕ → Bool) (fault : ℕ → Finding) (n i : ℕ) : Type 0 where
+pub record CleanTo (test : ℕ → Bool) (fault : ℕ → Finding) (n i : ℕ) : Type 0 where
   pub inside : i ≤ n
   pub left : checked test fault n ≡ firstFinding (λ e. unless (test e) (fault e)) i (n - i)
 
 module _ {test : ℕ → Bool} {fault : ℕ → Finding} where
-  pub begin : (n : ℕ) → Reached test fault n 0
+  pub begin : (n : ℕ) → CleanTo test fault n 0
   begin n =
       let e : n ≡ n - 0 = omega arith in
       record { inside = omega arith; left = ap (firstFinding (λ e. unless (test e) (fault e)) 0) e }
 
-  module _ {n i : ℕ} (r : Reached test fault n i) where
+  module _ {n i : ℕ} (r : CleanTo test fault n i) where
     -- past the last entry
     pub none : n ≤ i → Clean ≡ checked test fault n
     unfolding firstFinding
@@ -59,7 +59,7 @@ module _ {test : ℕ → Bool} {fault : ℕ → Finding} where
       unfolding firstFinding
       step = let e : n - i ≡ suc (n - (i + 1)) = omega arith in rw (r .left, e)
 
-      pub passed : test i ≡ true → Reached test fault n (i + 1)
+      pub passed : test i ≡ true → CleanTo test fault n (i + 1)
       unfolding orElse isClean numberOf
       passed e = record { inside = omega arith; left = rw (step, e) }
 

@@ -198,7 +198,7 @@ pub fn check_plan(p: Plan) -> Finding
     check_commands(p.horizon, m, p.commands, &p.ticks, &p.numbers, &p.values)
 }
 
-// A plan that comes in no file keeps the counts' limits and the rules 4 to 9, whatever it holds.
+// Whether a plan that comes in no file keeps the counts' limits and the rules 4 to 9. It asks nothing of the plan: the counts are tested first.
 pub fn plan_kept(p: Plan) -> bool
     ensures { λ r. ⌜ r ≡ (countsKept p && isClean (planFinding p)) ⌝ }
 {

@@ -49,7 +49,7 @@ pub fn integrator_kept(start: i64, quantum: i64) -> bool
 }
 
 // Kinds 0 and 1: "with lo and hi 0".
-fn plain_kept(own: usize, b: usize, lo: i64, hi: i64) -> bool
+fn arithmetic_kept(own: usize, b: usize, lo: i64, hi: i64) -> bool
     ensures { λ r. ⌜ r ≡ (ltb b own && eqb ∣ lo ∣ 0 && eqb ∣ hi ∣ 0) ⌝ }
 {
     if own <= b {
@@ -69,7 +69,7 @@ pub fn node_kept(own: usize, kind: usize, a: usize, b: usize, lo: i64, hi: i64) 
         return false;
     }
     if kind <= 1 {
-        return plain_kept(own, b, lo, hi);
+        return arithmetic_kept(own, b, lo, hi);
     }
     if !value_kept(lo) {
         return false;

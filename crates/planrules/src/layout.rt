@@ -38,7 +38,7 @@ fn largest_count(k: usize) -> u64
     LARGEST_COUNTS[k]
 }
 
-// A count is inside its section's limits.
+// Whether a count is inside its section's limits.
 pub fn count_kept(k: usize, count: u64) -> bool
     requires { ⌜ k < sections ⌝ }
     ensures { λ r. ⌜ r ≡ countKept k count ⌝ }
@@ -49,7 +49,7 @@ pub fn count_kept(k: usize, count: u64) -> bool
     count <= largest_count(k)
 }
 
-// The counts of a plan, in the order of the sections, are inside their limits, however wild they are.
+// Whether the counts of a plan, in the order of the sections, are inside their limits. They may be as wild as they like.
 pub fn counts_kept(counts: &[usize; 5]) -> bool
     ensures { λ r. ⌜ r ≡ every (λ k. countKept k (nat (now (counts .entry)) k)) sections ⌝ }
 {

@@ -63,4 +63,11 @@ rewrite 8, 0 bytes, the same, then a5
 one byte short 8, 0 bytes, first a5
 ";
     assert_eq!(printed(&program, "refused.plan"), refused);
+    // The longest that is accepted, so that the header's constant is met.
+    let full = printed(&program, "full.plan");
+    assert!(
+        full.starts_with("read 0, entry 0\n")
+            && full.contains("\nrewrite 0, 4492 bytes, the same, then a5\n"),
+        "{full}"
+    );
 }

@@ -88,3 +88,18 @@ fn every_number_means_what_the_readme_says() {
     assert_eq!(next, 15);
     assert_eq!(meaning(15), meaning(usize::MAX));
 }
+
+/// So has the C header, of the numbers that its functions answer.
+#[test]
+fn every_number_means_what_the_header_says() {
+    let header = String::from_utf8(kept("include/cup.h")).expect("text");
+    let words: Vec<&str> = header
+        .split_whitespace()
+        .filter(|word| *word != "*")
+        .collect();
+    let header = words.join(" ");
+    for number in (0..=9).chain([13]) {
+        let row = format!(" {number} {} ", meaning(number));
+        assert!(header.contains(&row), "{row}");
+    }
+}

@@ -8,23 +8,27 @@ use cup_check::file::Slip;
 /// Enough for all files next to samples and some thousand random ones.
 const FILES: u64 = 45_000;
 
-fn first_difference(reader: &dyn Reader, slip: Slip) -> Option<String> {
+fn differences(reader: &dyn Reader, slip: Slip) -> Vec<String> {
     let campaign = Campaign {
         files: FILES,
         seed: 1,
         slip,
     };
-    let differences = campaign.run(reader).differences;
-    let first = differences.into_iter().next()?;
-    // Without the file's bytes.
-    let (file, rest) = first.split_once(", ")?;
-    let (_, difference) = rest.split_once("): ")?;
+    campaign.run(reader).differences
+}
+
+/// What the first difference is, without the bytes of its file.
+fn first_difference(reader: &dyn Reader, slip: Slip) -> Option<String> {
+    let first = differences(reader, slip).into_iter().next()?;
+    let (file, rest) = first.split_once(", ").expect("a file and its bytes");
+    let (_, difference) = rest.split_once("): ").expect("what differs");
     Some(format!("{file}): {difference}"))
 }
 
 #[test]
 fn without_a_slip_the_same_files_agree() {
-    assert_eq!(first_difference(&Archive, Slip::None), None);
+    let none: [String; 0] = [];
+    assert_eq!(differences(&Archive, Slip::None), none);
 }
 
 #[test]
@@ -50,7 +54,7 @@ enum Fault {
     EntryOneHigher,
     EntryOfWholeFile,
     SectionShifted,
-    SectionOneEntryShort,
+    SectionOneEntryLate,
     EmptySectionAtItsPlace,
     SectionOfRefused,
     SectionAboveFour,
@@ -67,7 +71,7 @@ const FAULTS: [Fault; 14] = [
     Fault::EntryOneHigher,
     Fault::EntryOfWholeFile,
     Fault::SectionShifted,
-    Fault::SectionOneEntryShort,
+    Fault::SectionOneEntryLate,
     Fault::EmptySectionAtItsPlace,
     Fault::SectionOfRefused,
     Fault::SectionAboveFour,
@@ -96,7 +100,7 @@ impl Reader for Fault {
         let at = part.as_ptr() as usize - file.as_ptr() as usize;
         match self {
             Fault::SectionShifted if !part.is_empty() => &file[at - 1..][..part.len()],
-            Fault::SectionOneEntryShort if number == 3 => &part[part.len().min(12)..],
+            Fault::SectionOneEntryLate if number == 3 => &part[part.len().min(12)..],
             Fault::EmptySectionAtItsPlace if part.is_empty() => &file[file.len()..],
             Fault::SectionOfRefused if number < 5 => split(file).map_or(part, |all| all[number]),
             Fault::SectionAboveFour => Archive.section(file, number.min(4)),

@@ -53,7 +53,7 @@ impl Reading {
         counts_first: true,
         order: [4, 5, 6, 7, 8, 9],
         answered: |faults| faults.next(),
-        // "An order fault is the later entry's", which is where it is found.
+        // "an order fault is the later entry's", which is where it is found.
         entry: |_, found_at| found_at,
         order_with_limits: true,
         may_follow: |before| before == Ordering::Less,

@@ -157,7 +157,7 @@ fn command(rules: &Reading, entry: &Command, plan: &Plan) -> Option<Cause> {
     }
 }
 
-/// "An order fault is the later entry's": an entry is compared with the one before it.
+/// "an order fault is the later entry's": an entry is compared with the one before it.
 fn out_of_order<T, K: Ord>(
     rules: &Reading,
     entries: &[T],

@@ -39,6 +39,23 @@ pub enum Origin {
     NextToSample,
 }
 
+impl Origin {
+    /// Every way in which a file comes about.
+    pub const ALL: [Origin; 11] = [
+        Origin::Lawful,
+        Origin::OneFault,
+        Origin::TwoFaults,
+        Origin::TwiceInOneEntry,
+        Origin::FaultyFileAndEntry,
+        Origin::Damaged,
+        Origin::WrappedSums,
+        Origin::Loose,
+        Origin::Noise,
+        Origin::Large,
+        Origin::NextToSample,
+    ];
+}
+
 /// How far large files go beyond the longest plan.
 pub const LARGE_BYTES: usize = 100_000;
 
@@ -73,8 +90,12 @@ fn file(rng: &mut Rng, origin: Origin) -> Vec<u8> {
     match origin {
         Origin::OneFault => return one_fault(rng, plan),
         Origin::TwoFaults => two_faults(rng, &mut plan),
-        // Where a plan has no entry for the fault, its file is a lawful one.
-        Origin::TwiceInOneEntry => _ = twice_in_one_entry(rng, &mut plan),
+        Origin::TwiceInOneEntry => {
+            // A plan that has no entry for the fault makes way for another.
+            while twice_in_one_entry(rng, &mut plan).is_none() {
+                plan = plans::any(rng);
+            }
+        }
         Origin::FaultyFileAndEntry => {
             let (entry_cause, cause) = (cause_of(rng, 4..=9), cause_of(rng, 1..=3));
             in_plan(rng, &mut plan, entry_cause);

@@ -1,4 +1,4 @@
--- Number and entry are those of the finding that the reading has.
+-- Number and entry are those of the finding that the reading has. The proof names neither call, so that an exchange is refused for its answers.
 use mathlib.Core.Path.{ap, _∙_}
 use denote.Ref.{now}
 use Rattle.plan.specs.Refusals.{numberOf, entryOf}
@@ -19,7 +19,7 @@ number-of-requires c κs = search needs
 returns : tie.Need-returns
 returns c =
     let finding = reading-finding (now (c .before .before .before .before .args .file)) (c .before .before .read-plan .ensures) in
-    (c .number-of .ensures ∙ ap numberOf finding, c .before .entry-of .ensures ∙ ap entryOf finding)
+    (_∙_ {b = _} (search needs) (ap numberOf finding), _∙_ {b = _} (search needs) (ap entryOf finding))
 
 pub cup-read-spec : {M : Type 1} → statement M
 cup-read-spec =

@@ -13,13 +13,13 @@ section-requires c κs = search needs
 -- what is known where the part is not empty
 some : (c : tie.Else1) → let a = c .before .before .before .args in viewLength (now (a .file)) (a .number) ≡ 0 → ⊥
 unfolding viewLength
-some c e = c .if1 .left (ap length (c .before .section .ensures) ∙ e)
+some c e = c .if1 .left (ap length (c .before .section .ensures .0) ∙ e)
 
 returns : tie.Need-returns
 unfolding viewLength
 returns c =
     let a = c .before .before .before .args in
-    let none : viewLength (now (a .file)) (a .number) ≡ 0 = sym (ap length (c .before .section .ensures)) ∙ c .if1 .taken in
+    let none : viewLength (now (a .file)) (a .number) ≡ 0 = sym (ap length (c .before .section .ensures .0)) ∙ c .if1 .taken in
     let at = offset-empty (now (a .file)) (a .number) none in
     (sym none, (sym at, rw (at, none) at (view-part (now (a .file)) (a .number))))
 
@@ -30,7 +30,7 @@ returns-2 : tie.Need-returns-2
 unfolding viewLength
 returns-2 c =
     let a = c .before .before .before .before .args in
-    let size = ap length (c .before .before .section .ensures) in
+    let size = ap length (c .before .before .section .ensures .0) in
     let at = c .offset-in .ensures .0 ∙ sym (offset-shown (now (a .file)) (a .number) (some (c .before))) in
     (size, (at, rw (at, size) (view-part (now (a .file)) (a .number))))
 

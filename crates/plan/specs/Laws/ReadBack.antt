@@ -25,14 +25,14 @@ use Rattle.plan.specs.declared.Plan.{Plan}
 use Rattle.plan.specs.declared.Finding.{Finding}
 use Rattle.plan.specs.declared.Finding.the-variants.{Clean, Short, Offsets, Sizes, Horizon, Integrator, Input, Node, Link, Command}
 
--- ---- signed numbers and amounts are read as they were written
+-- ---- signed numbers, and those that are not, are read as they were written
 signed-read : (z : ℤ) → Within M z → signedOf 4 (wordOf z) ≡ z
 signed-read z h = signed-unsigned 4 (omega arith) z (signed-size z h)
 
-amount-read : (z : ℤ) → pos 1 ≤ℤ z → pos (wordOf z) ≡ z
+unsigned-read : (z : ℤ) → pos 1 ≤ℤ z → pos (wordOf z) ≡ z
 unfolding unsignedOf
-amount-read (pos n) h = refl
-amount-read (negsuc n) h = absurd (omega (arith, zs))
+unsigned-read (pos n) h = refl
+unsigned-read (negsuc n) h = absurd (omega (arith, zs))
 
 -- what is no finding
 clean-only : (f : Finding) → isClean f ≡ true → f ≡ Clean
@@ -76,7 +76,7 @@ module _ (p : Plan) (r : PlanRules p) (u : PlanUnused p) (s : Shaped p) where
         column-back (pos 0) (signedOf 4) 0 0 (p .starts) (omega arith) (omega arith) (s .starts) (u .starts)
             (λ i h. signed-read (int (p .starts) i) (r .integrators i h .start)),
         column-back (pos 0) pos 0 1 (p .quanta) (omega arith) (omega arith) (s .quanta) (u .quanta)
-            (λ i h. amount-read (int (p .quanta) i) (r .integrators i h .least)),
+            (λ i h. unsigned-read (int (p .quanta) i) (r .integrators i h .least)),
         column-back (pos 0) (signedOf 4) 1 0 (p .firsts) (omega arith) (omega arith) (s .firsts) (u .firsts)
             (λ j h. signed-read (int (p .firsts) j) (r .inputs j h)),
         column-back 0 (λ w. w) 2 0 (p .kinds) (omega arith) (omega arith) (s .kinds) (u .kinds) (λ i h. refl),

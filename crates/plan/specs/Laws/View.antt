@@ -4,13 +4,25 @@ use mathlib.Core.Bool.{true, false, and-false}
 use mathlib.Core.List.{List, []}
 use Prim.Native.Nat.{ℕ, _≤_, _<_}
 use borrow.Author.Tests.{lt-ltb, le-ltb}
-use Rattle.plan.specs.Format.{sections, sectionIn}
-use Rattle.plan.specs.Refusals.{accepted, sectionOf}
+use Rattle.plan.specs.Format.{sections, offsetIn, sectionIn}
+use Rattle.plan.specs.Refusals.{accepted, sectionOf, sectionStart}
 
 module _ (file : List ℕ) (number : ℕ) where
   pub view-shown : accepted file ≡ true → number < sections → sectionOf file number ≡ sectionIn file number
   unfolding sectionOf
   view-shown e h = rw (e, lt-ltb number sections h)
+
+  pub start-shown : accepted file ≡ true → number < sections → sectionStart file number ≡ offsetIn file number
+  unfolding sectionStart
+  start-shown e h = rw (e, lt-ltb number sections h)
+
+  pub start-refused : accepted file ≡ false → sectionStart file number ≡ 0
+  unfolding sectionStart
+  start-refused e = rw e
+
+  pub start-above : sections ≤ number → sectionStart file number ≡ 0
+  unfolding sectionStart
+  start-above h = rw (le-ltb number sections h, and-false (accepted file))
 
   pub view-refused : accepted file ≡ false → sectionOf file number ≡ []
   unfolding sectionOf

@@ -2,9 +2,10 @@
 use native.Mathlib.Omega.{arith}
 use mathlib.Core.Path.{sym, _∙_}
 use denote.Ref.{now}
-use Rattle.plan.specs.Laws.View.{view-shown, view-refused, view-above}
+use Rattle.plan.specs.Laws.View.{view-shown, view-refused, view-above, start-shown, start-refused, start-above}
 use Rattle.planfile.specs.Directory.{directory-accepted}
 use Rattle.planrules.specs.Findings.{not-clean}
+use Rattle.planfile.specs.Pointers.{further-none}
 use Rattle.planfile.specs.Reading.{reading-finding, reading-accepts, reading-refuses}
 use borrow.Author.Needs.{needs}
 use Rattle.simulator.proofs.section.Statement.{statement}
@@ -14,7 +15,9 @@ slice-aggregate-result : tie.Need-slice-aggregate-result
 slice-aggregate-result c = search needs
 
 returns : tie.Need-returns
-returns c = let a = c .before .before .before .args in sym (view-above (now (a .file)) (a .number) (omega arith))
+returns c =
+    let a = c .before .before .before .args in
+    (sym (view-above (now (a .file)) (a .number) (omega arith)), rw (start-above (now (a .file)) (a .number) (omega arith)) (further-none (a .file .ptr)))
 
 read-plan-requires : tie.Need-read-plan-requires
 read-plan-requires c κs = search needs
@@ -29,7 +32,7 @@ returns-2 : tie.Need-returns-2
 returns-2 c =
     let a = c .before .before .before .before .before .args in
     let refuses = reading-refuses (now (a .file)) (c .before .before .read-plan .ensures) (not-clean _ (c .before .match .keys2)) in
-    sym (view-refused (now (a .file)) (a .number) refuses)
+    (sym (view-refused (now (a .file)) (a .number) refuses), rw (start-refused (now (a .file)) (a .number) refuses) (further-none (a .file .ptr)))
 
 section-in-requires : tie.Need-section-in-requires
 section-in-requires c κs =
@@ -41,7 +44,9 @@ returns-3 : tie.Need-returns-3
 returns-3 c =
     let a = c .before .before .before .before .before .before .args in
     let accepts = reading-accepts (now (a .file)) (c .before .before .before .read-plan .ensures) (c .before .enum-told .given .1) in
-    c .section-in .ensures ∙ sym (view-shown (now (a .file)) (a .number) accepts (omega arith))
+    let shown = view-shown (now (a .file)) (a .number) accepts (omega arith) in
+    let start = start-shown (now (a .file)) (a .number) accepts (omega arith) in
+    (c .section-in .ensures .0 ∙ sym shown, rw start (c .section-in .ensures .1))
 
 pub section-spec : {M : Type 1} → statement M
 section-spec =

@@ -6,8 +6,11 @@ use cup_check::plan::Plan;
 use std::collections::BTreeMap;
 use std::fmt;
 
-/// How often each answer has to be met.
+/// How often each answer has to be met, and each way in which files come about.
 const ENOUGH: u64 = 100;
+
+/// The longest file has to have so many bytes.
+const LONG: usize = 100_000;
 
 /// Counts of files and of answers.
 #[derive(Clone, Debug, Default)]
@@ -18,7 +21,7 @@ pub struct Met {
     pub longest: usize,
     /// How the files came about.
     pub origins: BTreeMap<Origin, u64>,
-    /// How often each number 0 to 9 was the reader's answer.
+    /// How often each number 0 to 9 was the second simulator's, with which the reader has to agree.
     pub numbers: [u64; 10],
     /// How often each cause was the second simulator's.
     pub causes: BTreeMap<Cause, u64>,
@@ -57,10 +60,19 @@ impl Met {
             ("parts".to_string(), self.parts),
             ("later entries".to_string(), self.later_entries),
         ];
-        let all = numbers.chain(causes).chain(others);
-        all.filter(|(_, count)| *count < ENOUGH)
+        let origins = Origin::ALL.map(|origin| {
+            let count = self.origins.get(&origin).copied().unwrap_or(0);
+            (format!("{origin:?}"), count)
+        });
+        let all = numbers.chain(causes).chain(others).chain(origins);
+        let seldom = all.filter(|(_, count)| *count < ENOUGH);
+        let mut thin: Vec<String> = seldom
             .map(|(what, count)| format!("{what}: {count}"))
-            .collect()
+            .collect();
+        if self.longest < LONG {
+            thin.push(format!("longest file: {}", self.longest));
+        }
+        thin
     }
 
     fn of_cause(&self, cause: Cause) -> u64 {

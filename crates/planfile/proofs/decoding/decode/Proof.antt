@@ -50,7 +50,7 @@ read-integrators-requires : tie.Need-read-integrators-requires
 read-integrators-requires c κs =
     let all = c .before .before .before in
     let count = all .before .before .before .before .count-in .ensures in
-    let part = c .before .before .section-in .ensures in
+    let part = c .before .before .section-in .ensures .0 in
     (section-room _ 0 count part (start all .pre) (omega arith), (refl, refl))
 
 section-in-requires-2 : tie.Need-section-in-requires-2
@@ -60,7 +60,7 @@ read-inputs-requires : tie.Need-read-inputs-requires
 read-inputs-requires c κs =
     let all = counted (c .before .before) in
     let count = all .before .before .before .count-in2 .ensures in
-    let part = c .before .section-in2 .ensures in
+    let part = c .before .section-in2 .ensures .0 in
     let room = section-room _ 1 count part (start all .pre) (omega arith) in
     (room .0, room .1, refl)
 
@@ -71,7 +71,7 @@ read-nodes-requires : tie.Need-read-nodes-requires
 read-nodes-requires c κs =
     let all = counted (behind-0 (c .before .before .before .before .before .before)) in
     let count = all .before .before .count-in3 .ensures in
-    let part = c .before .before .before .before .before .section-in3 .ensures in
+    let part = c .before .before .before .before .before .section-in3 .ensures .0 in
     (section-room _ 2 count part (start all .pre) (omega arith), ((refl, refl, refl), (refl, refl)))
 
 section-in-requires-4 : tie.Need-section-in-requires-4
@@ -81,7 +81,7 @@ read-links-requires : tie.Need-read-links-requires
 read-links-requires c κs =
     let all = counted (behind-0 (behind-1 (c .before .before .before .before))) in
     let count = all .before .count-in4 .ensures in
-    let part = c .before .before .before .section-in4 .ensures in
+    let part = c .before .before .before .section-in4 .ensures .0 in
     (section-room _ 3 count part (start all .pre) (omega arith), (refl, refl, refl))
 
 section-in-requires-5 : tie.Need-section-in-requires-5
@@ -91,7 +91,7 @@ read-commands-requires : tie.Need-read-commands-requires
 read-commands-requires c κs =
     let all = counted (behind-0 (behind-1 (behind-2 (c .before .before .before .before)))) in
     let count = all .count-in5 .ensures in
-    let part = c .before .before .before .section-in5 .ensures in
+    let part = c .before .before .before .section-in5 .ensures .0 in
     (section-room _ 4 count part (start all .pre) (omega arith), (refl, refl, refl))
 
 read-u32-requires : tie.Need-read-u32-requires
@@ -114,11 +114,11 @@ returns c =
     let k = all .before .before .count-in3 .ensures in
     let l = all .before .count-in4 .ensures in
     let e = all .count-in5 .ensures in
-    let part-0 = integrators .before .before .before .section-in .ensures in
-    let part-1 = inputs .before .before .section-in2 .ensures in
-    let part-2 = nodes .before .before .before .before .before .before .section-in3 .ensures in
-    let part-3 = links .before .before .before .before .section-in4 .ensures in
-    let part-4 = commands .before .before .before .before .section-in5 .ensures in
+    let part-0 = integrators .before .before .before .section-in .ensures .0 in
+    let part-1 = inputs .before .before .section-in2 .ensures .0 in
+    let part-2 = nodes .before .before .before .before .before .before .section-in3 .ensures .0 in
+    let part-3 = links .before .before .before .before .section-in4 .ensures .0 in
+    let part-4 = commands .before .before .before .before .section-in5 .ensures .0 in
     λ i. record {
       horizon = c .read-u32 .ensures .0 i;
       n = n i;

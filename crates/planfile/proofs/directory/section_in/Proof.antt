@@ -36,7 +36,8 @@ returns c =
     let at = c .before .before .offset-in .result in
     let size = c .before .length-in .result in
     let e : at + size - at ≡ size = omega arith in
-    rw (e, c .before .before .offset-in .ensures .0, c .before .length-in .ensures .0)
+    let start = c .before .before .offset-in .ensures .0 in
+    (rw (e, start, c .before .length-in .ensures .0), rw start)
 
 pub section-in-spec : {M : Type 1} → statement M
 section-in-spec =

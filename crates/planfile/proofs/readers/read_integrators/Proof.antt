@@ -3,14 +3,14 @@ use mathlib.Core.Path.{_≡_}
 use Prim.Native.Nat.{_-_, _≤_}
 use native.Mathlib.Omega.{arith}
 use borrow.Author.Needs.{needs}
-use Rattle.planfile.specs.Columns.{signedsOf, amountsOf}
-use Rattle.planfile.specs.Filling.{column-none, column-end, signeds-turn, amounts-turn}
+use Rattle.planfile.specs.Columns.{signedsOf, unsignedsOf}
+use Rattle.planfile.specs.Filling.{column-none, column-end, signeds-turn, unsigneds-turn}
 use Rattle.planfile.proofs.readers.read_integrators.Statement.{statement}
 use Rattle.planfile.proofs.readers.read_integrators.Tie as tie
 
 abbrev Inv-loop : tie.InvT-loop
 Inv-loop part n starts₀ quanta₀ i₀ starts quanta i =
-    (i ≤ n) × (starts ≡ signedsOf 32 8 i part 0) × (quanta ≡ amountsOf 32 8 i part 1)
+    (i ≤ n) × (starts ≡ signedsOf 32 8 i part 0) × (quanta ≡ unsignedsOf 32 8 i part 1)
 
 abbrev μ-loop : tie.MeasureT-loop
 μ-loop part n starts₀ quanta₀ i₀ starts quanta i = n - i
@@ -59,7 +59,7 @@ loop-again c =
     let v = c .before .before .before .loop .inv in (
       omega arith,
       signeds-turn _ _ _ _ _ (v .1) (c .before .read-i32 .ok) (c .before .read-i32 .ensures) (omega arith),
-      amounts-turn _ _ _ _ _ (v .2) (c .read-u32 .ensures) (omega arith),
+      unsigneds-turn _ _ _ _ _ (v .2) (c .read-u32 .ensures) (omega arith),
     )
 
 returns : tie.Need-returns Inv-loop μ-loop

@@ -7,12 +7,12 @@ use denote.Ref.{now}
 use Rattle.plan.specs.Refusals.{numberOf, isClean}
 use Rattle.plan.specs.declared.Finding.the-variants.{Command}
 use Rattle.planrules.specs.Checks.{commandLimitsAt, commandAt}
-use Rattle.planrules.specs.Findings.{Reached, begin, passed, found, none, element, held, failed}
+use Rattle.planrules.specs.Findings.{CleanTo, begin, passed, found, none, element, held, failed}
 use Rattle.planrules.proofs.checks.check_commands.Statement.{statement}
 use Rattle.planrules.proofs.checks.check_commands.Tie as tie
 
 abbrev Inv-loop : tie.InvT-loop
-Inv-loop horizon m commands ticks numbers values e₀ e = Reached (commandAt horizon m ticks numbers values) Command commands e
+Inv-loop horizon m commands ticks numbers values e₀ e = CleanTo (commandAt horizon m ticks numbers values) Command commands e
 
 abbrev μ-loop : tie.MeasureT-loop
 μ-loop horizon m commands ticks numbers values e₀ e = commands - e

@@ -7,12 +7,12 @@ use denote.Ref.{now}
 use Rattle.plan.specs.Refusals.{numberOf, isClean}
 use Rattle.plan.specs.declared.Finding.the-variants.{Input}
 use Rattle.planrules.specs.Checks.{inputAt}
-use Rattle.planrules.specs.Findings.{Reached, begin, passed, found, none, element, held, failed}
+use Rattle.planrules.specs.Findings.{CleanTo, begin, passed, found, none, element, held, failed}
 use Rattle.planrules.proofs.checks.check_inputs.Statement.{statement}
 use Rattle.planrules.proofs.checks.check_inputs.Tie as tie
 
 abbrev Inv-loop : tie.InvT-loop
-Inv-loop m firsts j₀ j = Reached (inputAt firsts) Input m j
+Inv-loop m firsts j₀ j = CleanTo (inputAt firsts) Input m j
 
 abbrev μ-loop : tie.MeasureT-loop
 μ-loop m firsts j₀ j = m - j

@@ -7,12 +7,12 @@ use denote.Ref.{now}
 use Rattle.plan.specs.Refusals.{numberOf, isClean}
 use Rattle.plan.specs.declared.Finding.the-variants.{Integrator}
 use Rattle.planrules.specs.Checks.{integratorAt}
-use Rattle.planrules.specs.Findings.{Reached, begin, passed, found, none, element, held, failed}
+use Rattle.planrules.specs.Findings.{CleanTo, begin, passed, found, none, element, held, failed}
 use Rattle.planrules.proofs.checks.check_integrators.Statement.{statement}
 use Rattle.planrules.proofs.checks.check_integrators.Tie as tie
 
 abbrev Inv-loop : tie.InvT-loop
-Inv-loop n starts quanta i₀ i = Reached (integratorAt starts quanta) Integrator n i
+Inv-loop n starts quanta i₀ i = CleanTo (integratorAt starts quanta) Integrator n i
 
 abbrev μ-loop : tie.MeasureT-loop
 μ-loop n starts quanta i₀ i = n - i

@@ -7,12 +7,12 @@ use denote.Ref.{now}
 use Rattle.plan.specs.Refusals.{numberOf, isClean}
 use Rattle.plan.specs.declared.Finding.the-variants.{Link}
 use Rattle.planrules.specs.Checks.{linkLimitsAt, linkAt}
-use Rattle.planrules.specs.Findings.{Reached, begin, passed, found, none, element, held, failed}
+use Rattle.planrules.specs.Findings.{CleanTo, begin, passed, found, none, element, held, failed}
 use Rattle.planrules.proofs.checks.check_links.Statement.{statement}
 use Rattle.planrules.proofs.checks.check_links.Tie as tie
 
 abbrev Inv-loop : tie.InvT-loop
-Inv-loop n all links targets sources coefficients e₀ e = Reached (linkAt n all targets sources coefficients) Link links e
+Inv-loop n all links targets sources coefficients e₀ e = CleanTo (linkAt n all targets sources coefficients) Link links e
 
 abbrev μ-loop : tie.MeasureT-loop
 μ-loop n all links targets sources coefficients e₀ e = links - e

@@ -7,12 +7,12 @@ use denote.Ref.{now}
 use Rattle.plan.specs.Refusals.{numberOf, isClean}
 use Rattle.plan.specs.declared.Finding.the-variants.{Node}
 use Rattle.planrules.specs.Checks.{nodeAt}
-use Rattle.planrules.specs.Findings.{Reached, begin, passed, found, none, element, held, failed}
+use Rattle.planrules.specs.Findings.{CleanTo, begin, passed, found, none, element, held, failed}
 use Rattle.planrules.proofs.checks.check_nodes.Statement.{statement}
 use Rattle.planrules.proofs.checks.check_nodes.Tie as tie
 
 abbrev Inv-loop : tie.InvT-loop
-Inv-loop base k kinds lefts rights lows highs j₀ j = Reached (nodeAt base kinds lefts rights lows highs) Node k j
+Inv-loop base k kinds lefts rights lows highs j₀ j = CleanTo (nodeAt base kinds lefts rights lows highs) Node k j
 
 abbrev μ-loop : tie.MeasureT-loop
 μ-loop base k kinds lefts rights lows highs j₀ j = k - j

@@ -21,14 +21,14 @@ returns : tie.Need-returns
 unfolding kindKept
 returns c = search (needs, comparing)
 
-plain-kept-requires : tie.Need-plain-kept-requires
-plain-kept-requires c κs = search needs
+arithmetic-kept-requires : tie.Need-arithmetic-kept-requires
+arithmetic-kept-requires c κs = search needs
 
 returns-2 : tie.Need-returns-2
 unfolding kindKept
 returns-2 c =
     let f = c .before .before .before .fits in let lo = f .lo in let hi = f .hi in
-    search (needs, comparing, simp toZ-ofZ at (c .plain-kept .ensures))
+    search (needs, comparing, simp toZ-ofZ at (c .arithmetic-kept .ensures))
 
 value-kept-requires : tie.Need-value-kept-requires
 value-kept-requires c κs = search needs
@@ -68,7 +68,7 @@ node-kept-spec =
     tie.close
     (tie.spec
     returns
-    plain-kept-requires
+    arithmetic-kept-requires
     returns-2
     value-kept-requires
     returns-3

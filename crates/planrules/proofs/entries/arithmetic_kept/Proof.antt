@@ -1,8 +1,8 @@
 -- The comparisons are the three tests, in their order.
 use borrow.Author.Needs.{needs}
 use Rattle.planrules.specs.Comparing.{comparing}
-use Rattle.planrules.proofs.entries.plain_kept.Statement.{statement}
-use Rattle.planrules.proofs.entries.plain_kept.Tie as tie
+use Rattle.planrules.proofs.entries.arithmetic_kept.Statement.{statement}
+use Rattle.planrules.proofs.entries.arithmetic_kept.Tie as tie
 
 returns : tie.Need-returns
 returns c = search (needs, comparing)
@@ -13,5 +13,5 @@ returns-2 c = search (needs, comparing)
 returns-3 : tie.Need-returns-3
 returns-3 c = search (needs, comparing)
 
-pub plain-kept-spec : {M : Type 1} → statement M
-plain-kept-spec = tie.close (tie.spec returns returns-2 returns-3)
+pub arithmetic-kept-spec : {M : Type 1} → statement M
+arithmetic-kept-spec = tie.close (tie.spec returns returns-2 returns-3)
