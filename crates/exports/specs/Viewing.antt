@@ -9,8 +9,9 @@ use lib.ListN.{length}
 use borrow.Author.Tests.{ltb-true, ltb-false, eqb-true, eqb-false, ne-eqb}
 use Rattle.plan.specs.Format.{sections, headerLength, offsetIn, part, sectionIn}
 use Rattle.plan.specs.Refusals.{accepted, sectionOf}
-use Rattle.plan.specs.Laws.Answers.{accepted-offsets, accepted-sizes}
-use Rattle.plan.specs.Laws.Parts.{length-section-in, file-limits}
+use Rattle.plan.specs.Laws.Answers.{accepted-offsets}
+use Rattle.plan.specs.Laws.Parts.{length-section-in}
+use Rattle.planfile.specs.Directory.{directory-accepted}
 use Rattle.plan.specs.Laws.View.{view-shown, view-refused, view-above}
 
 unfoldable pub viewLength : List ℕ → ℕ → ℕ
@@ -34,8 +35,7 @@ module _ (file : List ℕ) (number : ℕ) where
     where
       go : (a b : Bool) → accepted file ≡ a → ltb number sections ≡ b → Shown
       go true true e h =
-          let limits = file-limits file (accepted-sizes file e) (accepted-offsets file e) in
-          record { yes = e; known = ltb-true number sections h; long = omega arith }
+          record { yes = e; known = ltb-true number sections h; long = directory-accepted file e .long }
       go true false e h = absurd (n (ap length (view-above file number (ltb-false number sections h))))
       go false b e h = absurd (n (ap length (view-refused file number e)))
 

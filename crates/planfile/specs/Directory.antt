@@ -1,5 +1,5 @@
 -- The refusals 1 to 3 of a file, in order, before any entry is read; and what a reader of its sections asks of it.
-use mathlib.Core.Path.{_≡_, refl, sym, ap, _∙_}
+use mathlib.Core.Path.{_≡_, refl, ap, _∙_}
 use mathlib.Core.Bool.{Bool, true, false}
 use mathlib.Core.List.{List}
 use Prim.Native.Nat.{ℕ, _≤_}
@@ -8,10 +8,13 @@ use lib.ListN.{length}
 use Rattle.plan.specs.Format.{headerLength, planIn}
 use Rattle.plan.specs.Tests.{longEnough, offsetsKept, sizesKept}
 use Rattle.plan.specs.Rules.{OffsetRule, SizeRule}
-use Rattle.plan.specs.Refusals.{numberOf, isClean, unless, orElse, planFinding, findingOf}
+use Rattle.plan.specs.Refusals.{numberOf, isClean, unless, orElse, planFinding, findingOf, accepted}
+use Rattle.plan.specs.Laws.Answers.{accepted-offsets, accepted-sizes}
+use Rattle.plan.specs.Laws.Parts.{file-limits}
 use Rattle.plan.specs.Laws.KeptFile.{long-kept, offsets-kept, sizes-kept}
 use Rattle.plan.specs.declared.Finding.{Finding}
-use Rattle.plan.specs.declared.Finding.the-variants.{Clean, Short, Offsets, Sizes, Horizon, Integrator, Input, Node, Link, Command}
+use Rattle.plan.specs.declared.Finding.the-variants.{Clean, Short, Offsets, Sizes}
+use Rattle.planrules.specs.Findings.{orElse-join}
 
 unfoldable pub directoryFinding : List ℕ → Finding
 directoryFinding file =
@@ -25,16 +28,13 @@ pub record Directory (file : List ℕ) : Type 0 where
 
 -- what the directory finds is what the file is refused for, and else what its plan is refused for
 pub finding-directory : (file : List ℕ) → findingOf file ≡ orElse (directoryFinding file) (planFinding (planIn file))
-unfolding findingOf directoryFinding orElse isClean numberOf
-finding-directory file = go (longEnough file) (offsetsKept file) (sizesKept file)
-  where
-    go : (a b c : Bool)
-        → orElse (unless a Short) (orElse (unless b Offsets) (orElse (unless c Sizes) (planFinding (planIn file))))
-        ≡ orElse (orElse (unless a Short) (orElse (unless b Offsets) (unless c Sizes))) (planFinding (planIn file))
-    go true true true = refl
-    go true true false = refl
-    go true false c = refl
-    go false b c = refl
+unfolding findingOf directoryFinding
+finding-directory file =
+    let short = unless (longEnough file) Short in
+    let offsets = unless (offsetsKept file) Offsets in
+    let sizes = unless (sizesKept file) Sizes in
+    let plan = planFinding (planIn file) in
+    ap (orElse short) (orElse-join offsets sizes plan) ∙ orElse-join short (orElse offsets sizes) plan
 
 -- where the directory finds nothing it keeps its rules
 pub directory-kept : (file : List ℕ) → directoryFinding file ≡ Clean → Directory file
@@ -49,19 +49,9 @@ directory-kept file = go (longEnough file) (offsetsKept file) (sizesKept file) r
     go true false c x y z e = absurd (omega (arith, ap numberOf e))
     go false b c x y z e = absurd (omega (arith, ap numberOf e))
 
--- so does the directory of a file that is not refused
-pub directory-accepted : (file : List ℕ) → Clean ≡ findingOf file → Directory file
-unfolding orElse isClean numberOf
-directory-accepted file e = directory-kept file (go (directoryFinding file) (e ∙ finding-directory file))
-  where
-    go : (found : Finding) → Clean ≡ orElse found (planFinding (planIn file)) → found ≡ Clean
-    go Clean h = refl
-    go Short h = sym h
-    go Offsets h = sym h
-    go Sizes h = sym h
-    go Horizon h = sym h
-    go (Integrator i) h = sym h
-    go (Input j) h = sym h
-    go (Node j) h = sym h
-    go (Link k) h = sym h
-    go (Command k) h = sym h
+-- so does the directory of an accepted file
+pub directory-accepted : (file : List ℕ) → accepted file ≡ true → Directory file
+directory-accepted file e =
+    let offsets = accepted-offsets file e in
+    let sizes = accepted-sizes file e in
+    record { long = omega (arith, file-limits file sizes offsets); offsets = offsets; sizes = sizes }

@@ -6,7 +6,7 @@ use Rattle.plan.specs.Laws.View.{view-shown, view-refused, view-above, start-sh
 use Rattle.planfile.specs.Directory.{directory-accepted}
 use Rattle.planrules.specs.Findings.{not-clean}
 use Rattle.planfile.specs.Pointers.{further-none}
-use Rattle.planfile.specs.Reading.{reading-finding, reading-accepts, reading-refuses}
+use Rattle.planfile.specs.Reading.{reading-accepts, reading-refuses}
 use borrow.Author.Needs.{needs}
 use Rattle.simulator.proofs.section.Statement.{statement}
 use Rattle.simulator.proofs.section.Tie as tie
@@ -37,8 +37,8 @@ returns-2 c =
 section-in-requires : tie.Need-section-in-requires
 section-in-requires c κs =
     let a = c .before .before .before .before .before .args in
-    let finding = reading-finding (now (a .file)) (c .before .before .read-plan .ensures) in
-    (directory-accepted (now (a .file)) (sym (c .enum-told .given .1) ∙ finding), omega arith)
+    let accepts = reading-accepts (now (a .file)) (c .before .before .read-plan .ensures) (c .enum-told .given .1) in
+    (directory-accepted (now (a .file)) accepts, omega arith)
 
 returns-3 : tie.Need-returns-3
 returns-3 c =
