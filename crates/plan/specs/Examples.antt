@@ -13,7 +13,7 @@ use Rattle.plan.specs.Format.{horizonIn, offsetIn, lengthIn, startIn, co
 use Rattle.plan.specs.Tests.{longEnough, offsetsKept, countKept, sizesKept, horizonKept, counts, integratorKept, inputKept}
 use Rattle.plan.specs.Tests.{kindKept, ascends, nodeKept, linkLimits, linkOrdered, commandLimits, commandOrdered}
 use Rattle.plan.specs.Refusals.{numberOf, entryOf, isClean, orElse, firstFinding, horizonFinding, integratorsFinding, inputsFinding}
-use Rattle.plan.specs.Refusals.{nodesFinding, linksFinding, commandsFinding, planFinding, findingOf, accepted, sectionOf}
+use Rattle.plan.specs.Refusals.{nodesFinding, linksFinding, commandsFinding, planFinding, findingOf, accepted, sectionOf, sectionStart}
 use Rattle.plan.specs.Encoding.{offsetFrom, lengthOf, offsetOf, fileLength, headerWords, integratorWords, inputWords, nodeWords, linkWords}
 use Rattle.plan.specs.Encoding.{commandWords, fileWords, encode}
 use Rattle.plan.specs.Idle.{idlePlan}
@@ -103,6 +103,9 @@ examples =
     ∷ case (List ℕ) (sectionOf cupFile 3) (take 24 (drop 64 cupFile))
     ∷ case (List ℕ) (sectionOf cupFile 4) (drop 88 cupFile)
     ∷ case (List ℕ) (sectionOf cupFile 5) []
+    ∷ case ℕ (sectionStart cupFile 2) 64
+    ∷ case ℕ (sectionStart cupFile 4) 88
+    ∷ case ℕ (sectionStart cupFile 5) 0
     ∷ case Plan (planIn (encode idlePlan)) idlePlan
     ∷ case ℕ (fileLength idlePlan) 52
     -- a plan with nodes and numbers below 0, decoded and encoded; the counts and the length of the longest file
@@ -197,11 +200,11 @@ pub examples-right : AllRight examples
 unfolding examples numberAt bytesOf signedOf unsignedOf flat within table row joined every horizonIn offsetIn lengthIn startIn countIn
     part sectionIn columnOf columnIn planIn longEnough offsetsKept countKept sizesKept horizonKept counts integratorKept inputKept kindKept
     ascends nodeKept linkLimits linkOrdered commandLimits commandOrdered numberOf entryOf isClean orElse firstFinding horizonFinding
-    integratorsFinding inputsFinding nodesFinding linksFinding commandsFinding planFinding findingOf accepted sectionOf lengthOf
+    integratorsFinding inputsFinding nodesFinding linksFinding commandsFinding planFinding findingOf accepted sectionOf sectionStart lengthOf
     offsetFrom offsetOf fileLength headerWords integratorWords inputWords nodeWords linkWords commandWords fileWords encode
 examples-right =
     refl & refl & refl & refl & refl & refl & refl & refl & refl & refl & refl & refl & refl & refl & refl & refl & refl & refl & refl & refl &
     refl & refl & refl & refl & refl & refl & refl & refl & refl & refl & refl & refl & refl & refl & refl & refl & refl & refl & refl & refl &
     refl & refl & refl & refl & refl & refl & refl & refl & refl & refl & refl & refl & refl & refl & refl & refl & refl & refl & refl & refl &
     refl & refl & refl & refl & refl & refl & refl & refl & refl & refl & refl & refl & refl & refl & refl & refl & refl & refl & refl & refl &
-    refl & refl & refl & refl & refl & refl & refl & refl & refl & end
+    refl & refl & refl & refl & refl & refl & refl & refl & refl & refl & refl & refl & end

@@ -49,7 +49,7 @@ pub fn count_kept(k: usize, count: u64) -> bool
     count <= largest_count(k)
 }
 
-// Whether the counts of a plan, in the order of the sections, are inside their limits. They may be as wild as they like.
+// Whether the counts of a plan, in the order of the sections, are inside their limits. They may be any numbers.
 pub fn counts_kept(counts: &[usize; 5]) -> bool
     ensures { λ r. ⌜ r ≡ every (λ k. countKept k (nat (now (counts .entry)) k)) sections ⌝ }
 {

@@ -199,3 +199,18 @@ pub fn next_to(file: &[u8]) -> Vec<Vec<u8>> {
     });
     cut.chain(turned).chain(replaced).collect()
 }
+
+#[cfg(test)]
+mod tests {
+    use super::*;
+
+    /// A way of making files that is left out of the list would not be insisted on.
+    #[test]
+    fn every_origin_is_listed() {
+        let shared = SHARES.map(|(origin, _)| origin);
+        for origin in shared.into_iter().chain([Origin::NextToSample]) {
+            assert!(Origin::ALL.contains(&origin), "{origin:?}");
+        }
+        assert_eq!(Origin::ALL.len(), SHARES.len() + 1);
+    }
+}

@@ -1,4 +1,5 @@
--- Number and entry are those of the finding that the reading has. The proof names neither call, so that an exchange is refused for its answers.
+-- Number and entry are those of the finding that the reading has. The proof of what it returns names neither call, so that an exchange is
+-- refused for its answers.
 use mathlib.Core.Path.{ap, _∙_}
 use denote.Ref.{now}
 use Rattle.plan.specs.Refusals.{numberOf, entryOf}

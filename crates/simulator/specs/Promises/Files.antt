@@ -6,7 +6,7 @@ use Prim.Native.Nat.{ℕ, _+_, _*_, _≤_, _<_}
 use lib.ListN.{length, take, drop}
 use Rattle.words.specs.Word.{Bytes, word}
 use Rattle.plan.specs.Format.{Shaped, planIn}
-use Rattle.plan.specs.Refusals.{sectionOf}
+use Rattle.plan.specs.Refusals.{sectionOf, sectionStart}
 use Rattle.plan.specs.Rules.{Answered}
 use Rattle.plan.specs.Places.{HeaderPlaces, EntryPlaces}
 use Rattle.machine.specs.Start.{startState, idleState}
@@ -38,6 +38,7 @@ pub record ViewPromise (file : List ℕ) (number : ℕ) : Type 0 where
   pub shown : loadOf file .number ≡ 0 → number ≤ 4
       → sectionOf file number ≡ take (word file (8 + 8 * number)) (drop (word file (4 + 8 * number)) file)
   pub whole : loadOf file .number ≡ 0 → number ≤ 4 → length (sectionOf file number) ≡ word file (8 + 8 * number)
+  pub place : loadOf file .number ≡ 0 → number ≤ 4 → sectionStart file number ≡ word file (4 + 8 * number)
   pub refused : (loadOf file .number ≡ 0 → ⊥) → sectionOf file number ≡ []
   pub above : 4 < number → sectionOf file number ≡ []
 

@@ -16,7 +16,7 @@ use Rattle.plan.specs.Laws.Answers.{answered, accepted-offsets}
 use Rattle.plan.specs.Laws.Entries.{file-shaped}
 use Rattle.plan.specs.Laws.IdlePlan.{idle-shaped}
 use Rattle.plan.specs.Laws.Parts.{length-section-in}
-use Rattle.plan.specs.Laws.View.{view-shown, view-refused, view-above}
+use Rattle.plan.specs.Laws.View.{view-shown, view-refused, view-above, start-shown}
 use Rattle.plan.specs.Laws.ReadBack.{plan-back, clean-back}
 use Rattle.plan.specs.Laws.Refused.{plan-rules}
 use Rattle.machine.specs.Sound.{RunningShaped}
@@ -60,6 +60,7 @@ every-view file number = record {
   whole = λ e h.
       let yes = load-accepted file e in
       rw (view-shown file number yes (omega arith)) (length-section-in file (accepted-offsets file yes) number (omega arith));
+  place = λ e h. start-shown file number (load-accepted file e) (omega arith);
   refused = λ e. view-refused file number (load-refused file e);
   above = λ h. view-above file number h;
 }

@@ -37,7 +37,7 @@ fn main() {
     println!("{NOTES}");
     if cfg!(debug_assertions) {
         println!("Built with overflow checks and assertions, which only the second simulator");
-        println!("has to pay for. '--profile fast' builds without them.\n");
+        println!("spends time on. '--profile fast' builds without them.\n");
     }
     println!(
         "{:30}{:>10}{:>10}{:>12}{:>10}{:>10}{:>8}",

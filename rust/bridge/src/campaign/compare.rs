@@ -78,7 +78,9 @@ fn compare_sections(
                 of(part)
             ));
         }
-        met.parts += u64::from(!expected.is_empty());
+        if !expected.is_empty() {
+            met.parts[number] += 1;
+        }
     }
     Ok(())
 }

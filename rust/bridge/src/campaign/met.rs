@@ -27,8 +27,8 @@ pub struct Met {
     pub causes: BTreeMap<Cause, u64>,
     /// Faults at an entry above 0.
     pub later_entries: u64,
-    /// Section views that were not empty.
-    pub parts: u64,
+    /// Section views that were not empty, by their number.
+    pub parts: [u64; 5],
     /// How often each number 0 to 13 was the answer to rewriting.
     pub rewritten: [u64; 14],
 }
@@ -49,7 +49,7 @@ impl Met {
         }
     }
 
-    /// The answers that were met too seldom to count as compared.
+    /// The answers, sections and ways of making files that were met too seldom to count as compared.
     pub fn thin(&self) -> Vec<String> {
         let numbers = (0..).zip(self.numbers);
         let numbers = numbers.map(|(number, count)| (format!("number {number}"), count));
@@ -57,14 +57,19 @@ impl Met {
         let others = [
             ("rewritten".to_string(), self.rewritten[0]),
             ("buffers too short".to_string(), self.rewritten[13]),
-            ("parts".to_string(), self.parts),
             ("later entries".to_string(), self.later_entries),
         ];
+        let parts = (0..).zip(self.parts);
+        let parts = parts.map(|(number, count)| (format!("section {number}"), count));
         let origins = Origin::ALL.map(|origin| {
             let count = self.origins.get(&origin).copied().unwrap_or(0);
             (format!("{origin:?}"), count)
         });
-        let all = numbers.chain(causes).chain(others).chain(origins);
+        let all = numbers
+            .chain(causes)
+            .chain(others)
+            .chain(parts)
+            .chain(origins);
         let seldom = all.filter(|(_, count)| *count < ENOUGH);
         let mut thin: Vec<String> = seldom
             .map(|(what, count)| format!("{what}: {count}"))
@@ -93,7 +98,11 @@ impl fmt::Display for Met {
             writeln!(out)?;
         }
         writeln!(out, "  faults at an entry above 0: {}", self.later_entries)?;
-        writeln!(out, "  section views not empty: {}", self.parts)?;
+        writeln!(
+            out,
+            "  section views not empty, by number: {:?}",
+            self.parts
+        )?;
         let refused: u64 = self.rewritten[1..10].iter().sum();
         writeln!(
             out,

@@ -1,4 +1,4 @@
--- The proof names no call, so that an exchange of the two is refused for what it answers.
+-- The proofs of what it returns name no call, so that an exchange of the two is refused for what it answers.
 use mathlib.Core.Path.{refl, sym, _∙_}
 use Rattle.planrules.specs.Findings.{tried, refused, not-clean}
 use borrow.Author.Needs.{needs}
