@@ -54,9 +54,7 @@ loop-again c =
     let b = c .before .before .before .before .loop in
     let file = now (c .before .before .before .before .before .before .args .file) in
     let same = eq-eqb (offsetIn file (b .k)) (startIn file (b .k)) (omega arith) in
-    let end : c .before .before .offset-in .result + c .length-in .result ≡ startIn file (b .k + 1) =
-    rw add-one (omega arith) in
-    (omega arith, every-more _ (b .inv .1) same, end)
+    (omega arith, every-more _ (b .inv .1) same, rw add-one (omega arith))
 
 returns-2 : tie.Need-returns-2 Inv-loop μ-loop
 unfolding offsetsKept
