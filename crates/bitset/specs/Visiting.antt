@@ -1,15 +1,17 @@
 -- Visiting by lowest and rest: the lowest of a mask is in it and none below it is, the rest has all but the lowest, and so a loop that
 -- takes the lowest each time is the loop with a test over all numbers below the width. Assumes nothing.
 use mathlib.Core.Path.{_≡_, refl, sym, ap, _∙_}
-use mathlib.Core.Bool.{Bool, true, false, cond, _&&_, not, and-true, and-false}
+use mathlib.Core.Bool.{Bool, true, false, cond, _&&_, not, and-true, and-false, true≢false}
 use mathlib.Core.Logic.{⊎-elim}
 use Prim.Native.Nat.{ℕ, zero, suc, _+_, _-_, _*_, _/_, _%_, _^_, _≤_, _<_}
 use native.Mathlib.Nat.{zero-add, eq-or-lt-of-le, le-of-suc-le-suc, not-suc-le-zero, add-zero, add-suc, min-zero, zero-min, pow-suc}
+use native.Mathlib.Nat.{lt-of-lt-of-le}
 use native.Mathlib.Omega.{arith}
-use lib.Dec.{eqb, eqb·suc-zero, eqb·suc-suc}
+use lib.Dec.{ltb, eqb, eqb·suc-zero, eqb·suc-suc}
+use lib.Pow.{pow-mono}
 use lib.Bits.{and-step, and-self, and-le-r}
 use lib.Count.{trailingZeros, trailing-le}
-use borrow.Author.Tests.{eq-eqb, ne-eqb}
+use borrow.Author.Tests.{ltb-true, ltb-false, eq-eqb, ne-eqb}
 use Rattle.bitset.specs.Mask.{has, maskOf, each, lowestOf, restOf}
 use Rattle.bitset.specs.Bits.{parity, has-none, has-zero, has-suc, has-high, has-maskOf, maskOf-lt}
 
@@ -52,6 +54,16 @@ has-lowest (suc w) m p h =
     let b : m < 2 ^ w * 2 = rw pow-suc at h in
     ⊎-elim (λ (e : m % 2 ≡ 0). rw (lowest-even w m e) (has-suc m (lowestOf w (m / 2)) ∙ has-lowest w (m / 2) (omega arith) (omega arith)))
     (λ (e : m % 2 ≡ 1). rw (lowest-odd w m e) (has-zero m ∙ rw e)) (parity m)
+
+-- the lowest of a mask of k bits is below k, at any width that holds it
+pub lowest-below : (w k m : ℕ) → 0 < m → m < 2 ^ k → k ≤ w → lowestOf w m < k
+lowest-below w k m p h l = go (ltb (lowestOf w m) k) refl
+  where
+    go : (b : Bool) → ltb (lowestOf w m) k ≡ b → lowestOf w m < k
+    go true e = ltb-true (lowestOf w m) k e
+    go false e =
+        absurd
+        (true≢false (sym (has-lowest w m p (lt-of-lt-of-le h (pow-mono l))) ∙ has-high m k (lowestOf w m) h (ltb-false (lowestOf w m) k e)))
 
 pub below-lowest : (w m i : ℕ) → i < lowestOf w m → has m i ≡ false
 below-lowest zero m i l = absurd (omega (arith, trailing-le 0 m))

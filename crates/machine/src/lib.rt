@@ -8,6 +8,7 @@ use plan::Plan;
 
 // Per integrator position x, output q, slope s, last-moved tick l and due tick d, 0 in the unused entries; the input values; the
 // clock, the number of the next command, instants and updates.
+#[repr(C)]
 pub struct Running {
     pub x: [i64; 32],
     pub q: [i64; 32],
@@ -21,6 +22,7 @@ pub struct Running {
     pub updates: u64,
 }
 
+#[repr(C)]
 pub struct State {
     pub plan: Plan,
     pub run: Running,

@@ -3,6 +3,7 @@ ghost use mathlib.Core.Path.{_≡_};
 ghost use Rattle.plan.specs.Idle.{idlePlan};
 
 // Source numbers: integrators 0 to n−1, inputs n to n+m−1, nodes from n+m.
+#[repr(C)]
 pub struct Plan {
     pub horizon: u32,
     // counts of integrators, inputs, nodes, links and commands

@@ -7,6 +7,7 @@ mod layout;
 
 pub use checks::check_plan;
 pub use checks::plan_kept;
+pub use entries::value_kept;
 pub use findings::entry_of;
 pub use findings::number_of;
 pub use layout::HEADER_LENGTH;

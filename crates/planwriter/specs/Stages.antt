@@ -20,7 +20,8 @@ use Rattle.plan.specs.Laws.Small.{signed-size, coefficient-within, quantum-with
 use Rattle.plan.specs.declared.Plan.{Plan}
 use Rattle.planwriter.specs.Entries.{Unsigned32, Signed32}
 use Rattle.planwriter.specs.Plans.{writtenLength, writtenBuffer}
-use Rattle.planwriter.specs.Writing.{Begun, begun-of, behind, back, length-behind, turn}
+use Rattle.words.specs.Putting.{behind, back, length-behind}
+use Rattle.planwriter.specs.Writing.{Begun, begun-of, turn}
 
 -- ---- the numbers
 -- each number of a used entry fits a word

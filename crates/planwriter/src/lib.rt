@@ -16,6 +16,7 @@ use planrules::HEADER_LENGTH;
 use planrules::SECTIONS;
 use planrules::entry_size;
 use words::write_i32;
+use words::write_triple;
 use words::write_u32;
 
 // The words of an integrator's entry at the start of a part of the buffer.
@@ -45,16 +46,6 @@ fn write_node(buf: &mut [u8], kind: usize, a: usize, b: usize, lo: i64, hi: i64)
     write_u32(buf, 8, b as u64);
     write_i32(buf, 12, lo);
     write_i32(buf, 16, hi);
-}
-
-// The words of a link's entry and of a command's: two numbers and a signed one.
-fn write_triple(buf: &mut [u8], a: usize, b: usize, value: i64)
-    requires { ⌜ (12 ≤ length (now buf)) × (a < 2 ^ 32) × (b < 2 ^ 32) × (mag value < 2 ^ 31) ⌝ }
-    ensures { λ _. ⌜ now (buf .exit) ≡ written (a ∷ b ∷ wordOf value ∷ []) (now (buf .entry)) ⌝ }
-{
-    write_u32(buf, 0, a as u64);
-    write_u32(buf, 4, b as u64);
-    write_i32(buf, 8, value);
 }
 
 // A section's pair of offset and length in the header.

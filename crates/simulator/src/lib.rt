@@ -10,18 +10,21 @@ use planrules::SECTIONS;
 
 // Number 0 is acceptance; else it is one of document 01's refusals. A refused load gives the lowest faulty entry, and the idle state. Every
 // other refused call gives 0 for its other figures, and the state that was handed in.
+#[repr(C)]
 pub struct Loaded {
     pub number: usize,
     pub entry: usize,
     pub state: State,
 }
 
+#[repr(C)]
 pub struct Written {
     pub number: usize,
     pub length: usize,
     pub state: State,
 }
 
+#[repr(C)]
 pub struct Ran {
     pub number: usize,
     pub status: usize,
@@ -30,6 +33,7 @@ pub struct Ran {
     pub state: State,
 }
 
+#[repr(C)]
 pub struct Positioned {
     pub number: usize,
     pub value: i64,

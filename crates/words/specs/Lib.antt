@@ -4,3 +4,4 @@ pub mod Reading
 pub mod Writing
 pub mod Flat
 pub mod Signs
+pub mod Putting

@@ -1,10 +1,11 @@
 // Numbers of 32 bits in a slice of bytes, lowest byte first. A word is the unsigned value of four bytes; a signed number is in two's
 // complement.
 ghost use mathlib.Core.Path.{_≡_};
+ghost use mathlib.Core.List.{[], _∷_};
 ghost use Prim.Native.Nat.{_+_, _^_, _≤_, _<_};
 ghost use lib.ListN.{length};
 ghost use lib.Signed.{mag};
-ghost use Rattle.words.specs.Word.{word, signedWord, signedOf, wordOf, put};
+ghost use Rattle.words.specs.Word.{word, signedWord, signedOf, wordOf, put, written};
 
 // A byte, wide enough to be added up.
 fn wide(x: u8) -> u64
@@ -70,4 +71,14 @@ pub fn write_i32(s: &mut [u8], at: usize, z: i64)
     ensures { λ _. ⌜ now (s .exit) ≡ put 4 (now (s .entry)) at (wordOf z) ⌝ }
 {
     write_u32(s, at, unsigned(z));
+}
+
+// Three words at the start of a slice: two numbers and a signed one, as links, commands and events have them.
+pub fn write_triple(buf: &mut [u8], a: usize, b: usize, value: i64)
+    requires { ⌜ (12 ≤ length (now buf)) × (a < 2 ^ 32) × (b < 2 ^ 32) × (mag value < 2 ^ 31) ⌝ }
+    ensures { λ _. ⌜ now (buf .exit) ≡ written (a ∷ b ∷ wordOf value ∷ []) (now (buf .entry)) ⌝ }
+{
+    write_u32(buf, 0, a as u64);
+    write_u32(buf, 4, b as u64);
+    write_i32(buf, 8, value);
 }

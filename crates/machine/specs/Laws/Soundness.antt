@@ -1,5 +1,5 @@
 -- An instant leaves a sound state, whoever moves besides those due or reached. Assumes nothing.
-use mathlib.Core.Path.{_≡_, refl, sym, _∙_}
+use mathlib.Core.Path.{_≡_, refl}
 use mathlib.Core.Bool.{Bool, true, false, cond, true≢false, _||_}
 use mathlib.Core.List.{List}
 use Prim.Native.Nat.{ℕ, suc, _≤_, _<_}
@@ -25,7 +25,7 @@ use Rattle.machine.specs.Laws.Due.{due-ahead}
 use Rattle.machine.specs.Laws.Next.{command-first, tick-due, tick-above}
 use Rattle.machine.specs.Laws.Status.{tick-horizon, due-size}
 use Rattle.machine.specs.Laws.Inputs.{settings-size}
-use Rattle.machine.specs.Laws.Taken.{outputs-at, x-at, l-at}
+use Rattle.machine.specs.Laws.Taken.{outputs-at, output-kept, x-at, l-at}
 use Rattle.machine.specs.Laws.Moved.{between-then, not-due, slope-at, due-at, due-by-rule}
 use Rattle.machine.specs.declared.Running.{Running}
 use Rattle.machine.specs.declared.Engine.{Engine}
@@ -45,85 +45,91 @@ pub record Takes (p : Plan) (r : Running) (t : ℕ) : Type 0 where
   pub least : (i : ℕ) → i < p .n → t ≤ nat (r .d) i
   pub within : (i : ℕ) → i < p .n → isDue (r .d) t i ≡ true → ∣ positionAt r t i ∣ ≤ M
 
-module _ (p : Plan) (r : Running) (ok : SoundRunning p r) (t : ℕ) (takes : Takes p r t)
-    (moved : ℕ → Bool) (covers : (i : ℕ) → i < p .n → moved i ≡ false → (isDue (r .d) t i || reached p (r .d) t i) ≡ false) where
+module _ (p : Plan) (r : Running) (ok : SoundRunning p r) (t : ℕ) (takes : Takes p r t) where
   limits : Counts p
   limits = counts-of p (ok .plan .counts)
 
   from : r .clock ≤ t
   from = omega (arith, takes .after)
 
-  output-size : (i : ℕ) → i < p .n → ∣ int (outputs p r t) i ∣ ≤ M
+  pub output-size : (i : ℕ) → i < p .n → ∣ int (outputs p r t) i ∣ ≤ M
   output-size i h = rw (outputs-at p limits r t i h) (go (isDue (r .d) t i) refl)
     where
       go : (b : Bool) → isDue (r .d) t i ≡ b → ∣ cond b (positionAt r t i) (int (r .q) i) ∣ ≤ M
       go true e = takes .within i h e
       go false e = ok .integrators i h .output
 
-  -- a due integrator moves to its output; the others stay between their levels
-  near-then : (i : ℕ) → i < p .n → pos ∣ int (takenAt p r t moved .x) i -ℤ int (outputs p r t) i ∣ <ℤ int (p .quanta) i
-  near-then i h =
-      rw (x-at p limits r t moved i h, outputs-at p limits r t i h) (go (moved i) (isDue (r .d) t i) refl refl)
+  pub setting-size : (j : ℕ) → j < p .m → ∣ int (settings p (r .inputs) t) j ∣ ≤ M
+  setting-size = settings-size p (ok .plan) (r .inputs) t (λ k l. within-size M _ .0 (ok .inputs k l))
+
+  -- a due integrator stands at its output; the others stay between their levels
+  pub near-output : (i : ℕ) → i < p .n → pos ∣ positionAt r t i -ℤ int (outputs p r t) i ∣ <ℤ int (p .quanta) i
+  near-output i h = rw (outputs-at p limits r t i h) (go (isDue (r .d) t i) refl)
     where
-      old : pos ∣ int (r .x) i -ℤ int (r .q) i ∣ <ℤ int (p .quanta) i
-      old = ok .integrators i h .near
+      go : (b : Bool) → isDue (r .d) t i ≡ b → pos ∣ positionAt r t i -ℤ cond b (positionAt r t i) (int (r .q) i) ∣ <ℤ int (p .quanta) i
+      go true e = near-itself (positionAt r t i) (int (p .quanta) i) (ok .plan .integrators i h .least)
+      go false e = near-between p (r .q) i (positionAt r t i) .1 (between-then p r ok t from (takes .least) i h e)
 
-      go : (b c : Bool) → moved i ≡ b → isDue (r .d) t i ≡ c
-          → pos ∣ cond b (positionAt r t i) (int (r .x) i) -ℤ cond c (positionAt r t i) (int (r .q) i) ∣ <ℤ int (p .quanta) i
-      go true true e f = near-itself (positionAt r t i) (int (p .quanta) i) (ok .plan .integrators i h .least)
-      go true false e f = near-between p (r .q) i (positionAt r t i) .1 (between-then p r ok t from (takes .least) i h f)
-      go false true e f = absurd (true≢false (sym f ∙ not-due p r ok t from (takes .least) moved covers i h e))
-      go false false e f = old
+  -- whoever moves
+  module _ (moved : ℕ → Bool) (covers : (i : ℕ) → i < p .n → moved i ≡ false → (isDue (r .d) t i || reached p (r .d) t i) ≡ false) where
+    -- one that does not move is not due, and keeps its output
+    near-then : (i : ℕ) → i < p .n → pos ∣ int (takenAt p r t moved .x) i -ℤ int (outputs p r t) i ∣ <ℤ int (p .quanta) i
+    near-then i h = rw (x-at p limits r t moved i h) (go (moved i) refl)
+      where
+        go : (b : Bool) → moved i ≡ b → pos ∣ cond b (positionAt r t i) (int (r .x) i) -ℤ int (outputs p r t) i ∣ <ℤ int (p .quanta) i
+        go true e = near-output i h
+        go false e =
+            rw (output-kept p limits r t i h (not-due p r ok t from (takes .least) moved covers i h e)) (ok .integrators i h .near)
 
-  moved-then : (i : ℕ) → i < p .n → cond (moved i) t (nat (r .l) i) ≤ t
-  moved-then i h = go (moved i)
-    where
-      go : (b : Bool) → cond b t (nat (r .l) i) ≤ t
-      go true = omega arith
-      go false = omega (arith, takes .after, ok .integrators i h .moved)
+    moved-then : (i : ℕ) → i < p .n → cond (moved i) t (nat (r .l) i) ≤ t
+    moved-then i h = go (moved i)
+      where
+        go : (b : Bool) → cond b t (nat (r .l) i) ≤ t
+        go true = omega arith
+        go false = omega (arith, takes .after, ok .integrators i h .moved)
 
-  integrator-then : (i : ℕ) → i < p .n → SoundIntegrator p (takenAt p r t moved) i
-  unfolding takenAt slopeThen dueThen dueOf
-  integrator-then i h =
-      let soon : t < never = omega (arith, takes .until, ok .plan .horizon .1) in
-      record {
-        moved = rw (l-at p limits r t moved i h) (moved-then i h);
-        ahead = rw (due-at p r ok t from (takes .least) moved covers i h) (due-ahead t _ _ _ _ soon);
-        output = output-size i h;
-        near = near-then i h;
-        rate = slope-at p r ok t from (takes .least) moved covers i h;
-        due =
-            rw (
-              due-at p r ok t from (takes .least) moved covers i h,
-              x-at p limits r t moved i h,
-              l-at p limits r t moved i h,
-              slope-at p r ok t from (takes .least) moved covers i h,
-            )
-            (due-by-rule p r ok t from (takes .least) moved covers i h);
-      }
+    integrator-then : (i : ℕ) → i < p .n → SoundIntegrator p (takenAt p r t moved) i
+    unfolding takenAt slopeThen dueThen dueOf
+    integrator-then i h =
+        let soon : t < never = omega (arith, takes .until, ok .plan .horizon .1) in
+        record {
+          moved = rw (l-at p limits r t moved i h) (moved-then i h);
+          ahead = rw (due-at p r ok t from (takes .least) moved covers i h) (due-ahead t _ _ _ _ soon);
+          output = output-size i h;
+          near = near-then i h;
+          rate = slope-at p r ok t from (takes .least) moved covers i h;
+          due =
+              rw (
+                due-at p r ok t from (takes .least) moved covers i h,
+                x-at p limits r t moved i h,
+                l-at p limits r t moved i h,
+                slope-at p r ok t from (takes .least) moved covers i h,
+              )
+              (due-by-rule p r ok t from (takes .least) moved covers i h);
+        }
 
-  pub sound-then : SoundRunning p (takenAt p r t moved)
-  unfolding takenAt outputs settings
-  sound-then =
-      record {
-        plan = ok .plan;
-        clock = takes .until;
-        integrators = integrator-then;
-        inputs = λ j h. within-size M _ .1 (settings-size p (ok .plan) (r .inputs) t (λ k l. within-size M _ .0 (ok .inputs k l)) j h);
-        next = refl;
-        instants = omega (arith, ok .instants, takes .after);
-        updates = omega (arith, ok .updates, countOf-le moved (p .n));
-        plan-unused = ok .plan-unused;
-        running-unused =
-            record {
-              x = λ i h. row-unused (pos 0) 32 (p .n) _ i h;
-              q = λ i h. row-unused (pos 0) 32 (p .n) _ i h;
-              s = λ i h. row-unused (pos 0) 32 (p .n) _ i h;
-              l = λ i h. row-unused 0 32 (p .n) _ i h;
-              d = λ i h. row-unused 0 32 (p .n) _ i h;
-              inputs = λ j h. row-unused (pos 0) 8 (p .m) _ j h;
-            };
-      }
+    pub sound-then : SoundRunning p (takenAt p r t moved)
+    unfolding takenAt outputs settings
+    sound-then =
+        record {
+          plan = ok .plan;
+          clock = takes .until;
+          integrators = integrator-then;
+          inputs = λ j h. within-size M _ .1 (setting-size j h);
+          next = refl;
+          instants = omega (arith, ok .instants, takes .after);
+          updates = omega (arith, ok .updates, countOf-le moved (p .n));
+          plan-unused = ok .plan-unused;
+          running-unused =
+              record {
+                x = λ i h. row-unused (pos 0) 32 (p .n) _ i h;
+                q = λ i h. row-unused (pos 0) 32 (p .n) _ i h;
+                s = λ i h. row-unused (pos 0) 32 (p .n) _ i h;
+                l = λ i h. row-unused 0 32 (p .n) _ i h;
+                d = λ i h. row-unused 0 32 (p .n) _ i h;
+                inputs = λ j h. row-unused (pos 0) 8 (p .m) _ j h;
+              };
+        }
 
 -- ---- the next instant of a sound state lies past the clock
 module _ (p : Plan) (r : Running) (ok : SoundRunning p r) where
@@ -136,15 +142,18 @@ module _ (p : Plan) (r : Running) (ok : SoundRunning p r) where
       command : r .next < p .commands → r .clock < nat (p .ticks) (r .next)
       command h = rw (ok .next) (command-first p (r .clock) (rw (ok .next) at h))
 
-  pub instant-sound : isPaused p r ≡ true → (engine : Engine) → SoundRunning p (instant p engine r)
-  unfolding instant isDue
-  instant-sound paused engine =
-      let t = tickOf p r in
-      let takes : Takes p r t =
+  -- where the state is paused, that instant is taken
+  pub takes-next : isPaused p r ≡ true → Takes p r (tickOf p r)
+  unfolding isDue
+  takes-next paused =
       record {
         after = tick-after;
         until = tick-horizon p r paused;
         least = tick-due p r;
-        within = λ i h e. due-size p r paused i h (eqb-true (nat (r .d) i) t e);
-      } in
-      sound-then p r ok t takes (moves p engine (r .d) t) (covers p engine (r .d) t)
+        within = λ i h e. due-size p r paused i h (eqb-true (nat (r .d) i) (tickOf p r) e);
+      }
+
+  pub instant-sound : isPaused p r ≡ true → (engine : Engine) → SoundRunning p (instant p engine r)
+  unfolding instant
+  instant-sound paused engine =
+      let t = tickOf p r in sound-then p r ok t (takes-next paused) (moves p engine (r .d) t) (covers p engine (r .d) t)

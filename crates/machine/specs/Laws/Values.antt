@@ -20,7 +20,7 @@ use Rattle.machine.specs.Laws.NodeOrder.{settled-at, node-at}
 
 module _ (p : Plan) (q u : List ℤ) where
   -- a source below node j's own number has its value once j nodes are worked out
-  value-settled : (j i : ℕ) → j ≤ p .k → i < p .n + p .m + j → valueOf p q u i ≡ valueWith p q u j i
+  pub value-settled : (j i : ℕ) → j ≤ p .k → i < p .n + p .m + j → valueOf p q u i ≡ valueWith p q u j i
   unfolding valueOf valueWith
   value-settled j i h l = settled-at (p .n + p .m) (valueWith p q u) _ (λ j i. refl) j (p .k) i h l
 
@@ -62,7 +62,7 @@ module _ (p : Plan) (q u : List ℤ) where
     b = valueOf p q u (nat (p .rights) j)
 
     -- what its kind makes of the values of A and B as they are when it is worked out
-    worked-out : valueOf p q u own
+    pub worked-out : valueOf p q u own
         ≡ nodeOf (nat (p .kinds) j) (int (p .lows) j) (int (p .highs) j)
         (valueWith p q u j (nat (p .lefts) j)) (valueWith p q u j (nat (p .rights) j))
     unfolding valueOf valueWith

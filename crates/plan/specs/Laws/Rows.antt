@@ -1,12 +1,12 @@
--- Laws of tables and rows: each entry, the length, and that equal entries make equal rows. Assumes nothing.
+-- Laws of tables and rows: each entry, the length, that equal entries make equal rows, and one more entry stored. Assumes nothing.
 use mathlib.Core.Path.{_≡_, refl, sym, ap, ap₂, _∙_}
 use mathlib.Core.Bool.{Bool, true, false, cond}
 use mathlib.Core.List.{List, [], _∷_}
-use Prim.Native.Nat.{ℕ, zero, suc, _≤_, _<_}
+use Prim.Native.Nat.{ℕ, zero, suc, _+_, _≤_, _<_}
 use native.Mathlib.Omega.{arith}
 use native.Mathlib.Nat.{le-of-suc-le-suc, lt-of-lt-of-le}
 use lib.Dec.{ltb}
-use lib.ListN.{length, getD, List·getD-eq-default}
+use lib.ListN.{length, getD, set, replicate, List·getD-eq-default}
 use borrow.Author.Tests.{ltb-true, ltb-false, lt-ltb, le-ltb}
 use Rattle.plan.specs.Lists.{table, row}
 
@@ -67,3 +67,37 @@ module _ {ℓ} {A : Type ℓ} where
       go : (i : ℕ) (b : Bool) → ltb i k ≡ b → cond b (getD xs i z) z ≡ getD xs i z
       go i true h = refl
       go i false h = sym (u i (ltb-false i k h))
+
+  -- ---- filling an array
+
+  -- a list of one value is the table of that value
+  table-same : (w : ℕ) (z : A) → replicate w z ≡ table w (λ i. z)
+  unfolding table
+  table-same zero z = refl
+  table-same (suc w) z = ap (λ xs. z ∷ xs) (table-same w z)
+
+  -- a table of which entry i is stored anew
+  table-set : (w i : ℕ) (f g : ℕ → A) → ((j : ℕ) → (j ≡ i → ⊥) → f j ≡ g j) → set (table w f) i (g i) ≡ table w g
+  unfolding table
+  table-set zero i f g e = refl
+  table-set (suc w) zero f g e = ap (λ xs. g 0 ∷ xs) (table-ext w _ _ (λ j h. e (suc j) (λ q. omega arith)))
+  table-set (suc w) (suc i) f g e =
+      ap₂ (λ x xs. x ∷ xs) (e 0 (λ q. omega arith))
+      (table-set w i (λ j. f (suc j)) (λ j. g (suc j)) (λ j n. e (suc j) (λ q. n (omega arith))))
+
+  -- the array of zeros is the row with no entry used
+  pub row-none : (z : A) (w : ℕ) (f : ℕ → A) → replicate w z ≡ row z w 0 f
+  unfolding row
+  row-none z w f = table-same w z ∙ table-ext w _ _ (λ i h. rw (le-ltb i 0 (omega arith)))
+
+  -- one more entry is stored
+  pub row-more : (z : A) (w i : ℕ) (f : ℕ → A) → set (row z w i f) i (f i) ≡ row z w (i + 1) f
+  unfolding row
+  row-more z w i f = rw (lt-ltb i (i + 1) (omega arith)) at (table-set w i _ (λ j. cond (ltb j (i + 1)) (f j) z) other)
+    where
+      other : (j : ℕ) → (j ≡ i → ⊥) → cond (ltb j i) (f j) z ≡ cond (ltb j (i + 1)) (f j) z
+      other j n = ap (λ (b : Bool). cond b (f j) z) (go (ltb j i) refl)
+        where
+          go : (b : Bool) → ltb j i ≡ b → b ≡ ltb j (i + 1)
+          go true e = sym (lt-ltb j (i + 1) (omega (arith, ltb-true j i e)))
+          go false e = sym (le-ltb j (i + 1) (omega (arith, ltb-false j i e)))

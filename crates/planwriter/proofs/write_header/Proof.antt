@@ -8,7 +8,7 @@ use Rattle.words.specs.Flat.{written-part}
 use Rattle.plan.specs.Lists.{joined}
 use Rattle.plan.specs.Format.{sections}
 use Rattle.plan.specs.Encoding.{pairEntry}
-use Rattle.planwriter.specs.Writing.{begin, more}
+use Rattle.words.specs.Putting.{begin, more}
 use Rattle.planwriter.proofs.write_header.Statement.{statement}
 use Rattle.planwriter.proofs.write_header.Tie as tie
 

@@ -7,7 +7,8 @@ use denote.Ref.{now}
 use borrow.Author.Needs.{needs}
 use Rattle.plan.specs.Lists.{joined}
 use Rattle.plan.specs.Encoding.{inputEntry}
-use Rattle.planwriter.specs.Writing.{rd-at, rd-small, Begun, none, all, length-behind, entry}
+use Rattle.words.specs.Putting.{length-behind}
+use Rattle.planwriter.specs.Writing.{rd-at, rd-small, Begun, none, all, entry}
 use Rattle.planwriter.proofs.write_inputs.Statement.{statement}
 use Rattle.planwriter.proofs.write_inputs.Tie as tie
 

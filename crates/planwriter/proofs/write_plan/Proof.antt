@@ -12,7 +12,7 @@ use Rattle.plan.specs.Laws.Layout.{entryWords, sectionWords}
 use Rattle.planwriter.specs.Entries.{Limited}
 use Rattle.planwriter.specs.Header.{limited}
 use Rattle.planwriter.specs.Stages.{fitting, Stage, inside, section-room, next, header-room, headed, filed, short}
-use Rattle.planwriter.specs.Writing.{back}
+use Rattle.words.specs.Putting.{back}
 use Rattle.planwriter.proofs.write_plan.Statement.{statement}
 use Rattle.planwriter.proofs.write_plan.Tie as tie
 

@@ -1,9 +1,9 @@
 -- The words of the entry are put one behind the other.
 use denote.Ref.{now}
 use borrow.Author.Needs.{needs}
-use Rattle.planwriter.specs.Writing.{begin, more, more-signed}
-use Rattle.planwriter.proofs.write_triple.Statement.{statement}
-use Rattle.planwriter.proofs.write_triple.Tie as tie
+use Rattle.words.specs.Putting.{begin, more, more-signed}
+use Rattle.words.proofs.write_triple.Statement.{statement}
+use Rattle.words.proofs.write_triple.Tie as tie
 
 write-u32-requires : tie.Need-write-u32-requires
 write-u32-requires c κs = search needs

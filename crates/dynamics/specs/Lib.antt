@@ -1,0 +1,5 @@
+pub mod Links
+pub mod Sources
+pub mod Ticks
+pub mod Standing
+pub mod Laws

@@ -1,0 +1,43 @@
+-- An integrator's own links as a range of links, and the rate over a range. What it is by document 01's sum over all links: Laws/OwnRange.
+use mathlib.Core.List.{List}
+use Prim.Native.Nat.{ℕ, zero, suc, _+_, _-_, _≤_, _<_}
+use lib.IntN.{ℤ, pos, _+ℤ_, _*ℤ_}
+use lib.Dec.{leb}
+use Rattle.integers.specs.Parts.{∣_∣}
+use Rattle.integers.specs.Division.{floored}
+use Rattle.plan.specs.Format.{M}
+use Rattle.plan.specs.Lists.{nat, int, row, firstFrom}
+use Rattle.plan.specs.declared.Plan.{Plan}
+
+-- the first link whose target is i or above, or the number of links
+unfoldable pub firstLink : List ℕ → ℕ → ℕ → ℕ
+firstLink targets links i = firstFrom (λ e. leb i (nat targets e)) 0 links
+
+-- the table of a plan: integrator i's links are those from entry i to before entry i + 1
+unfoldable pub rangesOf : Plan → List ℕ
+rangesOf p = row 0 33 (p .n + 1) (firstLink (p .targets) (p .links))
+
+-- coefficient × source value of link e, where `values` holds the value of each source
+abbrev pub term : List ℕ → List ℤ → List ℤ → ℕ → ℤ
+term sources coefficients values e = int coefficients e *ℤ int values (nat sources e)
+
+-- f a, .., f (a + d - 1), added up
+unfoldable pub sumFrom : (ℕ → ℤ) → ℕ → ℕ → ℤ
+sumFrom f a zero = pos 0
+sumFrom f a (suc d) = sumFrom f a d +ℤ f (a + d)
+
+-- the rate by the links from .. to
+unfoldable pub rangeRate : List ℕ → List ℤ → List ℤ → ℕ → ℕ → ℤ
+rangeRate sources coefficients values from to = floored (sumFrom (term sources coefficients values) from (to - from))
+
+-- what that asks: at most 256 links, and terms that are not beyond 2^54
+pub record Rated (sources : List ℕ) (coefficients values : List ℤ) (from to : ℕ) : Type 0 where
+  pub order : from ≤ to
+  pub few : to ≤ 256
+  pub known : (e : ℕ) → e < to → nat sources e < 64
+  pub small : (e : ℕ) → e < to → ∣ int coefficients e ∣ ≤ 16777216
+  pub sized : (i : ℕ) → ∣ int values i ∣ ≤ M
+
+-- of the first n integrators, by the table of ranges
+abbrev pub AllRated : ℕ → List ℕ → List ℕ → List ℤ → List ℤ → Type 0
+AllRated n ranges sources coefficients values = (i : ℕ) → i < n → Rated sources coefficients values (nat ranges i) (nat ranges (i + 1))

@@ -1,0 +1,39 @@
+-- The value of every source in one array, and how the code works it out. What it is by document 01: Laws/SourceValues.
+use mathlib.Core.Bool.{cond}
+use mathlib.Core.List.{List}
+use Prim.Native.Nat.{ℕ, _+_, _-_, _≤_, _<_}
+use lib.IntN.{ℤ, pos}
+use lib.Dec.{ltb}
+use lib.ListN.{set}
+use Rattle.integers.specs.Parts.{∣_∣}
+use Rattle.plan.specs.Format.{M}
+use Rattle.plan.specs.Lists.{nat, int, row}
+use Rattle.plan.specs.declared.Plan.{Plan}
+use Rattle.machine.specs.Values.{nodeOf, valueOf}
+
+-- the value of each source at its source number, with the outputs q and the input values u
+unfoldable pub valuesOf : Plan → List ℤ → List ℤ → List ℤ
+valuesOf p q u = row (pos 0) 64 (p .n + p .m + p .k) (valueOf p q u)
+
+-- integrators and inputs alone
+unfoldable pub firstValues : ℕ → ℕ → List ℤ → List ℤ → List ℤ
+firstValues n m q u = row (pos 0) 64 (n + m) (λ i. cond (ltb i n) (int q i) (int u (i - n)))
+
+module _ (kinds lefts rights : List ℕ) (lows highs : List ℤ) (base : ℕ) where
+  -- the value of node j by the values of its operands
+  unfoldable pub nodeFrom : ℕ → List ℤ → ℤ
+  nodeFrom j values = nodeOf (nat kinds j) (int lows j) (int highs j) (int values (nat lefts j)) (int values (nat rights j))
+
+  -- node j worked out
+  unfoldable pub nodeStep : ℕ → List ℤ → List ℤ
+  nodeStep j values = set values (base + j) (nodeFrom j values)
+
+-- what that asks: operands that are sources, and no value beyond ±M
+pub record NodesReady (lefts rights : List ℕ) (lows highs values : List ℤ) (base k : ℕ) : Type 0 where
+  pub few : k ≤ 16
+  pub room : base + k ≤ 64
+  pub left : (j : ℕ) → j < k → nat lefts j < 64
+  pub right : (j : ℕ) → j < k → nat rights j < 64
+  pub low : (j : ℕ) → j < k → ∣ int lows j ∣ ≤ M
+  pub high : (j : ℕ) → j < k → ∣ int highs j ∣ ≤ M
+  pub sized : (i : ℕ) → ∣ int values i ∣ ≤ M

@@ -1,0 +1,6 @@
+-- What is proved of these definitions.
+pub mod Turns
+pub mod Some
+pub mod Masks
+pub mod Entries
+pub mod Reached

@@ -1,0 +1,123 @@
+-- What stands in the entries of a set of sources: after a bit is set, after an entry is added, and after a node's entry is handed down, which
+-- is the same as looking at one node more. Assumes nothing.
+use mathlib.Core.Path.{_≡_, refl, sym, ap, _∙_}
+use mathlib.Core.Bool.{Bool, true, false, cond, not, _&&_, _||_, or-false, or-assoc, and-false}
+use mathlib.Core.List.{List}
+use Prim.Native.Nat.{ℕ, zero, suc, _+_, _<_}
+use native.Mathlib.Omega.{arith}
+use lib.Dec.{eqb}
+use lib.ListN.{length, set, replicate, length-set, getD-replicate}
+use lib.Seq.{getD-set-same, getD-set-other}
+use borrow.Author.Tests.{eq-eqb, ne-eqb}
+use Rattle.bitset.specs.Mask.{has, each, union}
+use Rattle.bitset.specs.Bits.{has-none, has-or, has-with}
+use Rattle.plan.specs.Lists.{nat, some}
+use Rattle.reach.specs.Table.{marked, added, handedDown, heardBy, Wired}
+use Rattle.reach.specs.Laws.Some.{some-ext, some-none, some-also}
+
+-- bit b stands in the entry of a source that is in `sources`
+unfoldable pub inEntries : List ℕ → (ℕ → Bool) → ℕ → Bool
+inEntries table sources b = some (λ i. sources i && has (nat table i) b) 64
+
+-- the entries joined
+pub heard-has : (table : List ℕ) (changed b : ℕ) → has (heardBy table changed) b ≡ inEntries table (has changed) b
+unfolding heardBy inEntries each some
+heard-has table changed b = below 64
+  where
+    join : ℕ → ℕ → ℕ
+    join i entries = union entries (nat table i)
+
+    more : (n : ℕ) (t : Bool) (entries : ℕ) {a : Bool} → has entries b ≡ a
+        → has (cond t (join n entries) entries) b ≡ (a || (t && has (nat table n) b))
+    more n true entries e = has-or entries (nat table n) b ∙ ap (λ x. x || has (nat table n) b) e
+    more n false entries {a} e = e ∙ sym (or-false a)
+
+    below : (n : ℕ) → has (each join (has changed) n 0) b ≡ some (λ i. has changed i && has (nat table i) b) n
+    below zero = has-none b
+    below (suc n) = more n (has changed n) (each join (has changed) n 0) (below n)
+
+pub entries-ext : (table : List ℕ) (f g : ℕ → Bool) (b : ℕ) → ((i : ℕ) → f i ≡ g i) → inEntries table f b ≡ inEntries table g b
+unfolding inEntries
+entries-ext table f g b e = some-ext _ _ 64 (λ i h. ap (λ x. x && has (nat table i) b) (e i))
+
+pub entries-none : (sources : ℕ → Bool) (b : ℕ) → inEntries (replicate 64 0) sources b ≡ false
+unfolding inEntries
+entries-none sources b =
+    some-none _ 64 (λ i h. rw (getD-replicate {A = ℕ} 64 i 0 0 h, has-none b) (and-false (sources i)))
+
+and-over : (a b c : Bool) → (a && (b || c)) ≡ ((a && b) || (a && c))
+and-over true b c = refl
+and-over false b c = refl
+
+-- an entry stored anew, which has the bit also if c
+stored : (table : List ℕ) (sources : ℕ → Bool) (b a v : ℕ) (c : Bool) → length table ≡ 64 → a < 64 → has v b ≡ (has (nat table a) b || c)
+    → inEntries (set table a v) sources b ≡ (inEntries table sources b || (sources a && c))
+unfolding inEntries
+stored table sources b a v c len h e =
+    some-also _ (λ i. sources i && has (nat table i) b) (sources a && c) a 64 h
+    (rw (getD-set-same table a v 0 (omega arith), e) (and-over (sources a) (has (nat table a) b) c))
+    (λ i ne. rw (getD-set-other table a i v 0 ne))
+
+module _ (place bit : ℕ → ℕ) (table : List ℕ) where
+  pub marked-length : (e : ℕ) → length (marked place bit table e) ≡ length table
+  unfolding marked
+  marked-length zero = refl
+  marked-length (suc e) = length-set (marked place bit table e) (place e) _ ∙ marked-length e
+
+  pub marked-entries : (sources : ℕ → Bool) (b e : ℕ) → length table ≡ 64 → ((f : ℕ) → f < e → place f < 64)
+      → inEntries (marked place bit table e) sources b ≡ (inEntries table sources b || some (λ f. sources (place f) && eqb b (bit f)) e)
+  unfolding marked some
+  marked-entries sources b zero len h = sym (or-false (inEntries table sources b))
+  marked-entries sources b (suc e) len h =
+      stored (marked place bit table e) sources b (place e) _ (eqb b (bit e)) (marked-length e ∙ len) (h e (omega arith))
+      (has-with (nat (marked place bit table e) (place e)) (bit e) b)
+      ∙ ap (λ x. x || (sources (place e) && eqb b (bit e))) (marked-entries sources b e len (λ f l. h f (omega arith)))
+      ∙ or-assoc (inEntries table sources b) (some (λ f. sources (place f) && eqb b (bit f)) e) (sources (place e) && eqb b (bit e))
+
+added-entries : (table : List ℕ) (sources : ℕ → Bool) (b a entry : ℕ) → length table ≡ 64 → a < 64
+    → inEntries (added table a entry) sources b ≡ (inEntries table sources b || (sources a && has entry b))
+added-entries table sources b a entry len h = stored table sources b a _ (has entry b) len h (has-or (nat table a) entry b)
+
+-- a source more, if c
+with-source : (table : List ℕ) (sources : ℕ → Bool) (b a : ℕ) (c : Bool) → a < 64 → sources a ≡ false
+    → inEntries table (λ i. cond (eqb i a) c (sources i)) b ≡ (inEntries table sources b || (c && has (nat table a) b))
+unfolding inEntries
+with-source table sources b a c h out =
+    some-also _ (λ i. sources i && has (nat table i) b) (c && has (nat table a) b) a 64 h (rw (eq-eqb a a refl, out)) (λ i ne. rw (ne-eqb i a ne))
+
+-- ---- a node's entry handed down to the operands that it uses
+module _ (kinds lefts rights : List ℕ) (base : ℕ) where
+  pub handed-length : (j : ℕ) (table : List ℕ) → length (handedDown kinds lefts rights base j table) ≡ length table
+  unfolding handedDown
+  handed-length j table = go (eqb (nat kinds j) 2) _ _ (simp length-set) (simp length-set)
+    where
+      go : (two : Bool) (x y : List ℕ) → length x ≡ length table → length y ≡ length table → length (cond two x y) ≡ length table
+      go true x y e f = e
+      go false x y e f = f
+
+  -- the same as looking at node j too: it is one of the sources if an operand that it uses is
+  pub handed-entries : (k : ℕ) → Wired lefts rights base k
+      → (table : List ℕ) (sources : ℕ → Bool) (b j : ℕ) → length table ≡ 64 → j < k → sources (base + j) ≡ false
+      → inEntries (handedDown kinds lefts rights base j table) sources b
+      ≡ inEntries table
+      (λ i. cond (eqb i (base + j)) (sources (nat lefts j) || (not (eqb (nat kinds j) 2) && sources (nat rights j))) (sources i)) b
+  unfolding handedDown
+  handed-entries k wired table sources b j len h out =
+      let l = nat lefts j in let r = nat rights j in let entry = nat table (base + j) in let left = added table l entry in
+      let one = added-entries table sources b l entry len (omega (arith, wired .room, wired .left j h)) in
+      let two = added-entries left sources b r entry (length-set table l _ ∙ len) (omega (arith, wired .room, wired .right j h)) in
+      go (eqb (nat kinds j) 2) left (added left r entry) (inEntries table sources b) (sources l) (sources r) (has entry b) one
+      (two ∙ ap (λ x. x || (sources r && has entry b)) one)
+      ∙ sym (with-source table sources b (base + j) _ (omega (arith, wired .room)) out)
+    where
+      joins : (a l r e : Bool) → ((a || (l && e)) || (r && e)) ≡ (a || ((l || r) && e))
+      joins true l r e = refl
+      joins false true true true = refl
+      joins false true true false = refl
+      joins false true false e = or-false e
+      joins false false r e = refl
+
+      go : (two : Bool) (x y : List ℕ) (a l r e : Bool) → inEntries x sources b ≡ (a || (l && e))
+          → inEntries y sources b ≡ ((a || (l && e)) || (r && e)) → inEntries (cond two x y) sources b ≡ (a || ((l || (not two && r)) && e))
+      go true x y a l r e one two = one ∙ ap (λ z. a || (z && e)) (sym (or-false l))
+      go false x y a l r e one two = two ∙ joins a l r e

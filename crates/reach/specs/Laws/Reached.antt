@@ -1,0 +1,183 @@
+-- The table is document 01's reach: the entries of the sources that change, joined, have the reached integrators in their low half, and in
+-- their high half the nodes that depend on a change. Assumes nothing.
+use mathlib.Core.Path.{_≡_, refl, sym, ap, ap₂, _∙_}
+use mathlib.Core.Bool.{Bool, true, false, _&&_, _||_, or-false, and-false, and-true}
+use mathlib.Core.List.{List}
+use Prim.Native.Nat.{ℕ, zero, suc, _+_, _/_, _%_, _^_, _≤_, _<_}
+use native.Mathlib.Nat.{mod-lt}
+use native.Mathlib.Omega.{arith}
+use lib.Dec.{ltb, eqb}
+use lib.ListN.{length, replicate, length-replicate}
+use lib.Pow.{pow-pos}
+use borrow.Author.Tests.{eqb-true, eqb-false, eq-eqb, ne-eqb, ltb-true, ltb-false, lt-ltb, le-ltb}
+use Rattle.bitset.specs.Mask.{has, maskOf, joinedOf}
+use Rattle.bitset.specs.Bits.{has-high, has-shr, has-maskOf, maskOf-lt, maskOf-ext}
+use Rattle.plan.specs.Lists.{nat, some}
+use Rattle.plan.specs.Rules.{PlanRules}
+use Rattle.plan.specs.Laws.Counts.{counts-of}
+use Rattle.plan.specs.declared.Plan.{Plan}
+use Rattle.machine.specs.Reach.{isDue, isCommanded, changes, dependsWith, linkReaches, reached}
+use Rattle.reach.specs.Table.{linked, ownNodes, spreadFrom, tableFrom, reachTable, heardBy, Linked, Wired}
+use Rattle.reach.specs.Laws.Some.{some-ext, some-none, some-only}
+use Rattle.reach.specs.Laws.Masks.{mask-is, has-low, joined-is}
+use Rattle.reach.specs.Laws.Entries.{inEntries, heard-has, entries-ext, entries-none, marked-length, marked-entries}
+use Rattle.reach.specs.Laws.Entries.{handed-length, handed-entries}
+
+-- numbers that differ
+other : (c : Bool) (x y : ℕ) → (x ≡ y → ⊥) → (c && eqb x y) ≡ false
+other c x y ne = rw (ne-eqb x y ne) (and-false c)
+
+-- the two sides of a comparison, and of `&&`, exchanged
+exchanged : (c : Bool) (x y : ℕ) → (c && eqb x y) ≡ (eqb y x && c)
+exchanged c x y = go (eqb x y) refl
+  where
+    go : (b : Bool) → eqb x y ≡ b → (c && b) ≡ (eqb y x && c)
+    go true e = rw (eq-eqb y x (sym (eqb-true x y e))) (and-true c)
+    go false e = rw (ne-eqb y x (λ q. eqb-false x y e (sym q))) (and-false c)
+
+module _ (p : Plan) (rules : PlanRules p) where
+  -- ---- what `reach_table` asks; kind 2's B is 0, and there is an integrator 0
+  pub table-wired : Wired (p .lefts) (p .rights) (p .n + p .m) (p .k)
+  table-wired =
+      record {
+        room = omega (arith, counts-of p (rules .counts));
+        left = λ j h. rules .nodes j h .left;
+        right = λ j h. below j h (eqb (nat (p .kinds) j) 2) refl;
+      }
+    where
+      below : (j : ℕ) → j < p .k → (two : Bool) → eqb (nat (p .kinds) j) 2 ≡ two → nat (p .rights) j < p .n + p .m + j
+      below j h true e = omega (arith, counts-of p (rules .counts) .n-least, rules .nodes j h .unused (eqb-true (nat (p .kinds) j) 2 e))
+      below j h false e = rules .nodes j h .right (eqb-false (nat (p .kinds) j) 2 e)
+
+  pub table-linked : Linked (p .targets) (p .sources) (p .links)
+  table-linked =
+      let counts = counts-of p (rules .counts) in
+      record {
+        few = counts .links;
+        target = λ e h. omega (arith, counts, rules .links e h .target);
+        source = λ e h. omega (arith, counts, rules .links e h .source);
+      }
+
+  -- ---- before any entry is handed down
+  abbrev own : List ℕ
+  own = ownNodes (p .n + p .m) (linked (p .targets) (p .sources) (p .links)) (p .k)
+
+  linked-length : length (linked (p .targets) (p .sources) (p .links)) ≡ 64
+  linked-length = marked-length (nat (p .sources)) (nat (p .targets)) (replicate 64 0) (p .links) ∙ length-replicate {A = ℕ} 64 0
+
+  own-length : length own ≡ 64
+  own-length = marked-length (λ j. p .n + p .m + j) (λ j. 32 + j) (linked (p .targets) (p .sources) (p .links)) (p .k) ∙ linked-length
+
+  module _ (chosen : ℕ → Bool) where
+    abbrev linkHas : ℕ → ℕ → Bool
+    linkHas b e = chosen (nat (p .sources) e) && eqb b (nat (p .targets) e)
+
+    abbrev nodeHas : ℕ → ℕ → Bool
+    nodeHas b j = chosen (p .n + p .m + j) && eqb b (32 + j)
+
+    -- a bit is a link's or a node's
+    own-has : (b : ℕ) → inEntries own chosen b ≡ (some (linkHas b) (p .links) || some (nodeHas b) (p .k))
+    own-has b =
+        marked-entries (λ j. p .n + p .m + j) (λ j. 32 + j) (linked (p .targets) (p .sources) (p .links)) chosen b (p .k) linked-length
+        (λ j h. omega (arith, table-wired .room))
+        ∙ ap (λ x. x || some (nodeHas b) (p .k))
+        (marked-entries (nat (p .sources)) (nat (p .targets)) (replicate 64 0) chosen b (p .links) (length-replicate {A = ℕ} 64 0)
+        (table-linked .source) ∙ ap (λ x. x || some (linkHas b) (p .links)) (entries-none chosen b))
+
+    -- an integrator's: a link of its own names a chosen source
+    own-low : (b : ℕ) → b < 32 → inEntries own chosen b ≡ some (λ e. eqb (nat (p .targets) e) b && chosen (nat (p .sources) e)) (p .links)
+    own-low b h =
+        own-has b
+        ∙ ap₂ _||_ (some-ext _ _ (p .links) (λ e l. exchanged (chosen (nat (p .sources) e)) b (nat (p .targets) e)))
+        (some-none _ (p .k) (λ j l. other (chosen (p .n + p .m + j)) b (32 + j) (λ e. omega arith)))
+        ∙ or-false _
+
+    own-high : (j : ℕ) → inEntries own chosen (32 + j) ≡ some (nodeHas (32 + j)) (p .k)
+    own-high j =
+        own-has (32 + j)
+        ∙ ap (λ x. x || some (nodeHas (32 + j)) (p .k))
+        (some-none _ (p .links)
+        (λ e h. other (chosen (nat (p .sources) e)) (32 + j) (nat (p .targets) e) (λ q. omega (arith, table-linked .target e h))))
+
+    -- a node's: it is chosen
+    own-node : (j : ℕ) → j < p .k → inEntries own chosen (32 + j) ≡ chosen (p .n + p .m + j)
+    own-node j h =
+        own-high j
+        ∙ some-only (nodeHas (32 + j)) j (p .k) h (λ i ne. other (chosen (p .n + p .m + i)) (32 + j) (32 + i) (λ e. ne (omega arith)))
+        ∙ rw (eq-eqb (32 + j) (32 + j) refl) (and-true (chosen (p .n + p .m + j)))
+
+    own-past : (j : ℕ) → p .k ≤ j → inEntries own chosen (32 + j) ≡ false
+    own-past j h =
+        own-high j ∙ some-none _ (p .k) (λ i l. other (chosen (p .n + p .m + i)) (32 + j) (32 + i) (λ e. omega arith))
+
+  module _ (d : List ℕ) (t : ℕ) where
+    -- a node that is not looked at yet
+    not-yet : (j i : ℕ) → p .n + p .m + j ≤ i → dependsWith p d t j i ≡ false
+    unfolding dependsWith changes
+    not-yet zero i h = rw (le-ltb i (p .n) (omega arith), le-ltb i (p .n + p .m) (omega arith))
+    not-yet (suc j) i h = rw (ne-eqb i (p .n + p .m + j) (λ e. omega arith)) (not-yet j i (omega arith))
+
+    -- with j nodes' entries handed down, the sources that change have what all that depend on them have without
+    spread-has : (j b : ℕ) (table : List ℕ) → j ≤ p .k → length table ≡ 64
+        → inEntries (spreadFrom (p .kinds) (p .lefts) (p .rights) (p .n + p .m) j table) (changes p d t) b
+        ≡ inEntries table (dependsWith p d t j) b
+    unfolding spreadFrom dependsWith
+    spread-has zero b table h len = refl
+    spread-has (suc j) b table h len =
+        spread-has j b _ (omega arith) (handed-length (p .kinds) (p .lefts) (p .rights) (p .n + p .m) j table ∙ len)
+        ∙ handed-entries (p .kinds) (p .lefts) (p .rights) (p .n + p .m) (p .k) table-wired table (dependsWith p d t j) b j len h
+        (not-yet j (p .n + p .m + j) (omega arith))
+
+    not-reached : (i : ℕ) → p .n ≤ i → reached p d t i ≡ false
+    unfolding reached linkReaches
+    not-reached i h = some-none _ (p .links) (λ e l. rw (ne-eqb (nat (p .targets) e) i (λ q. omega (arith, rules .links e l .target))))
+
+    -- ---- the sources that change, as a mask
+    module _ (changed : ℕ) (all : changed ≡ maskOf (changes p d t) (p .n + p .m)) where
+      abbrev entries : ℕ
+      entries = heardBy (reachTable p) changed
+
+      changed-has : (i : ℕ) → has changed i ≡ changes p d t i
+      unfolding dependsWith
+      changed-has i = rw all (go (ltb i (p .n + p .m)) refl)
+        where
+          go : (b : Bool) → ltb i (p .n + p .m) ≡ b → has (maskOf (changes p d t) (p .n + p .m)) i ≡ changes p d t i
+          go true e = has-maskOf (changes p d t) (p .n + p .m) i (ltb-true i (p .n + p .m) e)
+          go false e =
+              let h = ltb-false i (p .n + p .m) e in
+              has-high _ (p .n + p .m) i (maskOf-lt (changes p d t) (p .n + p .m)) h ∙ sym (not-yet 0 i (omega arith))
+
+      entries-has : (b : ℕ) → has entries b ≡ inEntries own (dependsWith p d t (p .k)) b
+      unfolding reachTable tableFrom
+      entries-has b =
+          heard-has (reachTable p) changed b ∙ entries-ext (reachTable p) (has changed) (changes p d t) b changed-has
+          ∙ spread-has (p .k) b own (omega arith) own-length
+
+      low-has : (i : ℕ) → i < 32 → has (entries % 2 ^ 32) i ≡ reached p d t i
+      unfolding reached linkReaches
+      low-has i h = has-low entries 32 i h ∙ entries-has i ∙ own-low (dependsWith p d t (p .k)) i h
+
+      pub reached-mask : heardBy (reachTable p) changed % 2 ^ 32 ≡ maskOf (reached p d t) (p .n)
+      reached-mask =
+          mask-is (entries % 2 ^ 32) (p .n) (reached p d t) (λ i h. low-has i (omega (arith, counts-of p (rules .counts) .n)))
+          (λ i h. above i h (ltb i 32) refl)
+        where
+          above : (i : ℕ) → p .n ≤ i → (b : Bool) → ltb i 32 ≡ b → has (entries % 2 ^ 32) i ≡ false
+          above i h true e = low-has i (ltb-true i 32 e) ∙ not-reached i h
+          above i h false e = has-high (entries % 2 ^ 32) 32 i (mod-lt entries (pow-pos 32)) (ltb-false i 32 e)
+
+      high-has : (j : ℕ) → has (entries / 2 ^ 32) j ≡ inEntries own (dependsWith p d t (p .k)) (32 + j)
+      high-has j = has-shr entries 32 j ∙ entries-has (32 + j)
+
+      pub touched-mask : heardBy (reachTable p) changed / 2 ^ 32 ≡ maskOf (λ j. dependsWith p d t (p .k) (p .n + p .m + j)) (p .k)
+      touched-mask =
+          mask-is (entries / 2 ^ 32) (p .k) (λ j. dependsWith p d t (p .k) (p .n + p .m + j))
+          (λ j h. high-has j ∙ own-node (dependsWith p d t (p .k)) j h) (λ j h. high-has j ∙ own-past (dependsWith p d t (p .k)) j h)
+
+-- what the engine hands over: the due integrators and the commanded inputs, joined
+pub joined-changes : (p : Plan) (d : List ℕ) (t due commanded : ℕ) → due ≡ maskOf (isDue d t) (p .n)
+    → commanded ≡ maskOf (isCommanded p t) (p .m) → joinedOf due commanded (p .n) ≡ maskOf (changes p d t) (p .n + p .m)
+unfolding changes
+joined-changes p d t due commanded e f =
+    rw (e, f)
+    (joined-is (isDue d t) (isCommanded p t) (p .n) (p .m) ∙ maskOf-ext _ _ (p .n + p .m) (λ i h. rw (lt-ltb i (p .n + p .m) h)))

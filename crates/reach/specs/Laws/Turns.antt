@@ -1,0 +1,44 @@
+-- What one turn of each loop, and one call of the recursion, makes of the table, and that it stays inside. Assumes nothing.
+use mathlib.Core.Path.{_≡_}
+use mathlib.Core.List.{List}
+use Prim.Native.Nat.{ℕ, zero, suc, _+_, _-_, _<_}
+use native.Mathlib.Numerals.{add-one}
+use native.Mathlib.Omega.{arith}
+use lib.ListN.{set}
+use borrow.Author.Tests.{eq-eqb, ne-eqb}
+use Rattle.bitset.specs.Mask.{withBit}
+use Rattle.plan.specs.Lists.{nat}
+use Rattle.reach.specs.Table.{marked, added, handedDown, spreadFrom, Linked, Wired}
+
+-- ---- the numbers that a link and a node name are places of the table
+pub link-inside : {targets sources : List ℕ} {links : ℕ} → Linked targets sources links → (e : ℕ) → e < links
+    → (nat targets e < 64) × (nat sources e < 64)
+link-inside l e h = (omega (arith, l .target e h), l .source e h)
+
+pub operands-inside : {lefts rights : List ℕ} {base k : ℕ} → Wired lefts rights base k → (j : ℕ) → j < k
+    → (nat lefts j < 64) × (nat rights j < 64)
+operands-inside w j h = (omega (arith, w .room, w .left j h), omega (arith, w .room, w .right j h))
+
+-- ---- turns: one more bit set
+pub marked-more : (place bit : ℕ → ℕ) (table so-far : List ℕ) (e v : ℕ) → so-far ≡ marked place bit table e
+    → v ≡ withBit (nat so-far (place e)) (bit e) → set so-far (place e) v ≡ marked place bit table (e + 1)
+unfolding marked
+marked-more place bit table so-far e v p q = rw (q, p, add-one)
+
+module _ (kinds lefts rights : List ℕ) (base : ℕ) (table : List ℕ) (j : ℕ) where
+  -- kind 2 uses its left operand only
+  pub handed-left : nat kinds j ≡ 2 → added table (nat lefts j) (nat table (base + j)) ≡ handedDown kinds lefts rights base j table
+  unfolding handedDown
+  handed-left e = rw (eq-eqb (nat kinds j) 2 e)
+
+  pub handed-both : (nat kinds j ≡ 2 → ⊥)
+      → added (added table (nat lefts j) (nat table (base + j))) (nat rights j) (nat table (base + j)) ≡ handedDown kinds lefts rights base j table
+  unfolding handedDown
+  handed-both e = rw (ne-eqb (nat kinds j) 2 e)
+
+-- the highest node first, then those below it
+pub spread-more : (kinds lefts rights : List ℕ) (base : ℕ) (table : List ℕ) (j : ℕ) → 0 < j
+    → spreadFrom kinds lefts rights base (j - 1) (handedDown kinds lefts rights base (j - 1) table) ≡ spreadFrom kinds lefts rights base j table
+unfolding spreadFrom
+spread-more kinds lefts rights base table zero h = absurd (omega arith)
+spread-more kinds lefts rights base table (suc j) h = let d : suc j - 1 ≡ j = omega arith in rw d

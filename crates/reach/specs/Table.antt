@@ -1,0 +1,60 @@
+-- The table of what a change of each source reaches, as the code works it out. What it is by document 01's reach: Laws/Reached.
+use mathlib.Core.Bool.{cond}
+use mathlib.Core.List.{List}
+use Prim.Native.Nat.{ℕ, zero, suc, _+_, _≤_, _<_}
+use lib.Dec.{eqb}
+use lib.ListN.{set, replicate}
+use Rattle.bitset.specs.Mask.{has, each, union, withBit}
+use Rattle.plan.specs.Lists.{nat}
+use Rattle.plan.specs.declared.Plan.{Plan}
+
+-- bit (bit e) set in entry (place e), for each e below the end
+unfoldable pub marked : (ℕ → ℕ) → (ℕ → ℕ) → List ℕ → ℕ → List ℕ
+marked place bit table zero = table
+marked place bit table (suc e) = set (marked place bit table e) (place e) (withBit (nat (marked place bit table e) (place e)) (bit e))
+
+-- each link's target in the entry of its source
+abbrev pub linked : List ℕ → List ℕ → ℕ → List ℕ
+linked targets sources links = marked (nat sources) (nat targets) (replicate 64 0) links
+
+-- each node in its own entry
+abbrev pub ownNodes : ℕ → List ℕ → ℕ → List ℕ
+ownNodes base table k = marked (λ j. base + j) (λ j. 32 + j) table k
+
+-- the bits of an entry added to a source's
+abbrev pub added : List ℕ → ℕ → ℕ → List ℕ
+added table source entry = set table source (union (nat table source) entry)
+
+module _ (kinds lefts rights : List ℕ) (base : ℕ) where
+  -- node j's entry added to those of the operands that it uses
+  unfoldable pub handedDown : ℕ → List ℕ → List ℕ
+  handedDown j table =
+      let entry = nat table (base + j) in let left = added table (nat lefts j) entry in
+      cond (eqb (nat kinds j) 2) left (added left (nat rights j) entry)
+
+  -- from node j - 1 down to node 0
+  unfoldable pub spreadFrom : ℕ → List ℕ → List ℕ
+  spreadFrom zero table = table
+  spreadFrom (suc j) table = spreadFrom j (handedDown j table)
+
+unfoldable pub tableFrom : ℕ → ℕ → ℕ → List ℕ → List ℕ → List ℕ → List ℕ → List ℕ → List ℕ
+tableFrom base k links kinds lefts rights targets sources = spreadFrom kinds lefts rights base k (ownNodes base (linked targets sources links) k)
+
+-- the table of a plan
+unfoldable pub reachTable : Plan → List ℕ
+reachTable p = tableFrom (p .n + p .m) (p .k) (p .links) (p .kinds) (p .lefts) (p .rights) (p .targets) (p .sources)
+
+-- the entries of the sources in a mask, joined
+unfoldable pub heardBy : List ℕ → ℕ → ℕ
+heardBy table changed = each (λ i entries. union entries (nat table i)) (has changed) 64 0
+
+-- what the links ask, and what the nodes ask: operands are sources of a lower number
+pub record Linked (targets sources : List ℕ) (links : ℕ) : Type 0 where
+  pub few : links ≤ 256
+  pub target : (e : ℕ) → e < links → nat targets e < 32
+  pub source : (e : ℕ) → e < links → nat sources e < 64
+
+pub record Wired (lefts rights : List ℕ) (base k : ℕ) : Type 0 where
+  pub room : base + k ≤ 64
+  pub left : (j : ℕ) → j < k → nat lefts j < base + j
+  pub right : (j : ℕ) → j < k → nat rights j < base + j

@@ -1,0 +1,132 @@
+// Which integrators a change reaches, and which nodes it touches: "dependence is followed down through lower-numbered nodes". A table, worked out once
+// for a run, has an entry of 64 bits for each source: bit i is set where a change of the source reaches integrator i, bit 32 + j where it touches node j.
+ghost use mathlib.Core.Path.{_≡_};
+ghost use Prim.Native.Nat.{_+_, _/_, _%_, _^_, _≤_, _<_};
+ghost use Rattle.reach.specs.Table.{marked, linked, ownNodes, added, handedDown, spreadFrom, tableFrom, heardBy, Linked, Wired};
+use bitset::lowest64;
+use bitset::rest64;
+use bitset::union64;
+use bitset::with64;
+
+// "a link of its own names" a source: each link's target goes into the entry of its source.
+fn link_entries<'a>(links: usize, targets: &'a [usize; 256], sources: &'a [usize; 256]) -> [u64; 64]
+    requires { ⌜ Linked (now targets) (now sources) links ⌝ }
+    ensures { λ r. ⌜ r ≡ linked (now (targets .entry)) (now (sources .entry)) links ⌝ }
+{
+    let mut table: [u64; 64] = [0; 64];
+    let mut e: usize = 0;
+    while e < links {
+        let source = sources[e];
+        table[source] = with64(table[source], targets[e]);
+        e += 1;
+    }
+    table
+}
+
+// Each node goes into its own entry; node j's source number is base + j.
+fn own_entries(base: usize, k: usize, table: &mut [u64; 64])
+    requires { ⌜ (k ≤ 16) × (base + k ≤ 64) ⌝ }
+    ensures { λ _. ⌜ now (table .exit) ≡ ownNodes base (now (table .entry)) k ⌝ }
+{
+    let mut j: usize = 0;
+    while j < k {
+        let source = base + j;
+        table[source] = with64(table[source], 32 + j);
+        j += 1;
+    }
+}
+
+// The bits of `entry` go into the entry of a source too.
+fn add_to(table: &mut [u64; 64], source: usize, entry: u64)
+    requires { ⌜ source < 64 ⌝ }
+    ensures { λ _. ⌜ now (table .exit) ≡ added (now (table .entry)) source entry ⌝ }
+{
+    table[source] = union64(table[source], entry);
+}
+
+// What node j's change reaches, a change of an operand that it uses reaches too. "B is 0 and names nothing" for kind 2.
+fn hand_down<'a>(
+    j: usize,
+    base: usize,
+    kinds: &'a [usize; 16],
+    lefts: &'a [usize; 16],
+    rights: &'a [usize; 16],
+    table: &mut [u64; 64],
+)
+    requires { ⌜ (j < 16) × Wired (now lefts) (now rights) base (j + 1) ⌝ }
+    ensures { λ _. ⌜ now (table .exit) ≡ handedDown (now (kinds .entry)) (now (lefts .entry)) (now (rights .entry)) base j (now (table .entry)) ⌝ }
+{
+    let entry = table[base + j];
+    add_to(table, lefts[j], entry);
+    if kinds[j] != 2 {
+        add_to(table, rights[j], entry);
+    }
+}
+
+// From node j − 1 down to node 0. When a node's turn comes, all nodes that use it have had theirs, since an operand has a lower number.
+fn spread<'a>(
+    j: usize,
+    base: usize,
+    kinds: &'a [usize; 16],
+    lefts: &'a [usize; 16],
+    rights: &'a [usize; 16],
+    table: &mut [u64; 64],
+)
+    requires { ⌜ (j ≤ 16) × Wired (now lefts) (now rights) base j ⌝ }
+    ensures { λ _. ⌜ now (table .exit) ≡ spreadFrom (now (kinds .entry)) (now (lefts .entry)) (now (rights .entry)) base j (now (table .entry)) ⌝ }
+{
+    if j > 0 {
+        hand_down(j - 1, base, kinds, lefts, rights, table);
+        spread(j - 1, base, kinds, lefts, rights, table);
+    }
+}
+
+// The table of a plan.
+pub fn reach_table<'a>(
+    base: usize,
+    k: usize,
+    links: usize,
+    kinds: &'a [usize; 16],
+    lefts: &'a [usize; 16],
+    rights: &'a [usize; 16],
+    targets: &'a [usize; 256],
+    sources: &'a [usize; 256],
+) -> [u64; 64]
+    requires { ⌜ (k ≤ 16) × Wired (now lefts) (now rights) base k × Linked (now targets) (now sources) links ⌝ }
+    ensures { λ r. ⌜ r ≡ tableFrom base k links (now (kinds .entry)) (now (lefts .entry)) (now (rights .entry)) (now (targets .entry))
+        (now (sources .entry)) ⌝ }
+{
+    let mut table = link_entries(links, targets, sources);
+    own_entries(base, k, &mut table);
+    spread(k, base, kinds, lefts, rights, &mut table);
+    table
+}
+
+// The entries of the changed sources, joined.
+fn heard(changed: u64, table: &[u64; 64]) -> u64
+    ensures { λ r. ⌜ r ≡ heardBy (now (table .entry)) changed ⌝ }
+{
+    let mut left = changed;
+    let mut entries: u64 = 0;
+    while left != 0 {
+        let source = lowest64(left);
+        entries = union64(entries, table[source]);
+        left = rest64(left);
+    }
+    entries
+}
+
+// The reached integrators, and the nodes that depend on a change.
+pub struct Reach {
+    pub integrators: u32,
+    pub nodes: u32,
+}
+
+pub fn reached_by(changed: u64, table: &[u64; 64]) -> Reach
+    ensures { λ r. ⌜ (r .integrators ≡ heardBy (now (table .entry)) changed % 2 ^ 32) × (r .nodes ≡ heardBy (now (table .entry)) changed / 2 ^ 32) ⌝ }
+{
+    let entries = heard(changed, table);
+    let integrators = (entries % 4294967296) as u32;
+    let nodes = (entries >> 32) as u32;
+    Reach { integrators, nodes }
+}
