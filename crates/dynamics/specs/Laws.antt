@@ -9,3 +9,4 @@ pub mod Arithmetic
 pub mod Barring
 pub mod Standings
 pub mod Dues
+pub mod Starts

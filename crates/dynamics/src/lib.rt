@@ -2,6 +2,7 @@
 // ticks, positions, the next instant's tick, the status, and the start itself. Arrays are lent, not copied.
 mod links;
 mod nodes;
+mod starts;
 mod status;
 mod ticks;
 
@@ -11,6 +12,7 @@ pub use links::rates;
 pub use nodes::node_value;
 pub use nodes::source_values;
 pub use nodes::work_nodes;
+pub use starts::start;
 pub use status::Standing;
 pub use status::standing_at;
 pub use ticks::due_tick;

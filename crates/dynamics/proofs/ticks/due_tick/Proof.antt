@@ -4,6 +4,8 @@ use mathlib.Core.Path.{_≡_, _∙_}
 use mathlib.Core.Bool.{true}
 use lib.IntN.{pos, _+ℤ_, _-ℤ_}
 use lib.Signed.{ltZ}
+use mir.Syntax.{w64}
+use mir.Val.{SFits}
 use mir.Facts.{toZ-ofZ}
 use Rattle.integers.specs.Signed64.{rd}
 use Rattle.dynamics.specs.Laws.Arithmetic.{upper-fits, lower-fits, rise-fits, fall-fits, speed-fits, rise-ready, fall-ready}
@@ -20,19 +22,29 @@ claims = (tick-at-reads.Asked, tick-at-reads.Learnt)
 abbrev Start : Type 0
 Start = lts.Start claims reads.Pre reads.Post
 
--- the bits that each branch works out, by the parameters
-rise-bits : (c : Start) → let a = c .args in rd (rd (rd (a .q) +ℤ rd (a .quantum)) -ℤ rd (a .x)) ≡ (a .q +ℤ a .quantum) -ℤ a .x
-rise-bits c =
+-- what each branch works out fits, and its bits read as the definition's distance and speed
+rise-difference : (c : Start) → let a = c .args in SFits w64 (rd (rd (a .q) +ℤ rd (a .quantum)) -ℤ rd (a .x))
+rise-difference c =
     let f = c .fits in let ready = c .pre in
-    rw (toZ-ofZ (f .q), toZ-ofZ (f .quantum), toZ-ofZ (upper-fits _ _ _ _ _ ready), toZ-ofZ (f .x)) (toZ-ofZ (rise-fits _ _ _ _ _ ready))
+    rw (toZ-ofZ (f .q), toZ-ofZ (f .quantum), toZ-ofZ (upper-fits _ _ _ _ _ ready), toZ-ofZ (f .x)) (rise-fits _ _ _ _ _ ready)
 
-fall-bits : (c : Start) → let a = c .args in rd (rd (a .x) -ℤ rd (rd (a .q) -ℤ rd (a .quantum))) ≡ a .x -ℤ (a .q -ℤ a .quantum)
-fall-bits c =
+rise-distance : (c : Start) → let a = c .args in rd (rd (rd (a .q) +ℤ rd (a .quantum)) -ℤ rd (a .x)) ≡ (a .q +ℤ a .quantum) -ℤ a .x
+rise-distance c =
+    let f = c .fits in
+    toZ-ofZ (rise-difference c) ∙ rw (toZ-ofZ (f .q), toZ-ofZ (f .quantum), toZ-ofZ (upper-fits _ _ _ _ _ (c .pre)), toZ-ofZ (f .x))
+
+fall-difference : (c : Start) → let a = c .args in SFits w64 (rd (a .x) -ℤ rd (rd (a .q) -ℤ rd (a .quantum)))
+fall-difference c =
     let f = c .fits in let ready = c .pre in
-    rw (toZ-ofZ (f .q), toZ-ofZ (f .quantum), toZ-ofZ (lower-fits _ _ _ _ _ ready), toZ-ofZ (f .x)) (toZ-ofZ (fall-fits _ _ _ _ _ ready))
+    rw (toZ-ofZ (f .q), toZ-ofZ (f .quantum), toZ-ofZ (lower-fits _ _ _ _ _ ready), toZ-ofZ (f .x)) (fall-fits _ _ _ _ _ ready)
 
-speed-bits : (c : Start) → rd (pos 0 -ℤ rd (c .args .s)) ≡ pos 0 -ℤ c .args .s
-speed-bits c = rw (toZ-ofZ (c .fits .s)) (toZ-ofZ (speed-fits _ _ _ _ _ (c .pre)))
+fall-distance : (c : Start) → let a = c .args in rd (rd (a .x) -ℤ rd (rd (a .q) -ℤ rd (a .quantum))) ≡ a .x -ℤ (a .q -ℤ a .quantum)
+fall-distance c =
+    let f = c .fits in
+    toZ-ofZ (fall-difference c) ∙ rw (toZ-ofZ (f .q), toZ-ofZ (f .quantum), toZ-ofZ (lower-fits _ _ _ _ _ (c .pre)), toZ-ofZ (f .x))
+
+fall-speed : (c : Start) → rd (pos 0 -ℤ rd (c .args .s)) ≡ pos 0 -ℤ c .args .s
+fall-speed c = rw (toZ-ofZ (c .fits .s)) (toZ-ofZ (speed-fits _ _ _ _ _ (c .pre)))
 
 rises : (c : lts.Then1 claims reads.Pre reads.Post) → ltZ (pos 0) (c .before .args .s) ≡ true
 rises c = rw (toZ-ofZ (c .before .fits .s)) at (c .if1 .taken)
@@ -47,33 +59,29 @@ sub-lower : tie.Need-sub-lower
 sub-lower c = rw (toZ-ofZ (c .fits .q), toZ-ofZ (c .fits .quantum)) (lower-fits _ _ _ _ _ (c .pre))
 
 sub-tick-at : tie.Need-sub-tick-at
-sub-tick-at c =
-    let f = c .before .fits in let ready = c .before .pre in
-    rw (toZ-ofZ (f .q), toZ-ofZ (f .quantum), toZ-ofZ (upper-fits _ _ _ _ _ ready), toZ-ofZ (f .x)) (rise-fits _ _ _ _ _ ready)
+sub-tick-at c = rise-difference (c .before)
 
 tick-at-requires : tie.Need-tick-at-requires
-tick-at-requires c κs = let a = c .before in rw (rise-bits a, toZ-ofZ (a .fits .s)) (rise-ready _ _ _ _ _ (a .pre) (rises c))
+tick-at-requires c κs = let a = c .before in rw (rise-distance a, toZ-ofZ (a .fits .s)) (rise-ready _ _ _ _ _ (a .pre) (rises c))
 
 returns : tie.Need-returns
 returns c =
     let a = c .before .before in
-    (rw (rise-bits a, toZ-ofZ (a .fits .s)) at (c .tick-at .ensures)) ∙ due-rise _ _ _ _ _ (a .pre) (rises (c .before))
+    (rw (rise-distance a, toZ-ofZ (a .fits .s)) at (c .tick-at .ensures)) ∙ due-rise _ _ _ _ _ (a .pre) (rises (c .before))
 
 sub-tick-at-2 : tie.Need-sub-tick-at-2
-sub-tick-at-2 c =
-    let f = c .before .before .fits in let ready = c .before .before .pre in
-    rw (toZ-ofZ (f .q), toZ-ofZ (f .quantum), toZ-ofZ (lower-fits _ _ _ _ _ ready), toZ-ofZ (f .x)) (fall-fits _ _ _ _ _ ready)
+sub-tick-at-2 c = fall-difference (c .before .before)
 
 sub-tick-at-3 : tie.Need-sub-tick-at-3
 sub-tick-at-3 c = let a = c .before .before in rw (toZ-ofZ (a .fits .s)) (speed-fits _ _ _ _ _ (a .pre))
 
 tick-at-requires-2 : tie.Need-tick-at-requires-2
-tick-at-requires-2 c κs = let a = c .before .before in rw (fall-bits a, speed-bits a) (fall-ready _ _ _ _ _ (a .pre) (falls c))
+tick-at-requires-2 c κs = let a = c .before .before in rw (fall-distance a, fall-speed a) (fall-ready _ _ _ _ _ (a .pre) (falls c))
 
 returns-2 : tie.Need-returns-2
 returns-2 c =
     let a = c .before .before .before in
-    (rw (fall-bits a, speed-bits a) at (c .tick-at2 .ensures)) ∙ due-fall _ _ _ _ _ (a .pre) (falls (c .before))
+    (rw (fall-distance a, fall-speed a) at (c .tick-at2 .ensures)) ∙ due-fall _ _ _ _ _ (a .pre) (falls (c .before))
 
 returns-3 : tie.Need-returns-3
 returns-3 c =

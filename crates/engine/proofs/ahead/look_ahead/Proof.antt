@@ -1,0 +1,30 @@
+-- Tick and mask are the definition's, so the status is asked and told of them.
+use mathlib.Core.Path.{_≡_, sym}
+use native.Mathlib.Omega.{arith}
+use denote.Ref.{now}
+use borrow.Author.Needs.{needs}
+use Rattle.bitset.specs.Bits.{maskOf-lt}
+use Rattle.machine.specs.Reach.{isDue}
+use Rattle.engine.specs.Ahead.{tickAhead, dueAhead, aheadOf}
+use Rattle.engine.proofs.ahead.look_ahead.Statement.{statement}
+use Rattle.engine.proofs.ahead.look_ahead.Tie as tie
+
+next-tick-requires : tie.Need-next-tick-requires
+next-tick-requires c κs = search needs
+
+equal-to-requires : tie.Need-equal-to-requires
+equal-to-requires c κs = search needs
+
+standing-at-requires : tie.Need-standing-at-requires
+unfolding tickAhead dueAhead isDue
+standing-at-requires c κs =
+    let start = c .before .before in
+    (start .pre .few, rw (c .equal-to .ensures) (maskOf-lt _ (start .args .n)), λ _. rw (c .equal-to .ensures, c .before .next-tick .ensures) (start .pre .reach))
+
+returns : tie.Need-returns
+unfolding tickAhead dueAhead isDue aheadOf
+returns c = rw (c .standing-at .ensures, c .before .equal-to .ensures, c .before .before .next-tick .ensures)
+
+pub look-ahead-spec : {M : Type 1} → statement M
+look-ahead-spec =
+    tie.close (tie.spec next-tick-requires equal-to-requires standing-at-requires returns)

@@ -1,0 +1,32 @@
+-- What lies ahead of a state as the code works it out. What it is by document 01: Laws/Aheads.
+use mathlib.Core.Bool.{cond}
+use mathlib.Core.List.{List}
+use Prim.Native.Nat.{ℕ, _≤_, min}
+use lib.IntN.{ℤ}
+use lib.Dec.{ltb}
+use Rattle.bitset.specs.Mask.{maskOf}
+use Rattle.plan.specs.Lists.{nat, firstFrom}
+use Rattle.machine.specs.Due.{never}
+use Rattle.machine.specs.Next.{leastDue}
+use Rattle.machine.specs.Reach.{isDue}
+use Rattle.dynamics.specs.Standing.{barsIn, standingOf, DueReach}
+use Rattle.engine.specs.declared.ahead.Ahead.{Ahead}
+
+module _ (n commands next : ℕ) (ticks : List ℕ) (x s : List ℤ) (l d : List ℕ) where
+  unfoldable pub tickAhead : ℕ
+  tickAhead = min (leastDue d n) (cond (ltb next commands) (nat ticks next) never)
+
+  unfoldable pub dueAhead : ℕ
+  dueAhead = maskOf (isDue d tickAhead) n
+
+  -- what that asks
+  pub record AheadReady : Type 0 where
+    pub few : n ≤ 32
+    pub listed : commands ≤ 64
+    pub reach : DueReach dueAhead tickAhead x s l
+
+unfoldable pub aheadOf : ℕ → ℕ → ℕ → ℕ → List ℕ → List ℤ → List ℤ → List ℕ → List ℕ → Ahead
+aheadOf horizon n commands next ticks x s l d =
+    let t = tickAhead n commands next ticks x s l d in let due = dueAhead n commands next ticks x s l d in
+    let standing = standingOf horizon n t (firstFrom (barsIn due t x s l) 0 n) in
+    record { tick = t; due = due; status = standing .status; integrator = standing .integrator }

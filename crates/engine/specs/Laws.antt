@@ -1,0 +1,11 @@
+pub mod Buffers
+pub mod EventTurns
+pub mod EventBytes
+pub mod Obeying
+pub mod Settings
+pub mod Walks
+pub mod Outputs
+pub mod Moving
+pub mod Moves
+pub mod Aheads
+pub mod Instants

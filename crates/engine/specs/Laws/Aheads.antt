@@ -1,0 +1,38 @@
+-- What lies ahead of a sound state, by document 01. Assumes nothing.
+use mathlib.Core.Path.{_≡_, refl}
+use native.Mathlib.Omega.{arith}
+use Rattle.bitset.specs.Mask.{maskOf}
+use Rattle.plan.specs.Laws.Counts.{counts-of}
+use Rattle.plan.specs.declared.Plan.{Plan}
+use Rattle.machine.specs.Next.{nextTick, commandTick}
+use Rattle.machine.specs.Reach.{isDue}
+use Rattle.machine.specs.Instant.{tickOf}
+use Rattle.machine.specs.Status.{statusOf, integratorOf}
+use Rattle.machine.specs.Sound.{SoundRunning}
+use Rattle.machine.specs.declared.Running.{Running}
+use Rattle.dynamics.specs.Laws.Standings.{due-reach, standing-by-mask}
+use Rattle.engine.specs.Ahead.{tickAhead, dueAhead, aheadOf, AheadReady}
+
+module _ (p : Plan) (r : Running) where
+  tick-ahead : tickAhead (p .n) (p .commands) (r .next) (p .ticks) (r .x) (r .s) (r .l) (r .d) ≡ tickOf p r
+  unfolding tickAhead tickOf nextTick commandTick
+  tick-ahead = refl
+
+  due-ahead : dueAhead (p .n) (p .commands) (r .next) (p .ticks) (r .x) (r .s) (r .l) (r .d) ≡ maskOf (isDue (r .d) (tickOf p r)) (p .n)
+  unfolding dueAhead
+  due-ahead = rw tick-ahead
+
+  pub ahead-ready : SoundRunning p r → AheadReady (p .n) (p .commands) (r .next) (p .ticks) (r .x) (r .s) (r .l) (r .d)
+  ahead-ready ok =
+      let counts = counts-of p (ok .plan .counts) in
+      record { few = counts .n; listed = counts .commands; reach = rw (tick-ahead, due-ahead) (due-reach p r ok refl refl) }
+
+  pub ahead-is : aheadOf (p .horizon) (p .n) (p .commands) (r .next) (p .ticks) (r .x) (r .s) (r .l) (r .d)
+      ≡ record {
+        tick = tickOf p r;
+        due = maskOf (isDue (r .d) (tickOf p r)) (p .n);
+        status = statusOf p r;
+        integrator = integratorOf p r;
+      }
+  unfolding aheadOf
+  ahead-is = rw (tick-ahead, due-ahead, standing-by-mask p r refl refl)

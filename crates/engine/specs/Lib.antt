@@ -1,0 +1,7 @@
+pub mod Commands
+pub mod Outputs
+pub mod Events
+pub mod Motion
+pub mod Ahead
+pub mod Lent
+pub mod Laws

@@ -1,0 +1,47 @@
+-- One integrator moved, and all of a mask, as the code does it. What that is by document 01: Laws/Moves.
+use mathlib.Core.Path.{_≡_}
+use mathlib.Core.Bool.{true}
+use mathlib.Core.List.{List}
+use Prim.Native.Nat.{ℕ, _+_, _-_, _<_}
+use lib.IntN.{ℤ, pos, _+ℤ_, _-ℤ_, _*ℤ_}
+use lib.ListN.{set}
+use Rattle.bitset.specs.Mask.{has}
+use Rattle.plan.specs.Lists.{nat, int}
+use Rattle.machine.specs.Due.{dueTick}
+use Rattle.dynamics.specs.Links.{rangeRate, Rated}
+use Rattle.dynamics.specs.Ticks.{DueReady, PositionReady}
+
+-- positions, slopes, last-moved ticks and due ticks
+pub record Motion : Type 0 where
+  pub x : List ℤ
+  pub s : List ℤ
+  pub l : List ℕ
+  pub d : List ℕ
+
+abbrev pub moving : List ℤ → List ℤ → List ℕ → List ℕ → Motion
+moving x s l d = record { x = x; s = s; l = l; d = d }
+
+module _ (t : ℕ) (ranges sources : List ℕ) (coefficients quanta values : List ℤ) where
+  -- where integrator i is at t, its new slope, and its new due tick
+  unfoldable pub placeOf : ℕ → Motion → ℤ
+  placeOf i m = int (m .x) i +ℤ int (m .s) i *ℤ pos (t - nat (m .l) i)
+
+  unfoldable pub slopeOf : ℕ → ℤ
+  slopeOf i = rangeRate sources coefficients values (nat ranges i) (nat ranges (i + 1))
+
+  unfoldable pub dueFrom : ℕ → ℤ → ℕ
+  dueFrom i place = dueTick t place (int values i +ℤ int quanta i) (int values i -ℤ int quanta i) (slopeOf i)
+
+  unfoldable pub moveOne : ℕ → Motion → Motion
+  moveOne i m =
+      moving (set (m .x) i (placeOf i m)) (set (m .s) i (slopeOf i)) (set (m .l) i t) (set (m .d) i (dueFrom i (placeOf i m)))
+
+  -- what that asks
+  pub record Movable (i : ℕ) (m : Motion) : Type 0 where
+    pub used : i < 32
+    pub rated : Rated sources coefficients values (nat ranges i) (nat ranges (i + 1))
+    pub position : PositionReady (int (m .x) i) (int (m .s) i) (nat (m .l) i) t
+    pub due : DueReady t (placeOf i m) (int values i) (int quanta i) (slopeOf i)
+
+  abbrev pub AllMovable : ℕ → Motion → Type 0
+  AllMovable moved m = (i : ℕ) → has moved i ≡ true → Movable i m

@@ -1,0 +1,38 @@
+// What lies ahead of a state: the next instant's tick, the integrators that are due there, and the status.
+ghost use mathlib.Core.Path.{_≡_};
+ghost use Rattle.engine.specs.Ahead.{aheadOf, AheadReady};
+use bitset::equal_to;
+use dynamics::next_tick;
+use dynamics::standing_at;
+
+pub struct Ahead {
+    pub tick: u32,
+    pub due: u32,
+    pub status: usize,
+    pub integrator: usize,
+}
+
+pub fn look_ahead<'a>(
+    horizon: u32,
+    n: usize,
+    commands: usize,
+    next: usize,
+    ticks: &'a [u32; 64],
+    x: &'a [i64; 32],
+    s: &'a [i64; 32],
+    l: &'a [u32; 32],
+    d: &'a [u32; 32],
+) -> Ahead
+    requires { ⌜ AheadReady n commands next (now ticks) (now x) (now s) (now l) (now d) ⌝ }
+    ensures { λ r. ⌜ r ≡ aheadOf horizon n commands next (now (ticks .entry)) (now (x .entry)) (now (s .entry)) (now (l .entry)) (now (d .entry)) ⌝ }
+{
+    let tick = next_tick(n, d, commands, ticks, next);
+    let due = equal_to(d, n, tick);
+    let standing = standing_at(horizon, n, tick, due, x, s, l);
+    Ahead {
+        tick,
+        due,
+        status: standing.status,
+        integrator: standing.integrator,
+    }
+}

@@ -1,0 +1,14 @@
+// One instant of the machine, and what it is made of.
+mod ahead;
+mod commands;
+mod events;
+mod instants;
+mod moves;
+mod outputs;
+
+pub use ahead::Ahead;
+pub use ahead::look_ahead;
+pub use instants::Clocks;
+pub use instants::Counts;
+pub use instants::Taken;
+pub use instants::take_instant;

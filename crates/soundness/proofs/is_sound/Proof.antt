@@ -1,0 +1,64 @@
+-- Each call answers one of the definition's tests, in their order. A plan that passes the first keeps its rules.
+use borrow.Author.Needs.{needs}
+use lib.Dec.{lit<}
+use mathlib.Core.Bool.{Bool, _&&_, and-eq-true-iff}
+use mathlib.Core.List.{List, [], _∷_}
+use mathlib.Core.Path.{_≡_, refl}
+use Rattle.plan.specs.Lists.{every}
+use Rattle.plan.specs.Tests.{countsKept}
+use Rattle.plan.specs.Refusals.{isClean, planFinding}
+use Rattle.plan.specs.Unused.{planUnused}
+use Rattle.plan.specs.Laws.Refused.{plan-rules}
+use Rattle.machine.specs.SoundTest.{planSound, runningSound, isSound}
+use Rattle.planrules.specs.Findings.{held, failed}
+use Rattle.soundness.specs.Laws.Chain.{passes, Passed, begin, next, passed-at, fails, last}
+use Rattle.soundness.proofs.is_sound.Statement.{statement}
+use Rattle.soundness.proofs.is_sound.Tie as tie
+
+-- the tests in their order, of the state at the entry
+abbrev tests : tie.Start → List Bool
+tests c =
+    let p = c .args .st .plan in (countsKept p && isClean (planFinding p)) ∷ planUnused p ∷ runningSound p (c .args .st .run) ∷ []
+
+all-of : (c : tie.Start) → passes (tests c) 3 ≡ isSound (c .args .st)
+unfolding passes every isSound planSound
+all-of c = refl
+
+plan-kept-requires : tie.Need-plan-kept-requires
+plan-kept-requires c κs = search needs
+
+returns : tie.Need-returns
+returns c = fails (begin tests (c .before .before .before)) all-of (lit< tt) (failed (c .before .plan-kept .ensures) (c .if1 .taken))
+
+-- behind each test
+abbrev passed1 : tie.Else1 → Passed tests 1
+passed1 c = next (begin tests (c .before .before .before)) (held (c .before .plan-kept .ensures) (c .if1 .left))
+
+plan-unused-requires : tie.Need-plan-unused-requires
+plan-unused-requires c κs = search needs
+
+returns-2 : tie.Need-returns-2
+returns-2 c = fails (passed1 (c .before .before)) all-of (lit< tt) (failed (c .before .plan-unused .ensures) (c .if2 .taken))
+
+abbrev passed2 : tie.Else2 → Passed tests 2
+passed2 c = next (passed1 (c .before .before)) (held (c .before .plan-unused .ensures) (c .if2 .left))
+
+running-sound-requires : tie.Need-running-sound-requires
+running-sound-requires c κs =
+    let p = passed2 (c .before) in
+    let plan = p .entry .args .st .plan in
+    plan-rules plan .0 (and-eq-true-iff (countsKept plan) (isClean (planFinding plan)) .0 (passed-at p 0 (lit< tt)))
+
+returns-3 : tie.Need-returns-3
+returns-3 c = last (passed2 (c .before .before)) all-of refl (c .running-sound .ensures)
+
+pub is-sound-spec : {M : Type 1} → statement M
+is-sound-spec =
+    tie.close
+    (tie.spec
+    plan-kept-requires
+    returns
+    plan-unused-requires
+    returns-2
+    running-sound-requires
+    returns-3)

@@ -1,0 +1,190 @@
+-- Each comparison and each call is one of the clauses, in the code's order. The rates are worked out once the outputs and the inputs have passed.
+use borrow.Author.Needs.{needs}
+use borrow.Author.Tests.{le-leb, lt-leb, eq-eqb, ne-eqb}
+use lib.Dec.{lit<}
+use mathlib.Core.Bool.{Bool}
+use mathlib.Core.List.{List}
+use mathlib.Core.Path.{_≡_, refl, sym, _∙_}
+use native.Mathlib.Omega.{arith}
+use Rattle.plan.specs.Lists.{every}
+use Rattle.plan.specs.Laws.Counts.{counts-of}
+use Rattle.plan.specs.declared.Plan.{Plan}
+use Rattle.machine.specs.Next.{nextCommand}
+use Rattle.machine.specs.SoundTest.{runningSound}
+use Rattle.machine.specs.declared.Running.{Running}
+use Rattle.dynamics.specs.Links.{rangesOf}
+use Rattle.dynamics.specs.Sources.{valuesOf}
+use Rattle.dynamics.specs.Laws.OwnRange.{own-rates}
+use Rattle.dynamics.specs.Laws.SourceValues.{values-at, all-nodes}
+use Rattle.planrules.specs.Findings.{held, failed}
+use Rattle.soundness.specs.Laws.Chain.{passes, Passed, begin, next, passed-at, fails, last}
+use Rattle.soundness.specs.Laws.Tested.{clauses, running-tests, figuresAt, slopes, sources-ready, rates-ready, figures-ready, figures-same}
+use Rattle.soundness.specs.Laws.Tested.{clock-fits, updates-fit}
+use Rattle.soundness.proofs.running.running_sound.Statement.{statement}
+use Rattle.soundness.proofs.running.running_sound.Tie as tie
+
+abbrev plan : tie.Start → Plan
+plan c = c .args .t1
+
+abbrev run : tie.Start → Running
+run c = c .args .t2
+
+-- the clauses in their order, of the arguments at the entry
+abbrev tests : tie.Start → List Bool
+tests c = clauses (plan c) (run c)
+
+all-of : (c : tie.Start) → passes (tests c) 8 ≡ runningSound (plan c) (run c)
+all-of c = running-tests (plan c) (run c)
+
+returns : tie.Need-returns
+returns c = fails (begin tests (c .before)) all-of (lit< tt) (lt-leb _ _ (c .if1 .taken))
+
+-- behind each test
+abbrev passed1 : tie.Else1 → Passed tests 1
+passed1 c = next (begin tests (c .before)) (le-leb _ _ (c .if1 .left))
+
+values-kept-requires : tie.Need-values-kept-requires
+values-kept-requires c κs =
+    let s = c .before .before .before .before in omega (arith, c .values-kept-arg2 .given .0, counts-of (plan s) (s .pre .counts) .n)
+
+returns-2 : tie.Need-returns-2
+returns-2 c = fails (passed1 (c .before .before .before .before .before)) all-of (lit< tt) (failed (c .before .values-kept .ensures) (c .if2 .taken))
+
+abbrev passed2 : tie.Else2 → Passed tests 2
+passed2 c = next (passed1 (c .before .before .before .before .before)) (held (c .before .values-kept .ensures) (c .if2 .left))
+
+values-kept-requires-2 : tie.Need-values-kept-requires-2
+values-kept-requires-2 c κs =
+    let s = passed2 (c .before .before .before) .entry in omega (arith, c .values-kept-arg4 .given .0, counts-of (plan s) (s .pre .counts) .m)
+
+returns-3 : tie.Need-returns-3
+returns-3 c = fails (passed2 (c .before .before .before .before .before)) all-of (lit< tt) (failed (c .before .values-kept2 .ensures) (c .if3 .taken))
+
+abbrev passed3 : tie.Else3 → Passed tests 3
+passed3 c = next (passed2 (c .before .before .before .before .before)) (held (c .before .values-kept2 .ensures) (c .if3 .left))
+
+-- the same where the rates and what they are made of have been worked out, and the integrators tested
+abbrev passed-values : tie.After-source-values → Passed tests 3
+passed-values c = passed3 (c .before .before .before .before .before .before .before .before .before .before)
+
+abbrev passed-ranges : tie.After-link-ranges → Passed tests 3
+passed-ranges c = passed-values (c .before .before .before)
+
+abbrev passed-rates : tie.After-rates → Passed tests 3
+passed-rates c = passed-ranges (c .before .before .before .before .before .before)
+
+abbrev passed-integrators : tie.After-integrators-sound → Passed tests 3
+passed-integrators c = passed-rates (c .before .before .before .before .before .before .before .before .before .before)
+
+-- ---- the rates
+source-values-requires : tie.Need-source-values-requires
+source-values-requires c κs =
+    let p = passed3 (c .before .before .before .before .before .before .before .before .before) in let s = p .entry in
+    sources-ready (plan s) (run s) (s .pre) (passed-at p 1 (lit< tt)) (passed-at p 2 (lit< tt))
+
+values-are : (c : tie.After-source-values) → let s = passed-values c .entry in
+    c .source-values .result ≡ valuesOf (plan s) (run s .q) (run s .inputs)
+values-are c =
+    let s = passed-values c .entry in c .source-values .ensures ∙ all-nodes (plan s) (run s .q) (run s .inputs) (s .pre)
+
+link-ranges-requires : tie.Need-link-ranges-requires
+link-ranges-requires c κs =
+    let s = passed-values (c .before .before) .entry in let n = counts-of (plan s) (s .pre .counts) in (n .n, n .links)
+
+ranges-are : (c : tie.After-link-ranges) → c .link-ranges .result ≡ rangesOf (plan (passed-ranges c .entry))
+unfolding rangesOf
+ranges-are c = c .link-ranges .ensures
+
+rates-requires : tie.Need-rates-requires
+rates-requires c κs =
+    let l = c .before .before .before .before .before in let p = passed-ranges l in let s = p .entry in
+    rw (ranges-are l, values-are (l .before .before .before))
+    (rates-ready (plan s) (run s) (s .pre) (passed-at p 1 (lit< tt)) (passed-at p 2 (lit< tt)))
+
+slopes-are : (c : tie.After-rates) → let s = passed-rates c .entry in c .rates .result ≡ slopes (plan s) (run s)
+slopes-are c =
+    let l = c .before .before .before .before .before .before in let s = passed-ranges l .entry in let q = run s .q in let u = run s .inputs in
+    (rw (ranges-are l, values-are (l .before .before .before)) at (c .rates .ensures))
+    ∙ own-rates (plan s) (s .pre) (valuesOf (plan s) q u) q u (values-at (plan s) q u (s .pre))
+
+-- ---- the integrators
+integrators-sound-requires : tie.Need-integrators-sound-requires
+integrators-sound-requires c κs =
+    let a = c .before .before .before .before .before .before .before .before .before in let p = passed-rates a in let s = p .entry in
+    let ready = figures-ready (plan s) (run s) (s .pre) (passed-at p 1 (lit< tt)) (passed-at p 2 (lit< tt)) (passed-at p 0 (lit< tt)) in
+    (counts-of (plan s) (s .pre .counts) .n, rw (slopes-are a) ready)
+
+answer : (c : tie.After-integrators-sound) → let s = passed-integrators c .entry in
+    c .integrators-sound .result ≡ every (figuresAt (plan s) (run s)) (plan s .n)
+answer c =
+    let a = c .before .before .before .before .before .before .before .before .before .before in let s = passed-rates a .entry in
+    (rw (slopes-are a) at (c .integrators-sound .ensures)) ∙ figures-same (plan s) (run s) (s .pre)
+
+returns-4 : tie.Need-returns-4
+returns-4 c = fails (passed-integrators (c .before)) all-of (lit< tt) (failed (answer (c .before)) (c .if4 .taken))
+
+abbrev passed4 : tie.Else4 → Passed tests 4
+passed4 c = next (passed-integrators (c .before)) (held (answer (c .before)) (c .if4 .left))
+
+-- ---- the rest
+next-command-requires : tie.Need-next-command-requires
+next-command-requires c κs = let s = passed4 (c .before .before) .entry in counts-of (plan s) (s .pre .counts) .commands
+
+next-is : (c : tie.After-next-command) → let s = passed4 (c .before .before .before) .entry in
+    c .next-command .result ≡ nextCommand (plan s) (run s .clock)
+unfolding nextCommand
+next-is c = c .next-command .ensures
+
+returns-5 : tie.Need-returns-5
+returns-5 c = fails (passed4 (c .before .before .before .before)) all-of (lit< tt) (ne-eqb _ _ (λ e. c .if5 .taken (e ∙ sym (next-is (c .before)))))
+
+abbrev passed5 : tie.Else5 → Passed tests 5
+passed5 c = next (passed4 (c .before .before .before .before)) (eq-eqb _ _ (c .if5 .left ∙ next-is (c .before)))
+
+cast-if6 : tie.Need-cast-if6
+cast-if6 c = let p = passed5 c in let s = p .entry in clock-fits (plan s) (run s) (s .pre) (passed-at p 0 (lit< tt))
+
+returns-6 : tie.Need-returns-6
+returns-6 c = fails (passed5 (c .before)) all-of (lit< tt) (lt-leb _ _ (c .if6 .taken))
+
+abbrev passed6 : tie.Else6 → Passed tests 6
+passed6 c = next (passed5 (c .before)) (le-leb _ _ (c .if6 .left))
+
+mul-if7 : tie.Need-mul-if7
+mul-if7 c =
+    let p = passed6 c in let s = p .entry in updates-fit (plan s) (run s) (s .pre) (passed-at p 0 (lit< tt)) (passed-at p 5 (lit< tt))
+
+returns-7 : tie.Need-returns-7
+returns-7 c = fails (passed6 (c .before)) all-of (lit< tt) (lt-leb _ _ (c .if7 .taken))
+
+abbrev passed7 : tie.Else7 → Passed tests 7
+passed7 c = next (passed6 (c .before)) (le-leb _ _ (c .if7 .left))
+
+figures-unused-requires : tie.Need-figures-unused-requires
+figures-unused-requires c κs = search needs
+
+returns-8 : tie.Need-returns-8
+returns-8 c = last (passed7 (c .before)) all-of refl (c .figures-unused .ensures)
+
+pub running-sound-spec : {M : Type 1} → statement M
+running-sound-spec =
+    tie.close
+    (tie.spec
+    returns
+    values-kept-requires
+    returns-2
+    values-kept-requires-2
+    returns-3
+    source-values-requires
+    link-ranges-requires
+    rates-requires
+    integrators-sound-requires
+    returns-4
+    next-command-requires
+    returns-5
+    cast-if6
+    returns-6
+    mul-if7
+    returns-7
+    figures-unused-requires
+    returns-8)

@@ -1,0 +1,72 @@
+-- Before the turn of entry i every entry below it has passed.
+use borrow.Author.Needs.{needs}
+use denote.Ref.{now}
+use mathlib.Core.Bool.{true}
+use mathlib.Core.Path.{_≡_, sym}
+use native.Mathlib.Omega.{arith}
+use Prim.Native.Nat.{_-_, _≤_}
+use Rattle.integers.specs.Range.{within}
+use Rattle.plan.specs.Format.{M}
+use Rattle.plan.specs.Lists.{int, every}
+use Rattle.planrules.specs.Findings.{element, held, failed}
+use Rattle.planrules.specs.Testing.{every-none, every-more, every-fails}
+use Rattle.soundness.proofs.running.values_kept.Statement.{statement}
+use Rattle.soundness.proofs.running.values_kept.Tie as tie
+
+abbrev Inv-loop : tie.InvT-loop
+Inv-loop values count i₀ i = (i ≤ count) × (every (λ j. within M (int values j)) i ≡ true)
+
+abbrev μ-loop : tie.MeasureT-loop
+μ-loop values count i₀ i = count - i
+
+loop-holds : tie.Need-loop-holds Inv-loop μ-loop
+loop-holds c = (search needs, every-none _)
+
+mul-value-kept : tie.Need-mul-value-kept Inv-loop μ-loop
+mul-value-kept c = search needs
+
+shared-slice-copy-out-value-kept : tie.Need-shared-slice-copy-out-value-kept Inv-loop μ-loop
+shared-slice-copy-out-value-kept c = search needs
+
+value-kept-requires : tie.Need-value-kept-requires Inv-loop μ-loop
+value-kept-requires c κs = search needs
+
+-- what the call has said of the entry
+answer : (c : tie.After-value-kept Inv-loop μ-loop) → let l = c .before .before .before in
+    c .value-kept .result ≡ within M (int (now (l .before .args .values)) (l .loop .i))
+answer c = rw (element (c .before .value-kept-arg .given)) at (c .value-kept .ensures)
+
+returns : tie.Need-returns Inv-loop μ-loop
+returns c = sym (every-fails _ _ _ (c .before .before .before .loop-test .taken) (failed (answer (c .before)) (c .if1 .taken)))
+
+add-i : tie.Need-add-i Inv-loop μ-loop
+add-i c = search needs
+
+loop-less : tie.Need-loop-less Inv-loop μ-loop
+loop-less c = search needs
+
+loop-again : tie.Need-loop-again Inv-loop μ-loop
+loop-again c =
+    (omega arith, every-more _ (c .before .before .before .before .loop .inv .1) (held (answer (c .before)) (c .if1 .left)))
+
+returns-2 : tie.Need-returns-2 Inv-loop μ-loop
+returns-2 c =
+    let l = c .before .loop in
+    let all : l .i ≡ c .before .before .args .count = omega arith in
+    sym (rw (← all) (l .inv .1))
+
+pub values-kept-spec : {M : Type 1} → statement M
+values-kept-spec =
+    tie.close
+    (tie.spec
+    Inv-loop
+    μ-loop
+    loop-holds
+    mul-value-kept
+    shared-slice-copy-out-value-kept
+    value-kept-requires
+    returns
+    add-i
+    loop-less
+    loop-again
+    returns-2)

@@ -1,0 +1,25 @@
+// "A sound state": the test that every call makes of a state before it uses it. It asks nothing of the state: each number is bounded before it is used as
+// an index, a factor or a term.
+ghost use mathlib.Core.Path.{_≡_};
+ghost use Rattle.machine.specs.SoundTest.{isSound};
+use crate::running::running_sound;
+use crate::unused::plan_unused;
+use machine::State;
+use planrules::plan_kept;
+
+mod running;
+mod unused;
+
+pub fn is_sound(st: State) -> bool
+    ensures { λ r. ⌜ r ≡ isSound st ⌝ }
+{
+    let plan = st.plan;
+    if !plan_kept(plan) {
+        return false;
+    }
+    if !plan_unused(plan) {
+        return false;
+    }
+    let run = st.run;
+    running_sound(plan, run)
+}

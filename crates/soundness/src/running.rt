@@ -1,0 +1,139 @@
+// The running figures of a state whose plan keeps its rules.
+ghost use mathlib.Core.Path.{_≡_};
+ghost use Prim.Native.Nat.{_≤_};
+ghost use lib.ListN.{length};
+ghost use Rattle.integers.specs.Range.{within};
+ghost use Rattle.plan.specs.Format.{M};
+ghost use Rattle.plan.specs.Lists.{nat, int, every};
+ghost use Rattle.plan.specs.Rules.{PlanRules};
+ghost use Rattle.machine.specs.SoundTest.{runningSound};
+ghost use Rattle.soundness.specs.Figures.{figuresSound, FiguresReady, AllReady};
+use crate::unused::figures_unused;
+use dynamics::due_tick;
+use dynamics::link_ranges;
+use dynamics::next_command;
+use dynamics::rates;
+use dynamics::source_values;
+use machine::Running;
+use plan::Plan;
+use planrules::value_kept;
+
+// "|q| ≤ M", and "inputs are within ±M".
+fn values_kept(values: &[i64], count: usize) -> bool
+    requires { ⌜ count ≤ length (now values) ⌝ }
+    ensures { λ r. ⌜ r ≡ every (λ i. within M (int (now (values .entry)) i)) count ⌝ }
+{
+    let mut i: usize = 0;
+    while i < count {
+        if !value_kept(values[i]) {
+            return false;
+        }
+        i += 1;
+    }
+    true
+}
+
+// "l ≤ c < d; .. |x−q| < D; s and d keep Rate and Due", of one integrator whose links make `rate`. x may be any number of 64 bits, so it is compared with
+// the levels and nothing is taken from it.
+fn integrator_sound(
+    clock: u32,
+    quantum: i64,
+    rate: i64,
+    x: i64,
+    q: i64,
+    s: i64,
+    l: u32,
+    d: u32,
+) -> bool
+    requires { ⌜ FiguresReady clock quantum rate q ⌝ }
+    ensures { λ r. ⌜ r ≡ figuresSound clock quantum rate x q s l d ⌝ }
+{
+    if l > clock {
+        return false;
+    }
+    if d <= clock {
+        return false;
+    }
+    if x <= q - quantum {
+        return false;
+    }
+    if x >= q + quantum {
+        return false;
+    }
+    if s != rate {
+        return false;
+    }
+    d == due_tick(l, x, q, quantum, s)
+}
+
+// Of each integrator.
+fn integrators_sound<'a>(
+    n: usize,
+    clock: u32,
+    quanta: &'a [i64; 32],
+    rates: &'a [i64; 32],
+    x: &'a [i64; 32],
+    q: &'a [i64; 32],
+    s: &'a [i64; 32],
+    l: &'a [u32; 32],
+    d: &'a [u32; 32],
+) -> bool
+    requires { ⌜ (n ≤ 32) × AllReady n clock (now quanta) (now rates) (now q) ⌝ }
+    ensures { λ r. ⌜ r ≡ every (λ i. figuresSound clock (int (now (quanta .entry)) i) (int (now (rates .entry)) i) (int (now (x .entry)) i)
+        (int (now (q .entry)) i) (int (now (s .entry)) i) (nat (now (l .entry)) i) (nat (now (d .entry)) i)) n ⌝ }
+{
+    let mut i: usize = 0;
+    while i < n {
+        if !integrator_sound(clock, quanta[i], rates[i], x[i], q[i], s[i], l[i], d[i]) {
+            return false;
+        }
+        i += 1;
+    }
+    true
+}
+
+// Outputs and inputs are bounded before a rate is worked out from them, and the instants by the clock before they are multiplied.
+pub fn running_sound(p: Plan, r: Running) -> bool
+    requires { ⌜ PlanRules p ⌝ }
+    ensures { λ b. ⌜ b ≡ runningSound p r ⌝ }
+{
+    let n = p.n;
+    let m = p.m;
+    let clock = r.clock;
+    if clock > p.horizon {
+        return false;
+    }
+    if !values_kept(&r.q, n) {
+        return false;
+    }
+    if !values_kept(&r.inputs, m) {
+        return false;
+    }
+    let values = source_values(
+        n,
+        m,
+        p.k,
+        &r.q,
+        &r.inputs,
+        &p.kinds,
+        &p.lefts,
+        &p.rights,
+        &p.lows,
+        &p.highs,
+    );
+    let ranges = link_ranges(n, p.links, &p.targets);
+    let slopes = rates(n, &ranges, &p.sources, &p.coefficients, &values);
+    if !integrators_sound(n, clock, &p.quanta, &slopes, &r.x, &r.q, &r.s, &r.l, &r.d) {
+        return false;
+    }
+    if r.next != next_command(p.commands, &p.ticks, clock) {
+        return false;
+    }
+    if r.instants > clock as u64 {
+        return false;
+    }
+    if r.updates > (n as u64) * r.instants {
+        return false;
+    }
+    figures_unused(n, m, r)
+}
