@@ -1,17 +1,16 @@
 -- A file that is read and written back: the reader's refusal, or the writer's, or the length of what is written.
-use mathlib.Core.Path.{_≡_, refl, sym, _∙_}
-use mathlib.Core.Bool.{Bool, true, false, cond}
+use mathlib.Core.Path.{_≡_, sym, _∙_}
+use mathlib.Core.Bool.{true, false, cond}
 use mathlib.Core.List.{List}
 use Prim.Native.Nat.{ℕ}
-use native.Mathlib.Omega.{arith}
 use lib.Dec.{leb, eqb}
 use lib.ListN.{length}
 use Rattle.plan.specs.Format.{planIn}
 use Rattle.plan.specs.Refusals.{numberOf, isClean, findingOf, accepted}
+use Rattle.plan.specs.Rules.{CountsRule}
 use Rattle.plan.specs.Encoding.{fileLength, encode}
-use Rattle.plan.specs.Laws.Layout.{file-least}
 use Rattle.plan.specs.Laws.Answers.{counts-in, accepted-sizes}
-use Rattle.planwriter.specs.Plans.{writtenLength, writtenBuffer}
+use Rattle.planwriter.specs.Plans.{writtenLength, writtenBuffer, written-short, written-whole}
 use Rattle.simulator.specs.Calls.{over}
 
 -- 1 to 9 by the reader, then 13: "The plan writer's buffer is shorter than the file."
@@ -40,20 +39,15 @@ module _ (file buffer : List ℕ) where
 
   module _ (yes : accepted file ≡ true) {size : ℕ} {after : List ℕ}
       (s : size ≡ writtenLength (planIn file) (length buffer)) (a : after ≡ writtenBuffer (planIn file) buffer) where
+    rule : CountsRule (planIn file)
+    rule = counts-in file (accepted-sizes file yes)
+
     pub rewrite-short : size ≡ 0 → Rewritten 13 size after
     unfolding rewriteNumber rewriteLength rewriteBuffer writtenLength writtenBuffer
-    rewrite-short z = go (leb (fileLength (planIn file)) (length buffer)) refl
-      where
-        go : (b : Bool) → leb (fileLength (planIn file)) (length buffer) ≡ b → Rewritten 13 size after
-        go true e =
-            let size-is : size ≡ fileLength (planIn file) = s ∙ rw e in
-            absurd (omega (arith, file-least (planIn file) (counts-in file (accepted-sizes file yes))))
-        go false e = (sym (rw (yes, e)), (s ∙ sym (rw (yes, e)), a ∙ sym (rw (yes, e))))
+    rewrite-short z =
+        let e = written-short (planIn file) rule (length buffer) (sym s ∙ z) in (sym (rw (yes, e)), (s ∙ sym (rw (yes, e)), a ∙ sym (rw (yes, e))))
 
     pub rewrite-done : (size ≡ 0 → ⊥) → Rewritten 0 size after
     unfolding rewriteNumber rewriteLength rewriteBuffer writtenLength writtenBuffer
-    rewrite-done n = go (leb (fileLength (planIn file)) (length buffer)) refl
-      where
-        go : (b : Bool) → leb (fileLength (planIn file)) (length buffer) ≡ b → Rewritten 0 size after
-        go true e = (sym (rw (yes, e)), (s ∙ sym (rw (yes, e)), a ∙ sym (rw (yes, e))))
-        go false e = absurd (n (s ∙ rw e))
+    rewrite-done n =
+        let e = written-whole (planIn file) rule (length buffer) (λ z. n (s ∙ z)) in (sym (rw (yes, e)), (s ∙ sym (rw (yes, e)), a ∙ sym (rw (yes, e))))

@@ -1,18 +1,26 @@
-// The calls for C and Rust, as a static library; `include/cup.h` declares them. A `&[u8]` is a pointer and a length. No call keeps anything, and
-// none asks anything of the bytes.
+// The calls for C and Rust, as a static library; `include/cup.h` declares them. A `&[u8]` is a pointer and a length, and a state goes in and out by value.
+// No call keeps anything, and none asks anything of the bytes or of the state.
 ghost use mathlib.Core.Path.{_≡_};
 ghost use lib.ListN.{length};
 ghost use Rattle.plan.specs.Format.{part};
 ghost use Rattle.plan.specs.Refusals.{numberOf, entryOf, findingOf, sectionOf};
+ghost use Rattle.machine.specs.SoundTest.{isSound};
+ghost use Rattle.simulator.specs.Calls.{loadOf, writeOf, bufferOfWrite};
 ghost use Rattle.exports.specs.Viewing.{viewLength, viewOffset};
 ghost use Rattle.exports.specs.Rewriting.{rewriteNumber, rewriteLength, rewriteBuffer};
+use machine::State;
 use plan::Finding;
 use planfile::offset_in;
 use planfile::read_plan;
 use planrules::entry_of;
 use planrules::number_of;
 use planwriter::write_plan;
+use simulator::Loaded;
+use simulator::Written;
+use simulator::load;
 use simulator::section;
+use simulator::write;
+use soundness::is_sound;
 
 // Reads a plan file: the number, 0 where it is accepted, and the lowest faulty entry.
 #[no_mangle]
@@ -63,4 +71,37 @@ pub extern "C" fn cup_rewrite(file: &[u8], buffer: &mut [u8], written: &mut usiz
         return 13;
     }
     0
+}
+
+// The public call `load`.
+#[no_mangle]
+pub extern "C" fn cup_load(file: &[u8]) -> Loaded
+    ensures { λ r. ⌜ r ≡ loadOf (now (file .entry)) ⌝ }
+{
+    load(file)
+}
+
+// The public call `write`.
+#[no_mangle]
+pub extern "C" fn cup_write(state: State, buffer: &mut [u8]) -> Written
+    ensures { λ r. ⌜ r ≡ writeOf state (now (buffer .entry)) ⌝ }
+    ensures { λ _. ⌜ now (buffer .exit) ≡ bufferOfWrite state (now (buffer .entry)) ⌝ }
+{
+    write(state, buffer)
+}
+
+// "A sound state": whether every call that takes a state would accept it.
+#[no_mangle]
+pub extern "C" fn cup_sound(state: State) -> bool
+    ensures { λ r. ⌜ r ≡ isSound state ⌝ }
+{
+    is_sound(state)
+}
+
+// The state that was handed in, so that a caller can see that both sides lay out its fields alike.
+#[no_mangle]
+pub extern "C" fn cup_echo(state: State) -> State
+    ensures { λ r. ⌜ r ≡ state ⌝ }
+{
+    state
 }

@@ -1,5 +1,6 @@
 -- What the public calls answer, lists of run calls, the promises about them, and the proofs of these.
 pub mod Calls
+pub mod Answers
 pub mod Lists
 pub mod Limits
 pub mod Promises

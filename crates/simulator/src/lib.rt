@@ -2,11 +2,17 @@
 ghost use mathlib.Core.Path.{_≡_};
 ghost use Rattle.plan.specs.Refusals.{sectionOf, sectionStart};
 ghost use Rattle.planfile.specs.Pointers.{further};
+ghost use Rattle.simulator.specs.Calls.{loadOf, writeOf, bufferOfWrite};
+use dynamics::start;
 use machine::State;
 use plan::Finding;
 use planfile::read_plan;
 use planfile::section_in;
 use planrules::SECTIONS;
+use planrules::entry_of;
+use planrules::number_of;
+use planwriter::write_plan;
+use soundness::is_sound;
 
 // Number 0 is acceptance; else it is one of document 01's refusals. A refused load gives the lowest faulty entry, and the idle state. Every
 // other refused call gives 0 for its other figures, and the state that was handed in.
@@ -55,4 +61,59 @@ pub fn section(file: &[u8], number: usize) -> &[u8]
         return &file[..0];
     };
     section_in(file, number)
+}
+
+// "Load accepts every file that meets none of 1 to 9. Load tries 1 to 9 and returns number, lowest faulty entry of that section (0 for 1 to 4) and the idle
+// state." An accepted file's state is the start of its plan.
+pub fn load(file: &[u8]) -> Loaded
+    ensures { λ r. ⌜ r ≡ loadOf (now (file .entry)) ⌝ }
+{
+    let reading = read_plan(file);
+    let found = reading.finding;
+    let Finding::Clean = found else {
+        let number = number_of(found);
+        let entry = entry_of(found);
+        let state = State::idle();
+        return Loaded {
+            number,
+            entry,
+            state,
+        };
+    };
+    let plan = reading.plan;
+    let run = start(plan);
+    let state = State { plan, run };
+    Loaded {
+        number: 0,
+        entry: 0,
+        state,
+    }
+}
+
+// "The writer writes the state's plan and returns the length; bytes after it keep their value." 10, then 13.
+pub fn write(state: State, buf: &mut [u8]) -> Written
+    ensures { λ r. ⌜ r ≡ writeOf state (now (buf .entry)) ⌝ }
+    ensures { λ _. ⌜ now (buf .exit) ≡ bufferOfWrite state (now (buf .entry)) ⌝ }
+{
+    if !is_sound(state) {
+        return Written {
+            number: 10,
+            length: 0,
+            state,
+        };
+    }
+    let plan = state.plan;
+    let length = write_plan(plan, buf);
+    if length == 0 {
+        return Written {
+            number: 13,
+            length: 0,
+            state,
+        };
+    }
+    Written {
+        number: 0,
+        length,
+        state,
+    }
 }
