@@ -9,3 +9,4 @@ pub mod Moving
 pub mod Moves
 pub mod Aheads
 pub mod Instants
+pub mod Running

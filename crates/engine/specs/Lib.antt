@@ -4,4 +4,5 @@ pub mod Events
 pub mod Motion
 pub mod Ahead
 pub mod Lent
+pub mod Running
 pub mod Laws

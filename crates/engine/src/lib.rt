@@ -5,6 +5,7 @@ mod events;
 mod instants;
 mod moves;
 mod outputs;
+mod runs;
 
 pub use ahead::Ahead;
 pub use ahead::look_ahead;
@@ -12,3 +13,5 @@ pub use instants::Clocks;
 pub use instants::Counts;
 pub use instants::Taken;
 pub use instants::take_instant;
+pub use runs::Finished;
+pub use runs::run;

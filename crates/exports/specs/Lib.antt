@@ -1,2 +1,4 @@
 pub mod Rewriting
 pub mod Viewing
+pub mod Tables
+pub mod Instants

@@ -5,9 +5,15 @@ ghost use lib.ListN.{length};
 ghost use Rattle.plan.specs.Format.{part};
 ghost use Rattle.plan.specs.Refusals.{numberOf, entryOf, findingOf, sectionOf};
 ghost use Rattle.machine.specs.SoundTest.{isSound};
-ghost use Rattle.simulator.specs.Calls.{loadOf, writeOf, bufferOfWrite};
+ghost use Rattle.simulator.specs.Calls.{loadOf, writeOf, bufferOfWrite, runOf, bufferOfRun};
+ghost use Rattle.exports.specs.Instants.{engineOf, declinedWith};
+ghost use Rattle.exports.specs.Tables.{tablesOf};
 ghost use Rattle.exports.specs.Viewing.{viewLength, viewOffset};
 ghost use Rattle.exports.specs.Rewriting.{rewriteNumber, rewriteLength, rewriteBuffer};
+use dynamics::link_ranges;
+use dynamics::source_values;
+use engine::run;
+use machine::Engine;
 use machine::State;
 use plan::Finding;
 use planfile::offset_in;
@@ -15,7 +21,9 @@ use planfile::read_plan;
 use planrules::entry_of;
 use planrules::number_of;
 use planwriter::write_plan;
+use reach::reach_table;
 use simulator::Loaded;
+use simulator::Ran;
 use simulator::Written;
 use simulator::load;
 use simulator::section;
@@ -104,4 +112,105 @@ pub extern "C" fn cup_echo(state: State) -> State
     ensures { λ r. ⌜ r ≡ state ⌝ }
 {
     state
+}
+
+// The tables that a run works out once: where each integrator's links begin, what a change of each source reaches, and the value of each source.
+#[repr(C)]
+pub struct Tables {
+    pub ranges: [usize; 33],
+    pub reach: [u64; 64],
+    pub values: [i64; 64],
+}
+
+// The tables of a sound state, else all 0. For tests.
+#[no_mangle]
+pub extern "C" fn cup_tables(state: State) -> Tables
+    ensures { λ r. ⌜ r ≡ tablesOf state ⌝ }
+{
+    if !is_sound(state) {
+        return Tables {
+            ranges: [0; 33],
+            reach: [0; 64],
+            values: [0; 64],
+        };
+    }
+    let n = state.plan.n;
+    let m = state.plan.m;
+    let k = state.plan.k;
+    let links = state.plan.links;
+    let ranges = link_ranges(n, links, &state.plan.targets);
+    let reach = reach_table(
+        n + m,
+        k,
+        links,
+        &state.plan.kinds,
+        &state.plan.lefts,
+        &state.plan.rights,
+        &state.plan.targets,
+        &state.plan.sources,
+    );
+    let values = source_values(
+        n,
+        m,
+        k,
+        &state.run.q,
+        &state.run.inputs,
+        &state.plan.kinds,
+        &state.plan.lefts,
+        &state.plan.rights,
+        &state.plan.lows,
+        &state.plan.highs,
+    );
+    Tables {
+        ranges,
+        reach,
+        values,
+    }
+}
+
+// "0 for every other figure, and the state handed in"
+fn declined(number: usize, state: State) -> Ran
+    ensures { λ r. ⌜ r ≡ declinedWith number state ⌝ }
+{
+    Ran {
+        number,
+        status: 0,
+        integrator: 0,
+        written: 0,
+        state,
+    }
+}
+
+fn engine_of(eager: bool) -> Engine
+    ensures { λ r. ⌜ r ≡ engineOf eager ⌝ }
+{
+    if eager { Engine::Eager } else { Engine::Lazy }
+}
+
+// One instant: what a run with budget 1 answers. For tests.
+#[no_mangle]
+pub extern "C" fn cup_instant(state: State, eager: bool, buffer: &mut [u8]) -> Ran
+    ensures { λ r. ⌜ r ≡ runOf (engineOf eager) state 1 (now (buffer .entry)) ⌝ }
+    ensures { λ _. ⌜ now (buffer .exit) ≡ bufferOfRun (engineOf eager) state 1 (now (buffer .entry)) ⌝ }
+{
+    if !is_sound(state) {
+        return declined(10, state);
+    }
+    let room = (state.plan.n + state.plan.m) * 12;
+    if buffer.len() < room {
+        return declined(12, state);
+    }
+    let finished = run(state, engine_of(eager), 1, buffer);
+    let after = finished.run;
+    let stepped = State {
+        run: after,
+        ..state
+    };
+    Ran {
+        number: 0,
+        status: finished.status,
+        integrator: finished.integrator,
+        written: finished.written,
+        state: stepped,
+    }
 }

@@ -26,7 +26,7 @@ module _ (p : Plan) where
         inputs = s .firsts;
       }
 
-  instant-shaped : (engine : Engine) (r : Running) → RunningShaped (instant p engine r)
+  pub instant-shaped : (engine : Engine) (r : Running) → RunningShaped (instant p engine r)
   unfolding instant takenAt outputs settings
   instant-shaped engine r =
       record {

@@ -45,7 +45,7 @@ passed1 c = next (begin tests (c .before)) (le-leb _ _ (c .if1 .left))
 
 values-kept-requires : tie.Need-values-kept-requires
 values-kept-requires c κs =
-    let s = c .before .before .before .before in omega (arith, c .values-kept-arg2 .given .0, counts-of (plan s) (s .pre .counts) .n)
+    let s = c .before .before .before .before in omega (arith, c .values-kept-arg2 .given .0, counts-of (plan s) (s .pre .counts))
 
 returns-2 : tie.Need-returns-2
 returns-2 c = fails (passed1 (c .before .before .before .before .before)) all-of (lit< tt) (failed (c .before .values-kept .ensures) (c .if2 .taken))
@@ -55,7 +55,7 @@ passed2 c = next (passed1 (c .before .before .before .before .before)) (held (c 
 
 values-kept-requires-2 : tie.Need-values-kept-requires-2
 values-kept-requires-2 c κs =
-    let s = passed2 (c .before .before .before) .entry in omega (arith, c .values-kept-arg4 .given .0, counts-of (plan s) (s .pre .counts) .m)
+    let s = passed2 (c .before .before .before) .entry in omega (arith, c .values-kept-arg4 .given .0, counts-of (plan s) (s .pre .counts))
 
 returns-3 : tie.Need-returns-3
 returns-3 c = fails (passed2 (c .before .before .before .before .before)) all-of (lit< tt) (failed (c .before .values-kept2 .ensures) (c .if3 .taken))

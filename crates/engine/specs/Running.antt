@@ -1,0 +1,27 @@
+-- What a run answers, from machine.specs.Runs, and what it asks.
+use mathlib.Core.List.{List}
+use Prim.Native.Nat.{ℕ, _+_, _*_, _≤_}
+use lib.ListN.{length}
+use Rattle.plan.specs.declared.Plan.{Plan}
+use Rattle.machine.specs.Status.{statusOf, integratorOf}
+use Rattle.machine.specs.Runs.{after, events}
+use Rattle.machine.specs.Sound.{Sound}
+use Rattle.machine.specs.declared.Running.{Running}
+use Rattle.machine.specs.declared.State.{State}
+use Rattle.machine.specs.declared.Engine.{Engine}
+use Rattle.engine.specs.declared.runs.Finished.{Finished}
+
+-- "answers status, integrator (0 unless range) and bytes written", with the running figures after the run
+unfoldable pub finishedOf : Plan → Engine → ℕ → Running → Finished
+finishedOf p engine budget r =
+    record {
+      status = statusOf p (after p engine budget r);
+      integrator = integratorOf p (after p engine budget r);
+      written = length (events p engine budget r);
+      run = after p engine budget r;
+    }
+
+-- a sound state, and room for the events of each instant
+pub record RunReady (st : State) (budget size : ℕ) : Type 0 where
+  pub sound : Sound st
+  pub room : budget * (st .plan .n + st .plan .m) * 12 ≤ size
