@@ -1,12 +1,3 @@
-pub mod Buffers
-pub mod EventTurns
-pub mod EventBytes
-pub mod Obeying
-pub mod Settings
-pub mod Walks
-pub mod Outputs
-pub mod Moving
-pub mod Moves
+-- What is proved of these definitions.
 pub mod Aheads
-pub mod Instants
 pub mod Running

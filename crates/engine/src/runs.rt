@@ -2,14 +2,14 @@
 ghost use mathlib.Core.Path.{_≡_};
 ghost use lib.ListN.{length};
 ghost use Rattle.machine.specs.Runs.{events};
-ghost use Rattle.engine.specs.Events.{putAt};
+ghost use Rattle.instant.specs.Events.{putAt};
 ghost use Rattle.engine.specs.Running.{finishedOf, RunReady};
 use crate::ahead::look_ahead;
-use crate::instants::Clocks;
-use crate::instants::Counts;
-use crate::instants::take_instant;
 use dynamics::link_ranges;
 use dynamics::source_values;
+use instant::Clocks;
+use instant::Counts;
+use instant::take_instant;
 use machine::Engine;
 use machine::Running;
 use machine::State;

@@ -14,7 +14,7 @@ use Rattle.machine.specs.Runs.{events}
 use Rattle.machine.specs.declared.State.{State}
 use Rattle.machine.specs.declared.Engine.{Engine}
 use Rattle.machine.specs.declared.Engine.the-variants.{Lazy, Eager}
-use Rattle.engine.specs.Events.{putAt}
+use Rattle.instant.specs.Events.{putAt}
 use Rattle.engine.specs.Running.{finishedOf, RunReady}
 use Rattle.engine.specs.declared.runs.Finished.{Finished}
 use Rattle.simulator.specs.Calls.{roomOf, declineOf, runNumber, ranState, ranEvents, runOf, bufferOfRun}

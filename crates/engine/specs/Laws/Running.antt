@@ -1,16 +1,18 @@
 -- The turns of a run: what its loop keeps, from the first instant to the last, and what it leaves. Assumes nothing.
 use mathlib.Core.Path.{_≡_, refl, sym, ap, _∙_}
+use mathlib.Core.Bool.{true}
 use mathlib.Core.List.{List, []}
 use Prim.Native.Nat.{ℕ, _+_, _-_, _*_, _≤_, _<_}
 use native.Mathlib.Omega.{arith}
 use lib.IntN.{ℤ}
 use lib.ListN.{length, length-append}
-use Rattle.plan.specs.Laws.Means.{within-size}
+use Rattle.bitset.specs.Mask.{each}
 use Rattle.plan.specs.Format.{M}
 use Rattle.plan.specs.Lists.{int}
+use Rattle.plan.specs.Laws.Means.{within-size}
 use Rattle.plan.specs.declared.Plan.{Plan}
 use Rattle.machine.specs.Instant.{instant, eventsOf}
-use Rattle.machine.specs.Status.{statusOf, integratorOf}
+use Rattle.machine.specs.Status.{statusOf, integratorOf, isPaused}
 use Rattle.machine.specs.Runs.{after, events}
 use Rattle.machine.specs.Sound.{SoundRunning, RunningShaped}
 use Rattle.machine.specs.Laws.Lengths.{instant-bytes}
@@ -21,15 +23,15 @@ use Rattle.machine.specs.Laws.Status.{is-paused}
 use Rattle.machine.specs.declared.Running.{Running}
 use Rattle.machine.specs.declared.Engine.{Engine}
 use Rattle.dynamics.specs.Links.{rangesOf}
-use Rattle.dynamics.specs.Sources.{valuesOf, firstValues, NodesReady}
-use Rattle.dynamics.specs.Laws.SourceValues.{nodes-ready, first-sized}
+use Rattle.dynamics.specs.Sources.{valuesOf, firstValues, nodeStep, NodesReady}
+use Rattle.dynamics.specs.Laws.SourceValues.{nodes-ready, first-sized, all-nodes}
 use Rattle.reach.specs.Table.{reachTable}
 use Rattle.engine.specs.Ahead.{aheadOf, AheadReady}
-use Rattle.engine.specs.Events.{putAt}
-use Rattle.engine.specs.Lent.{InstantReady}
+use Rattle.instant.specs.Events.{putAt}
+use Rattle.instant.specs.Lent.{InstantReady}
 use Rattle.engine.specs.Running.{finishedOf}
 use Rattle.engine.specs.Laws.Aheads.{ahead-ready, ahead-is}
-use Rattle.engine.specs.Laws.Buffers.{put-none, put-append, length-put}
+use Rattle.instant.specs.Laws.Buffers.{put-none, put-append, length-put}
 use Rattle.engine.specs.declared.ahead.Ahead.{Ahead}
 use Rattle.engine.specs.declared.runs.Finished.{Finished}
 
@@ -42,7 +44,8 @@ pub source-values-ready : (p : Plan) (r : Running) → SoundRunning p r
     → NodesReady (p .lefts) (p .rights) (p .lows) (p .highs) (firstValues (p .n) (p .m) (r .q) (r .inputs)) (p .n + p .m) (p .k)
 source-values-ready p r ok =
     nodes-ready p (ok .plan) (firstValues (p .n) (p .m) (r .q) (r .inputs))
-    (first-sized p (r .q) (r .inputs) (ok .plan) (λ i h. ok .integrators i h .output) (λ j h. within-size M (int (r .inputs) j) .0 (ok .inputs j h)))
+    (first-sized p (r .q) (r .inputs) (ok .plan) (λ i h. ok .integrators i h .output)
+    (λ j h. within-size M (int (r .inputs) j) .0 (ok .inputs j h)))
 
 module _ (p : Plan) (engine : Engine) (budget : ℕ) (first : Running) (buffer₀ : List ℕ) where
   -- after `taken` instants: what is left of the run ends where the whole run ends, and its events go behind byte `end`
@@ -50,24 +53,26 @@ module _ (p : Plan) (engine : Engine) (budget : ℕ) (first : Running) (buffer�
     pub shaped : RunningShaped r
     pub sound : SoundRunning p r
     pub values-are : values ≡ valuesOf p (r .q) (r .inputs)
-    pub ahead-is-of : ahead ≡ aheadAt p r
-    pub few : taken ≤ budget
+    pub ahead-known : ahead ≡ aheadAt p r
     pub figures : after p engine (budget - taken) r ≡ after p engine budget first
     pub bytes : putAt buffer end (events p engine (budget - taken) r) ≡ putAt buffer₀ 0 (events p engine budget first)
     pub ends : end + length (events p engine (budget - taken) r) ≡ length (events p engine budget first)
     pub same-size : length buffer ≡ length buffer₀
     pub room : end + (budget - taken) * (p .n + p .m) * 12 ≤ length buffer
 
-  pub begun : {values : List ℤ} {ahead : Ahead} → RunningShaped first → SoundRunning p first → budget * (p .n + p .m) * 12 ≤ length buffer₀
-      → values ≡ valuesOf p (first .q) (first .inputs) → ahead ≡ aheadAt p first → Progress first values 0 0 ahead buffer₀
-  begun shaped ok room values-are ahead-is-of =
+  pub begun : {values : List ℤ} {ahead : Ahead} → RunningShaped first → SoundRunning p first
+      → budget * (p .n + p .m) * 12 ≤ length buffer₀
+      → values
+      ≡ each (nodeStep (p .kinds) (p .lefts) (p .rights) (p .lows) (p .highs) (p .n + p .m)) (λ _. true) (p .k)
+      (firstValues (p .n) (p .m) (first .q) (first .inputs))
+      → ahead ≡ aheadAt p first → Progress first values 0 0 ahead buffer₀
+  begun shaped ok room worked ahead-known =
       let all : budget - 0 ≡ budget = omega arith in
       record {
         shaped = shaped;
         sound = ok;
-        values-are = values-are;
-        ahead-is-of = ahead-is-of;
-        few = omega arith;
+        values-are = worked ∙ all-nodes p (first .q) (first .inputs) (ok .plan);
+        ahead-known = ahead-known;
         figures = rw all;
         bytes = rw all;
         ends = rw all (omega arith);
@@ -75,88 +80,93 @@ module _ (p : Plan) (engine : Engine) (budget : ℕ) (first : Running) (buffer�
         room = rw all (omega (arith, room));
       }
 
-module _ {p : Plan} {engine : Engine} {budget : ℕ} {first : Running} {buffer₀ : List ℕ} where
-  module _ {r : Running} {values : List ℤ} {end taken : ℕ} {ahead : Ahead} {buffer : List ℕ}
-      (now : Progress p engine budget first buffer₀ r values end taken ahead buffer) where
-    status-is : ahead .status ≡ statusOf p r
-    status-is = rw (now .ahead-is-of, ahead-is p r)
+module _ {p : Plan} {engine : Engine} {budget : ℕ} {first : Running} {buffer₀ : List ℕ} {r : Running}
+    {values : List ℤ} {end taken : ℕ} {ahead : Ahead} {buffer : List ℕ}
+    (now : Progress p engine budget first buffer₀ r values end taken ahead buffer) where
+  status-is : ahead .status ≡ statusOf p r
+  status-is = rw (now .ahead-known, ahead-is p r)
 
-    integrator-is : ahead .integrator ≡ integratorOf p r
-    integrator-is = rw (now .ahead-is-of, ahead-is p r)
+  integrator-is : ahead .integrator ≡ integratorOf p r
+  integrator-is = rw (now .ahead-known, ahead-is p r)
 
-    -- ---- one more instant
-    module _ (more : taken < budget) (status : ahead .status ≡ 0) where
-      paused : statusOf p r ≡ 0
-      paused = sym status-is ∙ status
+  -- ---- one more instant
+  module _ (more : taken < budget) (status : ahead .status ≡ 0) where
+    zero-status : statusOf p r ≡ 0
+    zero-status = sym status-is ∙ status
 
-      pub instant-ready : {ranges reach : List ℕ} → ranges ≡ rangesOf p → reach ≡ reachTable p
-          → InstantReady p r (ahead .tick) (ahead .due) ranges reach values end (length buffer)
-      instant-ready ranges-are reach-is =
-          let left : budget - taken ≡ budget - (taken + 1) + 1 = omega (arith, more) in
+    paused : isPaused p r ≡ true
+    paused = is-paused p r zero-status
+
+    left : budget - taken ≡ budget - (taken + 1) + 1
+    left = omega (arith, more)
+
+    pub instant-ready : {ranges reach : List ℕ} → ranges ≡ rangesOf p → reach ≡ reachTable p
+        → InstantReady p r (ahead .tick) (ahead .due) ranges reach values end (length buffer)
+    instant-ready ranges-are reach-is =
+        record {
+          shaped = now .shaped;
+          sound = now .sound;
+          paused = paused;
+          tick = rw (now .ahead-known, ahead-is p r);
+          due-set = rw (now .ahead-known, ahead-is p r);
+          ranges-are = ranges-are;
+          reach-is = reach-is;
+          values-are = now .values-are;
+          room = omega (arith, rw left at (now .room));
+        }
+
+    -- its events leave room for those of the instants after it
+    room-then : end + length (eventsOf p r) + (budget - (taken + 1)) * (p .n + p .m) * 12 ≤ length buffer
+    room-then = omega (arith, instant-bytes p r, rw left at (now .room))
+
+    module _ {r' : Running} (taken-is : r' ≡ instant p engine r) where
+      sound-then : SoundRunning p r'
+      sound-then = rw taken-is (instant-sound p r (now .sound) paused engine)
+
+      pub ahead-ready-then : AheadReady (p .n) (p .commands) (r' .next) (p .ticks) (r' .x) (r' .s) (r' .l) (r' .d)
+      ahead-ready-then = ahead-ready p r' sound-then
+
+      pub advanced : {values' : List ℤ} {end' : ℕ} {ahead' : Ahead} {buffer' : List ℕ} → values' ≡ valuesOf p (r' .q) (r' .inputs)
+          → buffer' ≡ putAt buffer end (eventsOf p r) → end' ≡ end + length (eventsOf p r) → ahead' ≡ aheadAt p r'
+          → Progress p engine budget first buffer₀ r' values' end' (taken + 1) ahead' buffer'
+      advanced values-are buffer-is end-is ahead-known =
+          let next = run-taken p engine (budget - (taken + 1)) r zero-status in
+          let rest = events p engine (budget - (taken + 1)) (instant p engine r) in
+          let same-length = length-put buffer end (eventsOf p r) (omega (arith, room-then)) in
           record {
-            shaped = now .shaped;
-            sound = now .sound;
-            paused = is-paused p r paused;
-            tick = rw (now .ahead-is-of, ahead-is p r);
-            due-set = rw (now .ahead-is-of, ahead-is p r);
-            ranges-are = ranges-are;
-            reach-is = reach-is;
-            values-are = now .values-are;
-            room = omega (arith, rw left at (now .room));
+            shaped = rw taken-is (instant-shaped p engine r);
+            sound = sound-then;
+            values-are = values-are;
+            ahead-known = ahead-known;
+            figures = rw (taken-is, ← next .0, ← left) (now .figures);
+            bytes =
+                rw (buffer-is, end-is, taken-is, put-append buffer end (eventsOf p r) (omega (arith, room-then)) rest, ← next .1, ← left)
+                (now .bytes);
+            ends = rw (end-is, taken-is) (omega (arith, length-append (eventsOf p r) rest, ap length (next .1), rw left at (now .ends)));
+            same-size = rw buffer-is (same-length ∙ now .same-size);
+            room = rw (buffer-is, end-is) (omega (arith, room-then));
           }
 
-      module _ {r' : Running} (taken-is : r' ≡ instant p engine r) where
-        sound-then : SoundRunning p r'
-        sound-then = rw taken-is (instant-sound p r (now .sound) (is-paused p r paused) engine)
+  -- ---- the end
+  -- what the code answers and leaves in the buffer, where nothing is left of the run
+  abbrev Done : Type 0
+  Done =
+      _≡_ {A = Finished} (record { status = ahead .status; integrator = ahead .integrator; written = end; run = r })
+      (finishedOf p engine budget first)
+      × (buffer ≡ putAt buffer₀ 0 (events p engine budget first))
 
-        pub ahead-ready-then : AheadReady (p .n) (p .commands) (r' .next) (p .ticks) (r' .x) (r' .s) (r' .l) (r' .d)
-        ahead-ready-then = ahead-ready p r' sound-then
+  done : (after p engine (budget - taken) r ≡ r) × (events p engine (budget - taken) r ≡ []) → Done
+  unfolding finishedOf
+  done none =
+      let here : r ≡ after p engine budget first = sym (none .0) ∙ now .figures in
+      let written : end ≡ length (events p engine budget first) = omega (arith, now .ends, ap length (none .1)) in
+      (rw (status-is, integrator-is, written, ← here), sym (put-none buffer end) ∙ rw (none .1) at (now .bytes))
 
-        pub advanced : {values' : List ℤ} {end' : ℕ} {ahead' : Ahead} {buffer' : List ℕ} → values' ≡ valuesOf p (r' .q) (r' .inputs)
-            → buffer' ≡ putAt buffer end (eventsOf p r) → end' ≡ end + length (eventsOf p r) → ahead' ≡ aheadAt p r'
-            → Progress p engine budget first buffer₀ r' values' end' (taken + 1) ahead' buffer'
-        advanced values-are buffer-is end-is ahead-is-of =
-            let left : budget - taken ≡ budget - (taken + 1) + 1 = omega (arith, more) in
-            let next = run-taken p engine (budget - (taken + 1)) r paused in
-            let rest = events p engine (budget - (taken + 1)) (instant p engine r) in
-            let space = instant-bytes p r in
-            let room-then : end + length (eventsOf p r) + (budget - (taken + 1)) * (p .n + p .m) * 12 ≤ length buffer =
-            omega (arith, rw left at (now .room)) in
-            let fits : end + length (eventsOf p r) ≤ length buffer = omega arith in
-            let long = length-put buffer end (eventsOf p r) fits in
-            record {
-              shaped = rw taken-is (instant-shaped p engine r);
-              sound = sound-then;
-              values-are = values-are;
-              ahead-is-of = ahead-is-of;
-              few = omega (arith, more);
-              figures = rw (taken-is, ← next .0, ← left) (now .figures);
-              bytes =
-                  rw (buffer-is, end-is, taken-is, put-append buffer end (eventsOf p r) (omega arith) rest, ← next .1, ← left) (now .bytes);
-              ends = rw (end-is, taken-is) (omega (arith, length-append (eventsOf p r) rest, ap length (next .1), rw left at (now .ends)));
-              same-size = rw buffer-is (long ∙ now .same-size);
-              room = rw (buffer-is, end-is) (omega arith);
-            }
+  -- by the status
+  pub stopped : (ahead .status ≡ 0 → ⊥) → Done
+  stopped h = done (run-stopped p engine (budget - taken) r (λ e. h (status-is ∙ e)))
 
-    -- ---- the end
-    -- what the code answers and leaves in the buffer, where nothing is left of the run
-    abbrev Done : Type 0
-    Done =
-        _≡_ {A = Finished} (record { status = ahead .status; integrator = ahead .integrator; written = end; run = r }) (finishedOf p engine budget first)
-        × (buffer ≡ putAt buffer₀ 0 (events p engine budget first))
-
-    done : (after p engine (budget - taken) r ≡ r) × (events p engine (budget - taken) r ≡ []) → Done
-    unfolding finishedOf
-    done none =
-        let here : r ≡ after p engine budget first = sym (none .0) ∙ now .figures in
-        let written : end ≡ length (events p engine budget first) = omega (arith, now .ends, ap length (none .1)) in
-        (rw (status-is, integrator-is, written, ← here), sym (put-none buffer end) ∙ rw (none .1) at (now .bytes))
-
-    -- by the status
-    pub stopped : (ahead .status ≡ 0 → ⊥) → Done
-    stopped h = done (run-stopped p engine (budget - taken) r (λ e. h (status-is ∙ e)))
-
-    -- by the budget
-    pub spent : budget ≤ taken → Done
-    unfolding after events
-    spent h = let none : budget - taken ≡ 0 = omega (arith, h) in done (rw none (refl, refl))
+  -- by the budget
+  pub spent : budget ≤ taken → Done
+  unfolding after events
+  spent h = let none : budget - taken ≡ 0 = omega (arith, h) in done (rw none (refl, refl))

@@ -1,34 +1,28 @@
 -- The loop keeps `Progress`: what is left of the run ends where the whole run ends.
-use mathlib.Core.Path.{_≡_, sym, _∙_}
-use mathlib.Core.List.{List}
-use Prim.Native.Nat.{ℕ, _-_}
+use mathlib.Core.Path.{_≡_}
+use Prim.Native.Nat.{_-_, _<_}
 use native.Mathlib.Omega.{arith}
-use lib.ListN.{length}
 use borrow.Author.Needs.{needs}
 use borrow.Author.Tests.{eqb-true, eqb-false}
-use Rattle.plan.specs.Rules.{PlanRules}
 use Rattle.plan.specs.Laws.Counts.{Counts, counts-of}
 use Rattle.plan.specs.declared.Plan.{Plan}
 use Rattle.machine.specs.Sound.{SoundRunning, RunningShaped}
 use Rattle.machine.specs.declared.Running.{Running}
 use Rattle.dynamics.specs.Links.{rangesOf}
-use Rattle.dynamics.specs.Laws.SourceValues.{all-nodes}
 use Rattle.reach.specs.Table.{reachTable}
 use Rattle.reach.specs.Laws.Reached.{table-wired, table-linked}
-use Rattle.engine.specs.Lent.{runningOf}
+use Rattle.instant.specs.Lent.{runningOf}
 use Rattle.engine.specs.Laws.Aheads.{ahead-ready}
-use Rattle.engine.specs.Laws.Running.{Progress}
 use Rattle.engine.specs.Laws.Running as law
 use Rattle.engine.proofs.runs.run.Statement.{statement}
 use Rattle.engine.proofs.runs.run.Tie as tie
 
 abbrev Inv-loop : tie.InvT-loop
-Inv-loop engine budget buf₀ st counts ranges reach values₀ x₀ q₀ s₀ l₀ d₀ inputs₀ clocks₀ end₀ taken₀ ahead₀ buf values x q s l d inputs clocks end taken ahead =
-    Progress (st .plan) engine budget (st .run) buf₀ (runningOf x q s l d inputs clocks) values end taken ahead buf
+Inv-loop engine budget buf₀ st _ _ _ _ _ _ _ _ _ _ _ _ _ _ buf values x q s l d inputs clocks end taken ahead =
+    law.Progress (st .plan) engine budget (st .run) buf₀ (runningOf x q s l d inputs clocks) values end taken ahead buf
 
 abbrev μ-loop : tie.MeasureT-loop
-μ-loop engine budget buf₀ st counts ranges reach values₀ x₀ q₀ s₀ l₀ d₀ inputs₀ clocks₀ end₀ taken₀ ahead₀ buf values x q s l d inputs clocks end taken ahead =
-    budget - taken
+μ-loop _ budget _ _ _ _ _ _ _ _ _ _ _ _ _ _ _ _ _ _ _ _ _ _ _ _ _ _ taken _ = budget - taken
 
 module _ (c : tie.Start Inv-loop μ-loop) where
   abbrev p : Plan
@@ -46,78 +40,101 @@ module _ (c : tie.Start Inv-loop μ-loop) where
   shaped : RunningShaped r
   shaped = record { x = search needs; q = search needs; s = search needs; l = search needs; d = search needs; inputs = search needs }
 
--- src/runs.rt:41:18
+-- ---- the places that are asked for
+abbrev before-reach : tie.After-reach-table Inv-loop μ-loop → tie.Start Inv-loop μ-loop
+before-reach c = c .before .before .before .before .before .before .before .before .before .before .before .before .before
+
+abbrev before-values : tie.After-source-values Inv-loop μ-loop → tie.Start Inv-loop μ-loop
+before-values c = before-reach (c .before .before .before .before .before .before .before .before .before)
+
+-- a turn of the loop, from the call of `take_instant` in it
+abbrev turn : tie.After-take-instant-arg15 Inv-loop μ-loop → tie.Then1 Inv-loop μ-loop
+turn c =
+    c .before .before .before .before .before .before .before .before .before .before .before .before
+    .before .before .before .before .before .before .before .before .before .before .before .before .before
+
+module _ (c : tie.Then1 Inv-loop μ-loop) where
+  abbrev loop : tie.At-loop Inv-loop μ-loop
+  loop = c .before .before .before
+
+  abbrev values : tie.After-source-values Inv-loop μ-loop
+  values = loop .before .before .before .before .before .before .before .before .before .before .before .before .before .before
+
+  more : loop .loop .taken < before-values values .args .budget
+  more = c .before .before .loop-test .taken
+
+  paused : loop .loop .ahead .status ≡ 0
+  paused = eqb-true (loop .loop .ahead .status) 0 (c .if1 .taken)
+
+-- ---- before the loop
 link-ranges-requires : tie.Need-link-ranges-requires Inv-loop μ-loop
-link-ranges-requires c κs = let start = c .before .before .before .before in (limits start .n, limits start .links)
+link-ranges-requires c κs = let s = c .before .before .before .before in (limits s .n, limits s .links)
 
--- src/runs.rt:43:9
 add-reach-table : tie.Need-add-reach-table Inv-loop μ-loop
-add-reach-table c = let start = c .before .before .before .before .before .before in omega (arith, limits start .n, limits start .m)
+add-reach-table c = let s = c .before .before .before .before .before .before in omega (arith, limits s .n, limits s .m)
 
--- src/runs.rt:42:17
 reach-table-requires : tie.Need-reach-table-requires Inv-loop μ-loop
 reach-table-requires c κs =
-    let start = c .before .before .before .before .before .before .before .before .before .before .before .before in
-    (limits start .k, table-wired (p start) (sound start .plan), table-linked (p start) (sound start .plan))
+    let s = c .before .before .before .before .before .before .before .before .before .before .before .before in
+    (limits s .k, table-wired (p s) (sound s .plan), table-linked (p s) (sound s .plan))
 
--- src/runs.rt:52:22
 source-values-requires : tie.Need-source-values-requires Inv-loop μ-loop
 source-values-requires c κs =
-    let start = c .before .before .before .before .before .before .before .before .before .before .before .before .before .before .before .before .before .before .before .before .before in
-    (limits start .n, limits start .m, law.source-values-ready (p start) (r start) (sound start))
+    let s = before-reach (c .before .before .before .before .before .before .before .before) in
+    (limits s .n, limits s .m, law.source-values-ready (p s) (r s) (sound s))
 
--- src/runs.rt:78:9
 look-ahead-requires : tie.Need-look-ahead-requires Inv-loop μ-loop
-look-ahead-requires c κs = let start = c .before .before .before .before .before .before .before .before .before .before .before .before .before .before .before .before .before .before .before .before .before .before .before .before .before .before .before .before .before .before .before .before .before .before in ahead-ready (p start) (r start) (sound start)
+look-ahead-requires c κs =
+    let s = before-values (c .before .before .before .before .before .before .before .before .before .before .before .before) in
+    ahead-ready (p s) (r s) (sound s)
 
--- src/runs.rt:79:5
 loop-holds : tie.Need-loop-holds Inv-loop μ-loop
 loop-holds c =
-    let start = c .before .before .before .before .before .before .before .before .before .before .before .before .before .before .before .before .before .before .before .before .before .before .before .before .before .before .before .before .before .before .before .before .before .before .before in
-    law.begun (p start) (start .args .engine) (start .args .budget) (r start) (start .args .buf .now) (shaped start) (sound start) (start .pre .room)
-    (c .before .before .before .before .before .before .before .before .before .before .before .before .before .source-values .ensures ∙ all-nodes (p start) (r start .q) (r start .inputs) (sound start .plan)) (c .look-ahead .ensures)
+    let values = c .before .before .before .before .before .before .before .before .before .before .before .before .before in
+    let s = before-values values in
+    law.begun (p s) (s .args .engine) (s .args .budget) (r s) (s .args .buf .now) (shaped s) (sound s) (s .pre .room)
+    (values .source-values .ensures) (c .look-ahead .ensures)
 
--- src/runs.rt:80:13
+-- ---- a turn
 take-instant-requires : tie.Need-take-instant-requires Inv-loop μ-loop
 unfolding rangesOf reachTable
 take-instant-requires c κs =
-    let loop = c .before .before .before .before .before .before .before .before .before .before .before .before .before .before .before .before .before .before .before .before .before .before .before .before .before .before .before .before .loop in
-    law.instant-ready (loop .inv) (c .before .before .before .before .before .before .before .before .before .before .before .before .before .before .before .before .before .before .before .before .before .before .before .before .before .before .before .loop-test .taken) (eqb-true (loop .ahead .status) 0 (c .before .before .before .before .before .before .before .before .before .before .before .before .before .before .before .before .before .before .before .before .before .before .before .before .before .if1 .taken)) (c .before .before .before .before .before .before .before .before .before .before .before .before .before .before .before .before .before .before .before .before .before .before .before .before .before .before .before .before .before .before .before .before .before .before .before .before .before .before .before .before .before .before .before .before .before .before .before .before .before .before .before .before .before .before .before .before .before .before .before .link-ranges .ensures) (c .before .before .before .before .before .before .before .before .before .before .before .before .before .before .before .before .before .before .before .before .before .before .before .before .before .before .before .before .before .before .before .before .before .before .before .before .before .before .before .before .before .before .before .before .before .before .before .before .before .before .before .reach-table .ensures)
+    let t = turn c in
+    let reach = values t .before .before .before .before .before .before .before .before .before in
+    let ranges = reach .before .before .before .before .before .before .before .before in
+    law.instant-ready (loop t .loop .inv) (more t) (paused t) (ranges .link-ranges .ensures) (reach .reach-table .ensures)
 
--- src/runs.rt:114:9
 look-ahead-requires-2 : tie.Need-look-ahead-requires-2 Inv-loop μ-loop
 look-ahead-requires-2 c κs =
-    let loop = c .before .before .before .before .before .before .before .before .before .before .before .before .before .before .before .before .before .before .before .before .before .before .before .before .before .before .before .before .before .before .before .before .before .before .before .before .before .before .loop in
-    law.ahead-ready-then (loop .inv) (c .before .before .before .before .before .before .before .before .before .before .before .before .before .before .before .before .before .before .before .before .before .before .before .before .before .before .before .before .before .before .before .before .before .before .before .before .before .loop-test .taken) (eqb-true (loop .ahead .status) 0 (c .before .before .before .before .before .before .before .before .before .before .before .before .before .before .before .before .before .before .before .before .before .before .before .before .before .before .before .before .before .before .before .before .before .before .before .if1 .taken)) (c .before .before .before .before .before .before .before .before .before .take-instant .ensures .0)
+    let step = c .before .before .before .before .before .before .before .before .before in
+    let t = turn (step .before) in
+    law.ahead-ready-then (loop t .loop .inv) (more t) (paused t) (step .take-instant .ensures .0)
 
--- src/runs.rt:115:9
 add-taken : tie.Need-add-taken Inv-loop μ-loop
-add-taken c = omega (arith, c .before .before .before .before .before .before .before .before .before .before .before .before .before .before .before .before .before .before .before .before .before .before .before .before .before .before .before .before .before .before .before .before .before .before .before .before .before .before .loop-test .taken, c .before .before .before .before .before .before .before .before .before .before .before .before .before .before .before .before .before .before .before .before .before .before .before .before .before .before .before .before .before .before .before .before .before .before .before .before .before .before .before .before .before .before .before .before .before .before .before .before .before .before .before .before .before .before .before .before .before .before .before .before .before .before .before .before .before .before .before .before .before .before .before .before .before .before .before .fits .budget)
+add-taken c =
+    let t = turn (c .before .before .before .before .before .before .before .before .before .before .before) in
+    omega (arith, more t, before-values (values t) .fits .budget)
 
--- src/runs.rt:79:5
 loop-less : tie.Need-loop-less Inv-loop μ-loop
-loop-less c = omega (arith, c .before .before .before .before .before .before .before .before .before .before .before .before .before .before .before .before .before .before .before .before .before .before .before .before .before .before .before .before .before .before .before .before .before .before .before .before .before .before .loop-test .taken)
+loop-less c = omega (arith, more (turn (c .before .before .before .before .before .before .before .before .before .before .before)))
 
--- src/runs.rt:79:5
 loop-again : tie.Need-loop-again Inv-loop μ-loop
 loop-again c =
-    let loop = c .before .before .before .before .before .before .before .before .before .before .before .before .before .before .before .before .before .before .before .before .before .before .before .before .before .before .before .before .before .before .before .before .before .before .before .before .before .before .before .loop in
-    let step = c .before .before .before .before .before .before .before .before .before .before .take-instant .ensures in
-    law.advanced (loop .inv) (c .before .before .before .before .before .before .before .before .before .before .before .before .before .before .before .before .before .before .before .before .before .before .before .before .before .before .before .before .before .before .before .before .before .before .before .before .before .before .loop-test .taken) (eqb-true (loop .ahead .status) 0 (c .before .before .before .before .before .before .before .before .before .before .before .before .before .before .before .before .before .before .before .before .before .before .before .before .before .before .before .before .before .before .before .before .before .before .before .before .if1 .taken)) (step .0) (step .1 .0) (step .1 .1 .0) (step .1 .1 .1) (c .look-ahead2 .ensures)
+    let step = c .before .before .before .before .before .before .before .before .before .before in
+    let t = turn (step .before) in
+    let done = step .take-instant .ensures in
+    law.advanced (loop t .loop .inv) (more t) (paused t) (done .0) (done .1 .0) (done .1 .1 .0) (done .1 .1 .1) (c .look-ahead2 .ensures)
 
--- src/runs.rt:27:1
+-- ---- the end, by the status or by the budget
 same-length : tie.Need-same-length Inv-loop μ-loop
 same-length c = c .before .before .before .loop .inv .same-size
 
--- src/runs.rt:27:1
 returns : tie.Need-returns Inv-loop μ-loop
 returns c = let loop = c .before .before .before .loop in law.stopped (loop .inv) (eqb-false (loop .ahead .status) 0 (c .if1 .left))
 
--- src/runs.rt:27:1
 same-length-2 : tie.Need-same-length-2 Inv-loop μ-loop
 same-length-2 c = c .before .loop .inv .same-size
 
--- src/runs.rt:27:1
 returns-2 : tie.Need-returns-2 Inv-loop μ-loop
 returns-2 c = law.spent (c .before .loop .inv) (c .loop-test .left)
 

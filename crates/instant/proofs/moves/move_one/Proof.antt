@@ -1,0 +1,152 @@
+-- `engine::move_one` meets its contract: each answer fits, so the bits of the locals read as the integers. Assumes nothing.
+use borrow.Author.Needs.{needs, sfits-of}
+use mathlib.Core.Path.{_≡_, _∙_}
+use mir.Syntax.{w64}
+use mir.Val.{SFits}
+use mir.Facts.{toZ-ofZ}
+use Rattle.integers.specs.Signed64.{rd}
+use Rattle.plan.specs.Lists.{int}
+use Rattle.instant.specs.Motion.{moving, placeOf, slopeOf}
+use Rattle.instant.specs.Laws.Moving.{move-stores}
+use Rattle.instant.proofs.moves.move_one.Statement.{statement}
+use Rattle.instant.proofs.moves.move_one.Tie as tie
+
+-- where the integrator is at t, and its new slope
+place : (c : tie.After-position) → let a = c .before .before .before .before .args in
+    rd (c .position .result)
+    ≡ placeOf (a .t) (a .ranges .now) (a .sources .now) (a .coefficients .now) (a .quanta .now) (a .values .now) (a .i)
+    (moving (a .x .now) (a .s .now) (a .l .now) (a .d .now))
+unfolding placeOf
+place c =
+    let a = c .before .before .before .before .args in
+    let x : SFits w64 (int (a .x .now) (a .i)) = sfits-of (c .before .before .before .position-arg .given) in
+    let s : SFits w64 (int (a .s .now) (a .i)) = sfits-of (c .before .before .position-arg2 .given) in
+    toZ-ofZ (sfits-of (c .position .ok)) ∙ (rw (toZ-ofZ x, toZ-ofZ s) at (c .position .ensures))
+
+slope : (c : tie.After-rate) → let a = c .before .before .before .before .before .before .before .args in
+    rd (c .rate .result) ≡ slopeOf (a .t) (a .ranges .now) (a .sources .now) (a .coefficients .now) (a .quanta .now) (a .values .now) (a .i)
+unfolding slopeOf
+slope c = toZ-ofZ (sfits-of (c .rate .ok)) ∙ c .rate .ensures
+
+mul-position : tie.Need-mul-position
+mul-position c = search needs
+
+element-copy-out-position : tie.Need-element-copy-out-position
+element-copy-out-position c = search needs
+
+mul-position-2 : tie.Need-mul-position-2
+mul-position-2 c = search needs
+
+element-copy-out-position-2 : tie.Need-element-copy-out-position-2
+element-copy-out-position-2 c = search needs
+
+mul-position-3 : tie.Need-mul-position-3
+mul-position-3 c = search needs
+
+element-copy-out-position-3 : tie.Need-element-copy-out-position-3
+element-copy-out-position-3 c = search needs
+
+position-requires : tie.Need-position-requires
+position-requires c κs = search needs
+
+mul-rate : tie.Need-mul-rate
+mul-rate c = search needs
+
+element-copy-out-rate : tie.Need-element-copy-out-rate
+element-copy-out-rate c = search needs
+
+add-rate : tie.Need-add-rate
+add-rate c = search needs
+
+mul-rate-2 : tie.Need-mul-rate-2
+mul-rate-2 c = search needs
+
+element-copy-out-rate-2 : tie.Need-element-copy-out-rate-2
+element-copy-out-rate-2 c = search needs
+
+rate-requires : tie.Need-rate-requires
+rate-requires c κs = search needs
+
+mul-place : tie.Need-mul-place
+mul-place c = search needs
+
+element-set-from-place : tie.Need-element-set-from-place
+element-set-from-place c = search needs
+
+mul-slope : tie.Need-mul-slope
+mul-slope c = search needs
+
+element-set-from-slope : tie.Need-element-set-from-slope
+element-set-from-slope c = search needs
+
+mul-l : tie.Need-mul-l
+mul-l c = search needs
+
+element-write-l : tie.Need-element-write-l
+element-write-l c = search needs
+
+mul-due-tick : tie.Need-mul-due-tick
+mul-due-tick c = search needs
+
+element-copy-out-due-tick : tie.Need-element-copy-out-due-tick
+element-copy-out-due-tick c = search needs
+
+mul-due-tick-2 : tie.Need-mul-due-tick-2
+mul-due-tick-2 c = search needs
+
+element-copy-out-due-tick-2 : tie.Need-element-copy-out-due-tick-2
+element-copy-out-due-tick-2 c = search needs
+
+due-tick-requires : tie.Need-due-tick-requires
+due-tick-requires c κs =
+    let r = c .before .before in let p = r .before .before .before in let s = p .before .before .before .before in let a = s .args in
+    let output : SFits w64 (int (a .values .now) (a .i)) = sfits-of (c .before .due-tick-arg .given) in
+    let quantum : SFits w64 (int (a .quanta .now) (a .i)) = sfits-of (c .due-tick-arg2 .given) in
+    rw (place p, slope r, toZ-ofZ output, toZ-ofZ quantum) (s .pre .due)
+
+mul-d : tie.Need-mul-d
+mul-d c = search needs
+
+element-write-d : tie.Need-element-write-d
+element-write-d c = search needs
+
+returns : tie.Need-returns
+returns c =
+    let r = c .before .before .before in let p = r .before .before .before in let a = p .before .before .before .before .args in
+    let output : SFits w64 (int (a .values .now) (a .i)) = sfits-of (c .before .before .due-tick-arg .given) in
+    let quantum : SFits w64 (int (a .quanta .now) (a .i)) = sfits-of (c .before .due-tick-arg2 .given) in
+    move-stores (a .t) (a .ranges .now) (a .sources .now) (a .coefficients .now) (a .quanta .now) (a .values .now) (a .i)
+    (moving (a .x .now) (a .s .now) (a .l .now) (a .d .now)) (place p) (slope r)
+    (rw (toZ-ofZ output, toZ-ofZ quantum) at (c .due-tick .ensures))
+
+pub move-one-spec : {M : Type 1} → statement M
+move-one-spec =
+    tie.close
+    (tie.spec
+    mul-position
+    element-copy-out-position
+    mul-position-2
+    element-copy-out-position-2
+    mul-position-3
+    element-copy-out-position-3
+    position-requires
+    mul-rate
+    element-copy-out-rate
+    add-rate
+    mul-rate-2
+    element-copy-out-rate-2
+    rate-requires
+    mul-place
+    element-set-from-place
+    mul-slope
+    element-set-from-slope
+    mul-l
+    element-write-l
+    mul-due-tick
+    element-copy-out-due-tick
+    mul-due-tick-2
+    element-copy-out-due-tick-2
+    due-tick-requires
+    mul-d
+    element-write-d
+    returns)

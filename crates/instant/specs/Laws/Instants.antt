@@ -1,0 +1,263 @@
+-- One instant as the code takes it, step by step, is the machine's. Assumes nothing.
+use mathlib.Core.Path.{_≡_, refl, sym, ap, _∙_}
+use mathlib.Core.Bool.{Bool, true, false, _||_}
+use mathlib.Core.List.{List}
+use Prim.Native.Nat.{ℕ, zero, suc, _+_, _-_, _*_, _/_, _%_, _^_, _≤_, _<_}
+use native.Mathlib.Omega.{arith}
+use lib.IntN.{ℤ, pos}
+use lib.Dec.{ltb}
+use lib.ListN.{length}
+use borrow.Author.Tests.{ltb-true, ltb-false}
+use Rattle.integers.specs.Parts.{∣_∣}
+use Rattle.bitset.specs.Mask.{has, maskOf, countOf, each, joinedOf}
+use Rattle.bitset.specs.Bits.{maskOf-lt, maskOf-or}
+use Rattle.bitset.specs.Counts.{countOf-mask, countOf-le}
+use Rattle.plan.specs.Format.{M}
+use Rattle.plan.specs.Lists.{nat, int}
+use Rattle.plan.specs.Rules.{PlanRules}
+use Rattle.plan.specs.Laws.Counts.{Counts, counts-of}
+use Rattle.plan.specs.Laws.Means.{within-size}
+use Rattle.plan.specs.declared.Plan.{Plan}
+use Rattle.machine.specs.Values.{valueWith, valueOf}
+use Rattle.machine.specs.Next.{nextCommand}
+use Rattle.machine.specs.Reach.{isDue, isCommanded, changes, dependsWith, reached}
+use Rattle.machine.specs.Instant.{settings, outputs, moves, takenAt, tickOf, instant, eventsOf}
+use Rattle.machine.specs.Sound.{RunningShaped}
+use Rattle.machine.specs.Laws.Next.{tick-command}
+use Rattle.machine.specs.Laws.Inputs.{output-value, input-value}
+use Rattle.machine.specs.Laws.Values.{integrator-value, setting-value}
+use Rattle.machine.specs.Laws.Taken.{output-kept}
+use Rattle.machine.specs.Laws.Frame.{setting-kept}
+use Rattle.machine.specs.Laws.Soundness.{Takes, takes-next, output-size, setting-size}
+use Rattle.machine.specs.declared.Running.{Running}
+use Rattle.machine.specs.declared.Engine.{Engine}
+use Rattle.machine.specs.declared.Engine.the-variants.{Lazy, Eager}
+use Rattle.dynamics.specs.Links.{rangesOf}
+use Rattle.dynamics.specs.Sources.{valuesOf, nodeStep, NodesReady}
+use Rattle.dynamics.specs.Standing.{DueReach}
+use Rattle.dynamics.specs.Laws.SourceValues.{nodes-ready, values-length, values-at, values-sized}
+use Rattle.dynamics.specs.Laws.Standings.{due-reach}
+use Rattle.dynamics.specs.Laws.Touched as touched
+use Rattle.reach.specs.Table.{heardBy}
+use Rattle.reach.specs.Laws.Reached as reaching
+use Rattle.instant.specs.Commands.{obeying, obeyFrom, CommandsReady}
+use Rattle.instant.specs.Outputs.{outputting, outputOne}
+use Rattle.instant.specs.Events.{eventsIn, EventsReady}
+use Rattle.instant.specs.Motion.{moving, moveOne, AllMovable}
+use Rattle.instant.specs.Lent.{movedSet, InstantReady}
+use Rattle.instant.specs.Laws.Settings.{Obeyed, obeyed, outputs-kept, nodes-kept, commands-ready}
+use Rattle.instant.specs.Laws.Outputs.{outputs-are, values-full, values-kept, values-are}
+use Rattle.instant.specs.Laws.EventBytes.{events-are, events-ready}
+use Rattle.instant.specs.Laws.Moves.{all-movable, moved-figures}
+
+-- below n an integrator, from n on an input: what holds of both kinds of source holds of all
+source-cases : (n m i : ℕ) (P : ℕ → Type 0) → i < n + m → ((k : ℕ) → k < n → P k) → ((j : ℕ) → j < m → P (n + j)) → P i
+source-cases n m i P h f g = go (ltb i n) refl
+  where
+    go : (b : Bool) → ltb i n ≡ b → P i
+    go true e = f i (ltb-true i n e)
+    go false e = let l = ltb-false i n e in let same : n + (i - n) ≡ i = omega arith in rw same at (g (i - n) (omega arith))
+
+module _ (p : Plan) (r : Running) {t due : ℕ} {ranges reach : List ℕ} {values : List ℤ} {at size : ℕ}
+    (ready : InstantReady p r t due ranges reach values at size) where
+  shaped : RunningShaped r
+  shaped = ready .shaped
+
+  rules : PlanRules p
+  rules = ready .sound .plan
+
+  pub limits : Counts p
+  limits = counts-of p (rules .counts)
+
+  takes : Takes p r t
+  takes = rw (ready .tick) (takes-next p r (ready .sound) (ready .paused))
+
+  abbrev q : List ℤ
+  q = outputs p r t
+
+  abbrev u : List ℤ
+  u = settings p (r .inputs) t
+
+  -- ---- before
+  pub due-below : due < 2 ^ p .n
+  due-below = rw (ready .due-set) (maskOf-lt (isDue (r .d) t) (p .n))
+
+  full : length values ≡ 64
+  full = rw (ready .values-are) (values-length p (r .q) (r .inputs))
+
+  old-at : (i : ℕ) → i < p .n + p .m + p .k → int values i ≡ valueOf p (r .q) (r .inputs) i
+  old-at i h = rw (ready .values-are) (values-at p (r .q) (r .inputs) rules i h)
+
+  old-output : (i : ℕ) → i < p .n → int values i ≡ int (r .q) i
+  old-output i h = old-at i (omega arith) ∙ integrator-value p (r .q) (r .inputs) i h
+
+  old-input : (j : ℕ) → j < p .m → int values (p .n + j) ≡ int (r .inputs) j
+  old-input j h = old-at (p .n + j) (omega arith) ∙ setting-value p (r .q) (r .inputs) j h
+
+  old-sized : (i : ℕ) → ∣ int values i ∣ ≤ M
+  old-sized =
+      rw (ready .values-are)
+      (values-sized p (r .q) (r .inputs) rules (λ i h. ready .sound .integrators i h .output)
+      (λ j h. within-size M (int (r .inputs) j) .0 (ready .sound .inputs j h)))
+
+  -- ---- 1. and 2.
+  pub outputs-ready : DueReach due t (r .x) (r .s) (r .l)
+  outputs-ready = due-reach p r (ready .sound) (ready .tick) (ready .due-set)
+
+  pub obeying-ready : CommandsReady (r .next) (p .commands) (p .n) (p .numbers)
+  obeying-ready = commands-ready p rules (r .next) (r .clock) (ready .sound .next)
+
+  module _ {q1 v1 : List ℤ} (output : outputting q1 v1 ≡ each (outputOne t (r .x) (r .s) (r .l)) (has due) 32 (outputting (r .q) values))
+      {u1 v2 : List ℤ} {commanded next : ℕ}
+      (command : obeying u1 v2 commanded next
+      ≡ obeyFrom t (p .n) (p .ticks) (p .numbers) (p .values) (r .next) (p .commands - r .next) (obeying (r .inputs) v1 0 (r .next))) where
+    pub outputs-then : q1 ≡ q
+    outputs-then = outputs-are p r (ready .sound) shaped t due (ready .due-set) values full (outputting q1 v1) output
+
+    full-then : length v1 ≡ 64
+    full-then = values-full p r (ready .sound) shaped t due (ready .due-set) values full (outputting q1 v1) output
+
+    done : Obeyed p (r .inputs) v1 t (obeying u1 v2 commanded next)
+    done =
+        obeyed p rules (r .inputs) v1 (r .clock) t (r .next)
+        (record {
+          inputs-width = shaped .inputs;
+          inputs-unused = ready .sound .running-unused .inputs;
+          values-width = full-then;
+          next-is = ready .sound .next;
+          later = takes .after;
+          ahead = λ h. rw (ready .tick) (tick-command p r h);
+        })
+        command
+
+    pub inputs-then : u1 ≡ u
+    inputs-then = done .inputs-are
+
+    pub next-then : next ≡ nextCommand p t
+    next-then = done .next-is
+
+    -- what `values` holds now
+    output-at : (i : ℕ) → i < p .n → int v2 i ≡ int q i
+    output-at i h =
+        outputs-kept done i h
+        ∙ values-are p r (ready .sound) shaped t due (ready .due-set) values full (outputting q1 v1) output old-output i h
+
+    kept-at : (i : ℕ) → p .n ≤ i → int v1 i ≡ int values i
+    kept-at = values-kept p r (ready .sound) shaped t due (ready .due-set) values full (outputting q1 v1) output
+
+    input-at : (j : ℕ) → j < p .m → int v2 (p .n + j) ≡ int u j
+    input-at = done .sources (λ j h. kept-at (p .n + j) (omega arith) ∙ old-input j h)
+
+    node-at : (i : ℕ) → p .n + p .m ≤ i → int v2 i ≡ int values i
+    node-at i h = nodes-kept done i h ∙ kept-at i (omega arith)
+
+    source-at : (i : ℕ) → i < p .n + p .m → int v2 i ≡ valueWith p q u zero i
+    source-at i h =
+        source-cases (p .n) (p .m) i (λ k. int v2 k ≡ valueWith p q u zero k) h
+        (λ k l. output-at k l ∙ sym (output-value p q u k l)) (λ j l. input-at j l ∙ sym (input-value p q u j l))
+
+    sized : (i : ℕ) → ∣ int v2 i ∣ ≤ M
+    sized i = go (ltb i (p .n + p .m)) refl
+      where
+        go : (b : Bool) → ltb i (p .n + p .m) ≡ b → ∣ int v2 i ∣ ≤ M
+        go true e =
+            source-cases (p .n) (p .m) i (λ k. ∣ int v2 k ∣ ≤ M) (ltb-true i (p .n + p .m) e)
+            (λ k l. rw (output-at k l) (output-size p r (ready .sound) t takes k l))
+            (λ j l. rw (input-at j l) (setting-size p r (ready .sound) t takes j l))
+        go false e = rw (node-at i (ltb-false i (p .n + p .m) e)) (old-sized i)
+
+    pub nodes-ready-then : NodesReady (p .lefts) (p .rights) (p .lows) (p .highs) v2 (p .n + p .m) (p .k)
+    nodes-ready-then = nodes-ready p rules v2 sized
+
+    -- ---- 3. and 4.
+    module _ {changed nodes reached-set : ℕ} (changed-is : changed ≡ joinedOf due commanded (p .n))
+        (reached-is : reached-set ≡ heardBy reach changed % 2 ^ 32) (nodes-is : nodes ≡ heardBy reach changed / 2 ^ 32) where
+      changed-then : changed ≡ maskOf (changes p (r .d) t) (p .n + p .m)
+      changed-then = changed-is ∙ reaching.joined-changes p (r .d) t due commanded (ready .due-set) (done .commanded-are)
+
+      nodes-then : nodes ≡ maskOf (λ j. dependsWith p (r .d) t (p .k) (p .n + p .m + j)) (p .k)
+      nodes-then = nodes-is ∙ rw (ready .reach-is) (reaching.touched-mask p rules (r .d) t changed changed-then)
+
+      reached-then : reached-set ≡ maskOf (reached p (r .d) t) (p .n)
+      reached-then = reached-is ∙ rw (ready .reach-is) (reaching.reached-mask p rules (r .d) t changed changed-then)
+
+      pub nodes-below : nodes < 2 ^ p .k
+      nodes-below = rw nodes-then (maskOf-lt _ (p .k))
+
+      module _ {v3 : List ℤ} (worked : v3 ≡ each (nodeStep (p .kinds) (p .lefts) (p .rights) (p .lows) (p .highs) (p .n + p .m)) (has nodes) 32 v2) where
+        pub values-then : v3 ≡ valuesOf p q u
+        values-then =
+            worked
+            ∙ touched.touched-mask p rules (r .d) t q u (r .q) (r .inputs) (output-kept p limits r t)
+            (λ j h e. setting-kept p (r .inputs) t j (limits .m) h e) v2 (done .same-length ∙ full-then) source-at
+            (λ i h. node-at i h ∙ ap (λ vs. int vs i) (ready .values-are)) nodes nodes-then
+
+        value-then : (i : ℕ) → i < p .n + p .m + p .k → int v3 i ≡ valueOf p q u i
+        value-then i h = rw values-then (values-at p q u rules i h)
+
+        sized-then : (i : ℕ) → ∣ int v3 i ∣ ≤ M
+        sized-then =
+            rw values-then
+            (values-sized p q u rules (output-size p r (ready .sound) t takes) (setting-size p r (ready .sound) t takes))
+
+        first-then : (i : ℕ) → i < p .n + p .m → int v3 i ≡ valueWith p q u zero i
+        first-then i h =
+            source-cases (p .n) (p .m) i (λ k. int v3 k ≡ valueWith p q u zero k) h
+            (λ k l. value-then k (omega arith) ∙ integrator-value p q u k l ∙ sym (output-value p q u k l))
+            (λ j l. value-then (p .n + j) (omega arith) ∙ setting-value p q u j l ∙ sym (input-value p q u j l))
+
+        -- ---- events
+        pub events-ready-then : EventsReady changed t v3 at size
+        events-ready-then = events-ready p rules (r .d) t q u v3 changed changed-then first-then at size (ready .room) (λ i h. sized-then i)
+
+        pub events-then : eventsIn changed t v3 ≡ eventsOf p r
+        unfolding eventsOf
+        events-then = events-are p rules (r .d) t q u v3 changed changed-then first-then ∙ rw (ready .tick)
+
+        -- ---- 5. and 6.
+        module _ (engine : Engine) {moved : ℕ} (moved-is : moved ≡ movedSet engine (p .n) due reached-set) where
+          moved-then : moved ≡ maskOf (moves p engine (r .d) t) (p .n)
+          unfolding movedSet moves
+          moved-then = moved-is ∙ go engine
+            where
+              go : (e : Engine) → movedSet e (p .n) due reached-set ≡ maskOf (moves p e (r .d) t) (p .n)
+              go Lazy = rw (ready .due-set, reached-then) (maskOf-or (isDue (r .d) t) (reached p (r .d) t) (p .n))
+              go Eager = refl
+
+          pub moves-ready : AllMovable t ranges (p .sources) (p .coefficients) (p .quanta) v3 moved (moving (r .x) (r .s) (r .l) (r .d))
+          moves-ready =
+              rw (ready .ranges-are, moved-then)
+              (all-movable p r (ready .sound) t takes v3 value-then (moves p engine (r .d) t) sized-then)
+
+          module _ {x s : List ℤ} {l d : List ℕ}
+              (move : moving x s l d ≡ each (moveOne t ranges (p .sources) (p .coefficients) (p .quanta) v3) (has moved) 32 (moving (r .x) (r .s) (r .l) (r .d)))
+              {grown : ℕ} (counted : grown ≡ countOf (has moved) 32) where
+            count-then : grown ≡ countOf (moves p engine (r .d) t) (p .n)
+            count-then = counted ∙ rw moved-then (countOf-mask (moves p engine (r .d) t) (p .n) 32 (limits .n))
+
+            -- both sums are small
+            pub instants-most : r .instants + 1 < 2 ^ 64
+            instants-most = omega (arith, ready .sound .instants, ready .sound .clock, ready .sound .plan .horizon)
+
+            figures-then : moving x s l d
+                ≡ moving (takenAt p r t (moves p engine (r .d) t) .x) (takenAt p r t (moves p engine (r .d) t) .s)
+                (takenAt p r t (moves p engine (r .d) t) .l) (takenAt p r t (moves p engine (r .d) t) .d)
+            figures-then =
+                move ∙ rw (ready .ranges-are, moved-then) (moved-figures p r (ready .sound) t takes v3 value-then (moves p engine (r .d) t) shaped)
+
+            pub running-then : _≡_ {A = Running}
+                (record { x = x; q = q1; s = s; l = l; d = d; inputs = u1; clock = t; next = next; instants = r .instants + 1; updates = r .updates + grown })
+                (instant p engine r)
+            unfolding instant takenAt
+            running-then =
+                rw (
+                  ap (λ m. m .x) figures-then,
+                  ap (λ m. m .s) figures-then,
+                  ap (λ m. m .l) figures-then,
+                  ap (λ m. m .d) figures-then,
+                  outputs-then,
+                  inputs-then,
+                  next-then,
+                  count-then,
+                  ready .tick,
+                )

@@ -1,0 +1,141 @@
+-- The walk over a mask of integrators moves them as document 01 asks, and what it asks holds at an instant of a sound state. Assumes nothing.
+use mathlib.Core.Path.{_≡_, refl, sym, ap, _∙_}
+use mathlib.Core.Bool.{Bool, true, false, cond, true≢false}
+use mathlib.Core.List.{List}
+use Prim.Native.Nat.{ℕ, _+_, _≤_, _<_}
+use native.Mathlib.Omega.{arith}
+use lib.IntN.{ℤ, pos}
+use lib.Dec.{ltb}
+use borrow.Author.Tests.{ltb-true, ltb-false}
+use Rattle.integers.specs.Parts.{∣_∣}
+use Rattle.bitset.specs.Mask.{has, maskOf, each}
+use Rattle.bitset.specs.Bits.{has-high, maskOf-lt}
+use Rattle.plan.specs.Format.{M}
+use Rattle.plan.specs.Lists.{nat, int, row}
+use Rattle.plan.specs.Laws.Counts.{Counts, counts-of}
+use Rattle.plan.specs.declared.Plan.{Plan}
+use Rattle.machine.specs.Values.{valueOf}
+use Rattle.machine.specs.Instant.{positionAt, settings, outputs, slopeThen, xThen, dueThen, takenAt}
+use Rattle.machine.specs.Sound.{SoundRunning, RunningShaped}
+use Rattle.machine.specs.Laws.Values.{integrator-value}
+use Rattle.machine.specs.Laws.Taken.{x-then}
+use Rattle.machine.specs.Laws.Soundness.{Takes}
+use Rattle.machine.specs.declared.Running.{Running}
+use Rattle.dynamics.specs.Links.{rangesOf}
+use Rattle.dynamics.specs.Laws.OwnRange.{own-rated, own-rate}
+use Rattle.dynamics.specs.Laws.Standings.{ready-at}
+use Rattle.dynamics.specs.Laws.Dues.{due-ready-then, due-is-then}
+use Rattle.instant.specs.Motion.{Motion, moving, placeOf, slopeOf, dueFrom, moveOne, AllMovable}
+use Rattle.instant.specs.Laws.Moving.{Figures, figuresAt, Full, movedFigures, move-full, move-own, move-others}
+use Rattle.instant.specs.Laws.Walks.{Stores, Walked, walked, row-is}
+
+-- what is in the mask of a test is below its end
+mask-member : (p : ℕ → Bool) (n i : ℕ) → has (maskOf p n) i ≡ true → i < n
+mask-member p n i e = go (ltb i n) refl
+  where
+    go : (b : Bool) → ltb i n ≡ b → i < n
+    go true l = ltb-true i n l
+    go false l = absurd (true≢false (sym e ∙ has-high (maskOf p n) n i (maskOf-lt p n) (ltb-false i n l)))
+
+motion-is : (m : Motion) {x s : List ℤ} {l d : List ℕ} → m .x ≡ x → m .s ≡ s → m .l ≡ l → m .d ≡ d → m ≡ moving x s l d
+motion-is m a b c e = rw (← a, ← b, ← c, ← e)
+
+-- ---- any walk over a mask, as four rows
+module _ (t : ℕ) (ranges sources : List ℕ) (coefficients quanta values : List ℤ) where
+  abbrev move : ℕ → Motion → Motion
+  move = moveOne t ranges sources coefficients quanta values
+
+  abbrev figures : ℕ → Figures → Figures
+  figures = movedFigures t ranges sources coefficients quanta values
+
+  stores-figures : Stores move figuresAt figures Full 32
+  stores-figures =
+      record {
+        kept = move-full t ranges sources coefficients quanta values;
+        own = move-own t ranges sources coefficients quanta values;
+        others = move-others t ranges sources coefficients quanta values;
+      }
+
+  -- f i are integrator i's figures behind the walk
+  pub moved-rows : (moved : ℕ → Bool) (n : ℕ) → n ≤ 32 → (m : Motion) → Full m
+      → ((i : ℕ) → n ≤ i → figuresAt m i ≡ record { x = pos 0; s = pos 0; l = 0; d = 0 })
+      → (f : ℕ → Figures) → ((i : ℕ) → i < n → cond (moved i) (figures i (figuresAt m i)) (figuresAt m i) ≡ f i)
+      → each move (has (maskOf moved n)) 32 m
+      ≡ moving (row (pos 0) 32 n (λ i. f i .x)) (row (pos 0) 32 n (λ i. f i .s)) (row 0 32 n (λ i. f i .l)) (row 0 32 n (λ i. f i .d))
+  moved-rows moved n few m full unused f e =
+      motion-is after
+      (row-is (pos 0) 32 n _ (after .x) (w .full .x) (λ i h. ap (λ (g : Figures). g .x) (past i h)) (λ i h. ap (λ (g : Figures). g .x) (at i h)))
+      (row-is (pos 0) 32 n _ (after .s) (w .full .s) (λ i h. ap (λ (g : Figures). g .s) (past i h)) (λ i h. ap (λ (g : Figures). g .s) (at i h)))
+      (row-is 0 32 n _ (after .l) (w .full .l) (λ i h. ap (λ (g : Figures). g .l) (past i h)) (λ i h. ap (λ (g : Figures). g .l) (at i h)))
+      (row-is 0 32 n _ (after .d) (w .full .d) (λ i h. ap (λ (g : Figures). g .d) (past i h)) (λ i h. ap (λ (g : Figures). g .d) (at i h)))
+    where
+      after : Motion
+      after = each move (has (maskOf moved n)) 32 m
+
+      w : Walked figuresAt figures Full moved n m after
+      w = walked stores-figures moved m full n 32 few few
+
+      past : (i : ℕ) → n ≤ i → figuresAt after i ≡ record { x = pos 0; s = pos 0; l = 0; d = 0 }
+      past i h = w .past i h ∙ unused i h
+
+      at : (i : ℕ) → i < n → figuresAt after i ≡ f i
+      at i h = w .at i h ∙ e i h
+
+-- ---- at an instant; `values` holds the values of all sources there
+module _ (p : Plan) (r : Running) (sound : SoundRunning p r) (t : ℕ) (takes : Takes p r t) (values : List ℤ)
+    (same : (i : ℕ) → i < p .n + p .m + p .k → int values i ≡ valueOf p (outputs p r t) (settings p (r .inputs) t) i) (moved : ℕ → Bool) where
+  limits : Counts p
+  limits = counts-of p (sound .plan .counts)
+
+  abbrev before : Motion
+  before = moving (r .x) (r .s) (r .l) (r .d)
+
+  place : (i : ℕ) → placeOf t (rangesOf p) (p .sources) (p .coefficients) (p .quanta) values i before ≡ positionAt r t i
+  unfolding placeOf positionAt
+  place i = refl
+
+  output : (i : ℕ) → i < p .n → int values i ≡ int (outputs p r t) i
+  output i h = same i (omega arith) ∙ integrator-value p (outputs p r t) (settings p (r .inputs) t) i h
+
+  slope : (i : ℕ) → i < p .n → slopeOf t (rangesOf p) (p .sources) (p .coefficients) (p .quanta) values i ≡ slopeThen p r t i
+  unfolding slopeOf slopeThen
+  slope i h = own-rate p (sound .plan) values (outputs p r t) (settings p (r .inputs) t) same i h
+
+  pub all-movable : ((i : ℕ) → ∣ int values i ∣ ≤ M)
+      → AllMovable t (rangesOf p) (p .sources) (p .coefficients) (p .quanta) values (maskOf moved (p .n)) before
+  all-movable sized i e =
+      let h = mask-member moved (p .n) i e in
+      record {
+        used = omega (arith, limits .n);
+        rated = own-rated p (sound .plan) values sized i h;
+        position = ready-at p r sound t (omega (arith, takes .after)) i h (takes .least i h);
+        due = rw (place i, output i h, slope i h) (due-ready-then p r sound t takes i h);
+      }
+
+  -- integrator i's figures behind the instant, by whether it moves
+  abbrev figuresThen : ℕ → Bool → Figures
+  figuresThen i b =
+      record {
+        x = cond b (xThen p r t i) (int (r .x) i);
+        s = cond b (slopeThen p r t i) (int (r .s) i);
+        l = cond b t (nat (r .l) i);
+        d = cond b (dueThen p r t i) (nat (r .d) i);
+      }
+
+  figures-then : (i : ℕ) → i < p .n → (b : Bool)
+      → cond b (movedFigures t (rangesOf p) (p .sources) (p .coefficients) (p .quanta) values i (figuresAt before i)) (figuresAt before i)
+      ≡ figuresThen i b
+  unfolding movedFigures dueFrom positionAt
+  figures-then i h true = rw (slope i h, output i h, x-then p limits r t i h, ← due-is-then p limits r t i h)
+  figures-then i h false = refl
+
+  pub moved-figures : RunningShaped r
+      → each (moveOne t (rangesOf p) (p .sources) (p .coefficients) (p .quanta) values) (has (maskOf moved (p .n))) 32 before
+      ≡ moving (takenAt p r t moved .x) (takenAt p r t moved .s) (takenAt p r t moved .l) (takenAt p r t moved .d)
+  unfolding takenAt
+  moved-figures shaped =
+      let u = sound .running-unused in
+      moved-rows t (rangesOf p) (p .sources) (p .coefficients) (p .quanta) values moved (p .n) (limits .n) before
+      (record { x = shaped .x; s = shaped .s; l = shaped .l; d = shaped .d })
+      (λ i h. rw (u .x i h, u .s i h, u .l i h, u .d i h))
+      (λ i. figuresThen i (moved i)) (λ i h. figures-then i h (moved i))

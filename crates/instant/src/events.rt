@@ -1,0 +1,31 @@
+// "Events of an instant: due integrators and commanded inputs by ascending source number, 12 bytes each: tick, source, signed value."
+ghost use mathlib.Core.Path.{_≡_};
+ghost use Prim.Native.Nat.{_+_};
+ghost use lib.ListN.{length};
+ghost use Rattle.instant.specs.Events.{eventsIn, putAt, EventsReady};
+use bitset::lowest64;
+use bitset::rest64;
+use words::write_triple;
+
+// From byte `at` on, one event for each of the changed sources. What is answered is the place behind them.
+pub fn write_events<'a>(
+    changed: u64,
+    t: u32,
+    values: &'a [i64; 64],
+    buf: &mut [u8],
+    at: usize,
+) -> usize
+    requires { ⌜ EventsReady changed t (now values) at (length (now buf)) ⌝ }
+    ensures { λ r. ⌜ r ≡ at + length (eventsIn changed t (now (values .entry))) ⌝ }
+    ensures { λ _. ⌜ now (buf .exit) ≡ putAt (now (buf .entry)) at (eventsIn changed t (now (values .entry))) ⌝ }
+{
+    let mut left = changed;
+    let mut end = at;
+    while left != 0 {
+        let source = lowest64(left);
+        write_triple(&mut buf[end..], t as usize, source, values[source]);
+        end += 12;
+        left = rest64(left);
+    }
+    end
+}

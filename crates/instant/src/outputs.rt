@@ -1,0 +1,32 @@
+// 1. "The due integrators (d = t) take q = x+s×(t−l)."
+ghost use mathlib.Core.Path.{_≡_};
+ghost use Rattle.bitset.specs.Mask.{has, each};
+ghost use Rattle.dynamics.specs.Standing.{DueReach};
+ghost use Rattle.instant.specs.Outputs.{outputting, outputOne};
+use bitset::lowest;
+use bitset::rest;
+use dynamics::position;
+
+// An output stands in q, and in `values` at its source number, which is the integrator's.
+pub fn set_outputs<'a>(
+    due: u32,
+    t: u32,
+    x: &'a [i64; 32],
+    s: &'a [i64; 32],
+    l: &'a [u32; 32],
+    q: &mut [i64; 32],
+    values: &mut [i64; 64],
+)
+    requires { ⌜ DueReach due t (now x) (now s) (now l) ⌝ }
+    ensures { λ _. ⌜ outputting (now (q .exit)) (now (values .exit))
+        ≡ each (outputOne t (now (x .entry)) (now (s .entry)) (now (l .entry))) (has due) 32 (outputting (now (q .entry)) (now (values .entry))) ⌝ }
+{
+    let mut left = due;
+    while left != 0 {
+        let i = lowest(left);
+        let value = position(x[i], s[i], l[i], t);
+        q[i] = value;
+        values[i] = value;
+        left = rest(left);
+    }
+}
