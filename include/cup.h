@@ -1,14 +1,16 @@
-/* The cup simulator's plan files: reader, section view and plan writer, proved against document 01.
+/* The cup simulator: plan files, states, and one instant of the machine, proved against document 01.
  *
  * The functions are in target/staticlib/libexports.a, made by 'rt staticlib exports', for x86-64.
  *
  * They keep nothing between calls and always return. No pointer may be null, also where a length is
  * 0. The file must be readable, the buffer and the word behind the last pointer writable, and neither
- * of these two may overlap anything else that the call is given. */
+ * of these two may overlap anything else that the call is given. A state is 9,808 bytes and goes by
+ * value, so a call takes some tens of kilobytes of stack. */
 
 #ifndef CUP_H
 #define CUP_H
 
+#include <stdbool.h>
 #include <stddef.h>
 #include <stdint.h>
 
@@ -31,12 +33,99 @@ extern "C" {
  *       its predecessor
  *    9  a command's tick, input or value is outside its limits, or it does not stand above its
  *       predecessor
+ *   10  the state is not sound
+ *   12  a run's buffer is shorter than budget × (n + m) × 12 bytes
  *   13  the plan writer's buffer is shorter than the file
  *
- * Of several that a file meets, the lowest is answered. */
+ * Of several that a file or a call meets, the lowest is answered. */
 
-/* The longest file that is accepted, and so the longest that cup_rewrite writes. */
+/* The longest file that is accepted, and so the longest that cup_rewrite and cup_write write. */
 #define CUP_FILE_BYTES_MAX 4492
+
+/* The most integrators, inputs, nodes, links and commands of a plan. */
+#define CUP_INTEGRATORS_MAX 32
+#define CUP_INPUTS_MAX 8
+#define CUP_NODES_MAX 16
+#define CUP_LINKS_MAX 256
+#define CUP_COMMANDS_MAX 64
+
+/* The entries of a table by source number: integrators from 0, inputs from n, nodes from n + m. A
+ * plan has at most 56 sources. */
+#define CUP_TABLE_SOURCES 64
+
+/* The due tick of an integrator that is never due. */
+#define CUP_NEVER UINT32_MAX
+
+/* The bytes of an event: tick, source and signed value, little-endian, 32 bits each. */
+#define CUP_EVENT_BYTES 12
+
+/* The longest buffer that cup_instant asks for. */
+#define CUP_INSTANT_BYTES_MAX ((CUP_INTEGRATORS_MAX + CUP_INPUTS_MAX) * CUP_EVENT_BYTES)
+
+/* A plan: what the plan file says, number for number. Entries from a section's count on are 0. */
+typedef struct {
+    uint32_t horizon;
+    /* The counts of integrators, inputs, nodes, links and commands. */
+    size_t n, m, k, links, commands;
+    /* Integrators. */
+    int64_t starts[CUP_INTEGRATORS_MAX], quanta[CUP_INTEGRATORS_MAX];
+    /* Inputs. */
+    int64_t firsts[CUP_INPUTS_MAX];
+    /* Nodes: kind, A, B, lo and hi. */
+    size_t kinds[CUP_NODES_MAX], lefts[CUP_NODES_MAX], rights[CUP_NODES_MAX];
+    int64_t lows[CUP_NODES_MAX], highs[CUP_NODES_MAX];
+    /* Links. */
+    size_t targets[CUP_LINKS_MAX], sources[CUP_LINKS_MAX];
+    int64_t coefficients[CUP_LINKS_MAX];
+    /* Commands. */
+    uint32_t ticks[CUP_COMMANDS_MAX];
+    size_t numbers[CUP_COMMANDS_MAX];
+    int64_t values[CUP_COMMANDS_MAX];
+} CupPlan;
+
+/* How far a plan has run: for each integrator position, output, slope, last-moved tick and due tick;
+ * the values of the inputs; the clock, the number of the next command, instants and updates. Unused
+ * entries are 0, unused due ticks too. */
+typedef struct {
+    int64_t x[CUP_INTEGRATORS_MAX], q[CUP_INTEGRATORS_MAX], s[CUP_INTEGRATORS_MAX];
+    uint32_t l[CUP_INTEGRATORS_MAX], d[CUP_INTEGRATORS_MAX];
+    int64_t inputs[CUP_INPUTS_MAX];
+    uint32_t clock;
+    size_t next;
+    uint64_t instants, updates;
+} CupRunning;
+
+/* A state. It may be filled by hand: the functions ask nothing of it, whatever its fields hold, and
+ * decline a state that is not sound. */
+typedef struct {
+    CupPlan plan;
+    CupRunning run;
+} CupState;
+
+/* What cup_load answers. */
+typedef struct {
+    size_t number, entry;
+    CupState state;
+} CupLoaded;
+
+/* What cup_write answers. */
+typedef struct {
+    size_t number, length;
+    CupState state;
+} CupWritten;
+
+/* What cup_instant answers. */
+typedef struct {
+    size_t number, status, integrator, written;
+    CupState state;
+} CupRan;
+
+/* What cup_tables answers. */
+typedef struct {
+    size_t ranges[CUP_INTEGRATORS_MAX + 1];
+    uint64_t reach[CUP_TABLE_SOURCES];
+    int64_t values[CUP_TABLE_SOURCES];
+} CupTables;
 
 /* Reads a plan file: returns 0 for an accepted file, else 1 to 9. *entry becomes the lowest faulty
  * entry of the section, counted from 0, and 0 for the numbers 0 to 4. */
@@ -54,6 +143,43 @@ size_t cup_section(const uint8_t *file, size_t file_length, size_t number, size_
  * no byte of the buffer changes. */
 size_t cup_rewrite(const uint8_t *file, size_t file_length, uint8_t *buffer, size_t buffer_length,
                    size_t *length);
+
+/* Loads a plan file: answers the number and the entry that cup_read answers, and the state that the
+ * plan starts with; the idle state if the file is refused. */
+CupLoaded cup_load(const uint8_t *file, size_t file_length);
+
+/* The plan writer: writes the state's plan from the buffer's start and answers 0, the number of bytes
+ * written and the state handed in; bytes behind them keep their value. If the state is not sound it
+ * answers 10, else 13 if the buffer is shorter than the file; then the length is 0 and no byte of the
+ * buffer changes. */
+CupWritten cup_write(CupState state, uint8_t *buffer, size_t buffer_length);
+
+/* Whether the state is sound. */
+bool cup_sound(CupState state);
+
+/* Hands the state back, sound or not. */
+CupState cup_echo(CupState state);
+
+/* The tables that a run works out once.
+ *
+ * ranges[i] is the first link whose target is i or above, for i up to n: the links of integrator i
+ * are those from ranges[i] to before ranges[i + 1]. Entries above n are 0.
+ *
+ * reach[source] says what a change of that source reaches: bit i for each integrator i with a link
+ * that names the source or a node that depends on it, bit 32 + j for each node j that depends on it,
+ * and of a node its own bit too. values[source] is the source's value. Both are 0 from n + m + k on.
+ *
+ * If the state is not sound all entries are 0. */
+CupTables cup_tables(CupState state);
+
+/* One instant, by the eager or by the lazy engine: what a run with budget 1 answers. It takes the
+ * next instant unless the status is 1 or 2 beforehand, writes the instant's events from the buffer's
+ * start and answers 0, the status of the state that it answers (0 paused, 1 finished, 2 range), the
+ * integrator that bars the next instant (0 unless the status is 2), the number of bytes written and
+ * the state; bytes behind them keep their value. If the state is not sound it answers 10, else 12 if
+ * the buffer is shorter than (n + m) × 12 bytes; then the other figures are 0, the state is the one
+ * handed in and no byte of the buffer changes. */
+CupRan cup_instant(CupState state, bool eager, uint8_t *buffer, size_t buffer_length);
 
 #ifdef __cplusplus
 }

@@ -39,7 +39,7 @@ pub const LINKS_MAX: usize = 256;
 pub const COMMANDS_MAX: usize = 64;
 
 /// A section of the plan file.
-#[derive(Clone, Copy, Debug, PartialEq, Eq)]
+#[derive(Clone, Copy, Debug, PartialEq, Eq, PartialOrd, Ord)]
 pub enum Section {
     /// Starts and quanta.
     Integrators,

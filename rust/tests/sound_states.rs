@@ -5,13 +5,14 @@ mod common;
 use common::{events, loaded, rng_of, run, CHECKER, ENGINES};
 use cup_check::compare::{continued_list, Met};
 use cup_check::engine::Engine;
+use cup_check::generate::near::{change, without_integrators};
 use cup_check::generate::states::{between_instants, settle, sound_state};
-use cup_check::generate::{run_list, Family, Rng};
+use cup_check::generate::{run_list, Family, Fill, Rng};
 use cup_check::limits::{GRAINS, HORIZON_MAX, M};
 use cup_check::plan::Plan;
 use cup_check::raw::RawState;
 use cup_check::samples::document_cup;
-use cup_check::sound::{broken_clauses, is_sound};
+use cup_check::sound::{broken_clauses, is_sound, Clause};
 
 /// Random lists from hand-filled states of each family; panics at the first difference.
 fn compare_continued(lists: u64, fill: impl Fn(&mut Rng, &Plan) -> RawState) -> Met {
@@ -50,6 +51,32 @@ fn a_clock_between_instants_runs_right() {
     println!("{met:#?}");
     assert!(met.statuses.iter().all(|&count| count >= 100));
     assert!(met.instants >= 50_000, "{}", met.instants);
+}
+
+#[test]
+fn every_fill_is_sound_and_runs_right() {
+    for fill in Fill::ALL {
+        let met = compare_continued(15, |rng, plan| fill.state(rng, plan));
+        println!("{fill:?}: {} instants", met.instants);
+        assert!(met.instants >= 1_000, "{fill:?}: {}", met.instants);
+    }
+}
+
+/// What the changes are for is counted where they are used; here only that they do something.
+#[test]
+fn changes_near_limits_leave_some_states_sound_and_most_not() {
+    let mut sound = 0;
+    for seed in 0..2_000 {
+        let family = Family::ALL[seed as usize % Family::ALL.len()];
+        let mut rng = rng_of(family, seed);
+        let plan = family.plan(&mut rng);
+        let mut state = rng.pick(&Fill::ALL).state(&mut rng, &plan);
+        change(&mut rng, &mut state);
+        sound += u32::from(is_sound(&state));
+        let none = without_integrators(&mut rng);
+        assert_eq!(broken_clauses(&none), [Clause::Counts]);
+    }
+    assert!((200..1_000).contains(&sound), "{sound}");
 }
 
 #[test]

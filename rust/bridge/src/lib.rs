@@ -1,34 +1,18 @@
-//! The proved calls for Rust: the reader of plan files, the section view and the plan writer.
+//! The proved calls for Rust: the reader of plan files, the section view and the plan writer; in
+//! [`machine`] the calls on a [`state`].
 //!
 //! The functions come from the library that `rt staticlib exports` makes of the proved crates. Only
-//! this file has unsafe code: what the C functions ask of their pointers is what references and
-//! slices give. [`campaign`] compares the calls with the second simulator.
+//! this file and [`machine`] have unsafe code: what the C functions ask of their pointers is what
+//! references and slices give. [`campaign`] compares the calls with the second simulator.
 
 #![deny(unsafe_code)]
 #![warn(missing_docs)]
 
 pub mod campaign;
-
-/// The functions of include/cup.h.
-#[allow(unsafe_code)]
-mod exports {
-    extern "C" {
-        pub fn cup_read(file: *const u8, file_length: usize, entry: *mut usize) -> usize;
-        pub fn cup_section(
-            file: *const u8,
-            file_length: usize,
-            number: usize,
-            offset: *mut usize,
-        ) -> usize;
-        pub fn cup_rewrite(
-            file: *const u8,
-            file_length: usize,
-            buffer: *mut u8,
-            buffer_length: usize,
-            length: *mut usize,
-        ) -> usize;
-    }
-}
+mod exports;
+pub mod machine;
+pub mod state;
+pub mod timing;
 
 /// What the reader answers.
 #[derive(Clone, Copy, Debug, PartialEq, Eq)]

@@ -1,30 +1,12 @@
-//! The header and the library serve a program in C.
+//! The header and the library serve programs in C.
 
-use std::path::{Path, PathBuf};
+mod common;
+
+use common::{compiled, root};
+use cup_check::samples;
+use std::fs;
+use std::path::Path;
 use std::process::Command;
-
-fn root() -> PathBuf {
-    Path::new(env!("CARGO_MANIFEST_DIR")).join("../..")
-}
-
-/// Compiles view.c and answers where the program is. Warnings are errors, in the header too.
-fn compiled() -> PathBuf {
-    let program = Path::new(env!("CARGO_TARGET_TMPDIR")).join("view");
-    let source = Path::new(env!("CARGO_MANIFEST_DIR")).join("tests/view.c");
-    let strict = ["-std=c11", "-pedantic", "-Wall", "-Wextra", "-Werror"];
-    let status = Command::new("cc")
-        .args(strict)
-        .arg("-I")
-        .arg(root().join("include"))
-        .arg(source)
-        .arg(env!("CUP_LINKED"))
-        .arg("-o")
-        .arg(&program)
-        .status()
-        .expect("cc starts");
-    assert!(status.success(), "{status}");
-    program
-}
 
 fn printed(program: &Path, plan: &str) -> String {
     let plan = root().join("plans").join(plan);
@@ -38,7 +20,7 @@ fn printed(program: &Path, plan: &str) -> String {
 
 #[test]
 fn a_program_in_c_reads_views_and_rewrites() {
-    let program = compiled();
+    let program = compiled("view");
     let sample = "\
 read 0, entry 0
 section 0: 16 bytes at 44
@@ -70,4 +52,16 @@ one byte short 8, 0 bytes, first a5
             && full.contains("\nrewrite 0, 4492 bytes, the same, then a5\n"),
         "{full}"
     );
+}
+
+/// The listings kept beside the sample plans come from the second simulator.
+#[test]
+fn a_program_in_c_lists_the_samples_by_single_instants() {
+    let program = compiled("list");
+    for sample in samples::all() {
+        let listing = root().join(format!("plans/{}.txt", sample.name));
+        let listing = fs::read_to_string(&listing).expect("a listing beside each plan");
+        let plan = format!("{}.plan", sample.name);
+        assert_eq!(printed(&program, &plan), listing, "{}", sample.name);
+    }
 }

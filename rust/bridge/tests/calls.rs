@@ -1,7 +1,10 @@
 //! The proved calls from Rust, with answers that are known.
 
+use cup_bridge::machine::{instant, load, sound, tables};
+use cup_bridge::state::{State, Tables};
 use cup_bridge::{meaning, read, rewrite, section, Answer, Rewritten};
 use cup_check::samples;
+use cup_check::words::{signed_at, word_at};
 use std::fs;
 use std::path::Path;
 
@@ -68,6 +71,63 @@ fn a_plan_is_rewritten() {
     assert!(short.iter().all(|&byte| byte == 7));
 }
 
+/// The events in bytes as (tick, source, value).
+fn events(bytes: &[u8]) -> Vec<(u32, u32, i32)> {
+    let events = bytes.chunks_exact(12);
+    events
+        .map(|event| (word_at(event, 0), word_at(event, 4), signed_at(event, 8)))
+        .collect()
+}
+
+/// The position of an integrator at the clock.
+fn position(state: &State, i: usize) -> i64 {
+    let run = &state.run;
+    run.x[i] + run.s[i] * i64::from(run.clock - run.l[i])
+}
+
+/// Document 01's "A cup in full": events, status, clock, instants and updates, and the positions.
+#[test]
+fn a_cup_in_full_instant_by_instant() {
+    let start = load(&kept("plans/sample.plan")).state;
+    assert_eq!((start.run.s[..2].to_vec(), start.run.d[0]), (vec![3, 0], 4));
+    for (eager, updates) in [(false, [2, 3]), (true, [2, 4])] {
+        let mut buffer = [7; 40];
+        let first = instant(&start, eager, &mut buffer);
+        assert_eq!((first.number, first.status, first.integrator), (0, 0, 0));
+        assert_eq!(events(&buffer[..first.written]), [(4, 0, 12)]);
+        assert_eq!(buffer[12..], [7; 28]);
+        assert_eq!(first.state.run.updates, updates[0]);
+        let second = instant(&first.state, eager, &mut buffer[..36]);
+        assert_eq!((second.number, second.status), (0, 1));
+        assert_eq!(events(&buffer[..second.written]), [(6, 2, -3)]);
+        let run = &second.state.run;
+        assert_eq!((run.clock, run.instants, run.updates), (6, 2, updates[1]));
+        assert_eq!([0, 1].map(|i| position(&second.state, i)), [18, 24]);
+        // Finished: nothing more happens.
+        let third = instant(&second.state, eager, &mut buffer[..36]);
+        assert_eq!((third.number, third.status, third.written), (0, 1, 0));
+        assert_eq!(third.state, second.state);
+        // One byte short.
+        let short = instant(&start, eager, &mut [7; 35]);
+        assert_eq!((short.number, short.status, short.written), (12, 0, 0));
+        assert_eq!(short.state, start);
+    }
+}
+
+#[test]
+fn a_sound_state_has_tables_and_another_has_none() {
+    let mut state = load(&kept("plans/sample.plan")).state;
+    assert!(sound(&state));
+    let found = tables(&state);
+    assert_eq!(found.ranges[..4], [0, 1, 2, 0]);
+    // The input reaches the first integrator, the first integrator the second.
+    assert_eq!(found.reach[..4], [2, 0, 1, 0]);
+    assert_eq!(found.values[..4], [0, 0, 3, 0]);
+    state.run.updates = u64::MAX;
+    assert!(!sound(&state));
+    assert_eq!(*tables(&state), Tables::NONE);
+}
+
 /// The table in the repository's README has the same words.
 #[test]
 fn every_number_means_what_the_readme_says() {
@@ -98,7 +158,7 @@ fn every_number_means_what_the_header_says() {
         .filter(|word| *word != "*")
         .collect();
     let header = words.join(" ");
-    for number in (0..=9).chain([13]) {
+    for number in (0..=10).chain([12, 13]) {
         let row = format!(" {number} {} ", meaning(number));
         assert!(header.contains(&row), "{row}");
     }

@@ -64,6 +64,12 @@ impl Wrong {
         Wrong::BoundBars,
     ];
 
+    /// The wrong rule that is written so; "None" is none.
+    pub fn named(name: &str) -> Option<Wrong> {
+        let mut all = Wrong::ALL.into_iter().chain([Wrong::None]);
+        all.find(|wrong| format!("{wrong:?}") == name)
+    }
+
     /// Document 01 with this one rule exchanged.
     pub fn rules(self) -> Rules {
         let right = Rules::DOCUMENT;

@@ -41,6 +41,8 @@ pub struct Reading {
     pub link_names: fn(plan: &Plan) -> usize,
     /// The last tick that a command may have, from the horizon.
     pub last_tick: fn(horizon: u32) -> u32,
+    /// A way of breaking the rules 4 to 9 that is passed over.
+    pub unasked: Option<Cause>,
 }
 
 impl Reading {
@@ -63,6 +65,7 @@ impl Reading {
         limits_ordered: |kind| kind == LIMIT,
         link_names: Plan::sources,
         last_tick: |horizon| horizon,
+        unasked: None,
     };
 }
 

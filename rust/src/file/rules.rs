@@ -20,7 +20,10 @@ pub fn check_by(rules: &Reading, plan: &Plan) -> Result<(), Refusal> {
 
 fn check_number(rules: &Reading, plan: &Plan, number: u32) -> Result<(), Refusal> {
     match number {
-        4 => horizon(plan.horizon),
+        4 => horizon(plan.horizon).or_else(|refusal| match asked(rules, refusal.cause) {
+            true => Err(refusal),
+            false => Ok(()),
+        }),
         5 => check_entries(rules, &plan.integrators, |_, entry| {
             integrator(rules, entry)
         }),
@@ -47,6 +50,10 @@ fn check_commands(rules: &Reading, plan: &Plan) -> Result<(), Refusal> {
     check_ascending(rules, &plan.commands, limits, key, causes)
 }
 
+fn asked(rules: &Reading, cause: Cause) -> bool {
+    rules.unasked != Some(cause)
+}
+
 /// Tries the entries upwards, so that the entry answered is the lowest.
 fn check_entries<T>(
     rules: &Reading,
@@ -54,7 +61,7 @@ fn check_entries<T>(
     fault: impl Fn(usize, &T) -> Option<Cause>,
 ) -> Result<(), Refusal> {
     let mut faults = entries.iter().enumerate().filter_map(|(number, item)| {
-        let cause = fault(number, item)?;
+        let cause = fault(number, item).filter(|cause| asked(rules, *cause))?;
         let entry = (rules.entry)(cause, number);
         Some(Refusal { cause, entry })
     });

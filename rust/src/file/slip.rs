@@ -112,7 +112,7 @@ impl Slip {
                 ..right
             },
             Slip::BoundExcluded => Reading {
-                beyond: |value, bound| value.abs() >= bound,
+                beyond: |value, bound| value <= -bound || bound <= value,
                 ..right
             },
             Slip::NodeNamesItself => Reading {

@@ -6,11 +6,13 @@ pub mod breakage;
 pub mod damage;
 pub mod files;
 pub mod lists;
+pub mod near;
 pub mod plans;
 pub mod plant;
 pub mod recipe;
 pub mod rng;
 pub mod states;
+pub mod unreached;
 
 pub use breakage::Breakage;
 pub use damage::Damage;
@@ -18,3 +20,4 @@ pub use files::Origin;
 pub use lists::{run_list, Call};
 pub use plans::Family;
 pub use rng::Rng;
+pub use unreached::Fill;

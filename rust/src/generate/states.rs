@@ -97,7 +97,7 @@ fn clock(rng: &mut Rng, plan: &Plan) -> u32 {
 
 /// An integrator due at or before the clock is taken as moved at the clock, which puts its due
 /// tick above it.
-fn move_the_overdue(state: &mut RawState) {
+pub fn move_the_overdue(state: &mut RawState) {
     let run = &mut state.run;
     for i in 0..state.plan.n {
         if run.d[i] <= run.clock {

@@ -121,7 +121,7 @@ fn compare_rewriting(
 }
 
 /// Random bytes, eight of them at a time.
-fn random(rng: &mut Rng, length: usize) -> Vec<u8> {
+pub fn random(rng: &mut Rng, length: usize) -> Vec<u8> {
     let words = (0..length.div_ceil(8)).flat_map(|_| rng.bits().to_le_bytes());
     words.take(length).collect()
 }

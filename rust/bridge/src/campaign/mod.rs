@@ -1,20 +1,28 @@
-//! The proved calls compared with the second simulator on files of every sort.
+//! The proved calls compared with the second simulator: here on files of every sort, in the modules
+//! below on states.
 //!
-//! Every file follows from a seed and its own number, so that a difference found once can be found
-//! again.
+//! Every file and every state follows from a seed and its own number, so that a difference found
+//! once can be found again.
 
 mod compare;
+pub mod instants;
 mod met;
 mod parties;
+pub mod soundness;
+pub mod starts;
+mod switches;
+pub mod tables;
+pub mod writes;
 
 pub use met::Met;
-pub use parties::{Archive, Reader, Second};
+pub use parties::{Archive, Machine, Reader, Second};
 
 use compare::compare;
 use cup_check::file::Slip;
 use cup_check::generate::files::{any, next_to};
 use cup_check::generate::{Origin, Rng};
 use cup_check::samples;
+use switches::{named, number};
 
 /// Files that the gate compares at least.
 pub const FILES: u64 = 200_000;
@@ -38,11 +46,19 @@ pub struct Campaign {
 
 /// What a campaign has found.
 #[derive(Debug, Default)]
-pub struct Outcome {
-    /// What the files were and how they were answered.
-    pub met: Met,
+pub struct Outcome<M = Met> {
+    /// What was compared and how it was answered.
+    pub met: M,
     /// The first differences; none if all answers agree.
     pub differences: Vec<String>,
+}
+
+impl<M> Outcome<M> {
+    /// Keeps a difference if there is one; whether enough are described.
+    fn found(&mut self, difference: Option<String>) -> bool {
+        self.differences.extend(difference);
+        self.differences.len() >= DESCRIBED
+    }
 }
 
 impl Campaign {
@@ -51,18 +67,14 @@ impl Campaign {
         Campaign {
             files: number("CUP_FILES", FILES),
             seed: number("CUP_SEED", 0),
-            slip: match std::env::var("CUP_SLIP") {
-                Ok(name) => Slip::named(&name)
-                    .unwrap_or_else(|| panic!("CUP_SLIP is none of {:?}", Slip::ALL)),
-                Err(_) => Slip::None,
-            },
+            slip: named("CUP_SLIP", Slip::named, &Slip::ALL),
         }
     }
 
     /// Compares a reader's calls with the second simulator's, until a few differences are found.
     pub fn run(&self, reader: &dyn Reader) -> Outcome {
         let second = Second::new(self.slip);
-        let mut outcome = Outcome::default();
+        let mut outcome: Outcome = Outcome::default();
         let first = Rng::new(self.seed).bits();
         let random = (0..).map(|number| random(first.wrapping_add(number)));
         let files = stepped().chain(random);
@@ -77,27 +89,18 @@ impl Campaign {
                 &mut rng,
                 &mut outcome.met,
             );
-            if let Err(difference) = found {
+            let described = |difference| {
                 let seed = self.seed;
-                outcome.differences.push(format!(
+                format!(
                     "file {number} of seed {seed} ({origin:?}, {}): {difference}",
                     shown(&file)
-                ));
-            }
-            if outcome.differences.len() == DESCRIBED {
+                )
+            };
+            if outcome.found(found.err().map(described)) {
                 break;
             }
         }
         outcome
-    }
-}
-
-fn number(variable: &str, otherwise: u64) -> u64 {
-    match std::env::var(variable) {
-        Ok(text) => text
-            .parse()
-            .unwrap_or_else(|_| panic!("{variable} is a number, not '{text}'")),
-        Err(_) => otherwise,
     }
 }
 

@@ -1,5 +1,7 @@
 //! Who is compared with whom.
 
+use crate::machine;
+use crate::state::{Loaded, Ran, State, Tables, Written};
 use crate::{Answer, Rewritten};
 use cup_check::calls::SHORT_FILE_BUFFER;
 use cup_check::file::read::{read_by, section_by};
@@ -24,11 +26,41 @@ pub trait Reader {
     }
 }
 
+/// The calls on states, for the same purpose.
+pub trait Machine {
+    /// Loads a plan file.
+    fn load(&self, file: &[u8]) -> Box<Loaded> {
+        machine::load(file)
+    }
+
+    /// The plan writer.
+    fn write(&self, state: &State, buffer: &mut [u8]) -> Box<Written> {
+        machine::write(state, buffer)
+    }
+
+    /// Whether a state is sound.
+    fn sound(&self, state: &State) -> bool {
+        machine::sound(state)
+    }
+
+    /// The tables that a run works out once.
+    fn tables(&self, state: &State) -> Box<Tables> {
+        machine::tables(state)
+    }
+
+    /// One instant.
+    fn instant(&self, state: &State, eager: bool, buffer: &mut [u8]) -> Box<Ran> {
+        machine::instant(state, eager, buffer)
+    }
+}
+
 /// The proved calls as they are linked.
 #[derive(Clone, Copy, Debug)]
 pub struct Archive;
 
 impl Reader for Archive {}
+
+impl Machine for Archive {}
 
 /// The second simulator, with one rule of its reader exchanged on request.
 pub struct Second {

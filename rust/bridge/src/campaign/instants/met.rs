@@ -1,0 +1,145 @@
+//! What the campaign over instants has met.
+
+use cup_check::compare;
+use cup_check::engine::Engine;
+use cup_check::generate::Fill;
+use cup_check::limits::INTEGRATORS_MAX;
+use cup_check::plain::{Plain, Taken};
+use cup_check::plan::Plan;
+use cup_check::raw::RawState;
+use cup_check::status::Status;
+use std::collections::BTreeMap;
+use std::fmt;
+
+/// How often each has to be met.
+const ENOUGH: u64 = 300;
+
+/// Counts of states and of instants.
+#[derive(Clone, Debug, Default)]
+pub struct Met {
+    /// States, by how they were filled.
+    pub fills: BTreeMap<Fill, u64>,
+    /// States with 32 integrators.
+    pub widest: u64,
+    /// Calls with a buffer too short.
+    pub short: u64,
+    /// Calls with a state that is not sound.
+    pub unsound: u64,
+    /// Accepted calls by the status that is answered.
+    pub statuses: [u64; 3],
+    /// Accepted calls that took no instant.
+    pub without_instant: u64,
+    /// Range answered with several integrators due at the barred tick.
+    pub range_several_due: u64,
+    /// Instants of the lazy engine that move 1, 2 to 7, 8 to 31 and 32 integrators.
+    pub moved: [u64; 4],
+    /// Instants of the lazy engine that move all and some, and more than 7 are there.
+    pub of_many: [u64; 2],
+    /// Instants with no command, with one and with several.
+    pub commands: [u64; 3],
+    /// Of the instants, by either engine, what the second simulator counts.
+    pub instants: compare::Met,
+}
+
+impl Met {
+    /// States compared.
+    pub fn states(&self) -> u64 {
+        self.fills.values().sum()
+    }
+
+    /// Counts a state.
+    pub fn count_state(&mut self, fill: Fill, plan: &Plan) {
+        *self.fills.entry(fill).or_default() += 1;
+        self.widest += u64::from(plan.integrators.len() == INTEGRATORS_MAX);
+    }
+
+    /// Counts an accepted call from a state, by the plain machine after it.
+    pub fn count_answer(&mut self, engine: Engine, before: &RawState, plain: &Plain) {
+        let taken = (plain.instants - before.run.instants) as usize;
+        self.instants
+            .count_accepted(engine == Engine::Eager, taken, plain);
+        self.instants.count_events(&plain.events);
+        self.without_instant += u64::from(taken == 0);
+        self.statuses[plain.status().number() as usize] += 1;
+        if let Status::Range(_) = plain.status() {
+            let tick = plain.next_instant();
+            let due = plain.dues.iter().filter(|&&due| due == tick).count();
+            self.range_several_due += u64::from(due > 1);
+        }
+    }
+
+    /// Counts an instant that moves so many integrators.
+    pub fn count_instant(&mut self, taken: &Taken, moved: usize, engine: Engine, plan: &Plan) {
+        self.commands[taken.commanded.len().min(2)] += 1;
+        if engine == Engine::Eager {
+            return;
+        }
+        self.instants.count_instant(taken, moved, plan);
+        let group = match moved {
+            0 | 1 => 0,
+            2..=7 => 1,
+            8..=31 => 2,
+            _ => 3,
+        };
+        self.moved[group] += 1;
+        let all = plan.integrators.len();
+        if all > 7 {
+            self.of_many[usize::from(moved < all)] += 1;
+        }
+    }
+
+    fn counts(&self) -> Vec<(&'static str, u64)> {
+        let (moved, commands, engine) = (self.moved, self.commands, &self.instants);
+        vec![
+            ("status 0", self.statuses[0]),
+            ("status 1", self.statuses[1]),
+            ("status 2", self.statuses[2]),
+            ("32 integrators", self.widest),
+            ("buffer too short", self.short),
+            ("not sound", self.unsound),
+            ("no instant", self.without_instant),
+            ("range, several due", self.range_several_due),
+            ("range above the lowest due", engine.range_above_lowest_due),
+            ("1 moved", moved[0]),
+            ("2 to 7 moved", moved[1]),
+            ("8 to 31 moved", moved[2]),
+            ("32 moved", moved[3]),
+            ("all of many moved", self.of_many[0]),
+            ("some of many moved", self.of_many[1]),
+            ("no command", commands[0]),
+            ("one command", commands[1]),
+            ("several commands", commands[2]),
+            ("several due", engine.several_due),
+            ("due and commanded", engine.due_and_commanded),
+            ("repeated values", engine.repeated_values),
+            ("reached, not due", engine.reached_not_due),
+            ("clipped nodes", engine.clipped_nodes),
+            ("at the horizon", engine.at_horizon),
+            ("events at the bound", engine.events_at_bound),
+            ("due ticks above 2^31", engine.far_due_ticks),
+        ]
+    }
+
+    /// What was met too seldom to count as compared.
+    pub fn thin(&self) -> Vec<String> {
+        let fills = Fill::ALL.map(|fill| self.fills.get(&fill).copied().unwrap_or(0));
+        let fills = fills.into_iter().map(|count| ("states of a fill", count));
+        let all = self.counts().into_iter().chain(fills);
+        let seldom = all.filter(|(_, count)| *count < ENOUGH);
+        seldom
+            .map(|(what, count)| format!("{what}: {count}"))
+            .collect()
+    }
+}
+
+impl fmt::Display for Met {
+    fn fmt(&self, out: &mut fmt::Formatter) -> fmt::Result {
+        let states = self.states();
+        writeln!(out, "instants: {states} states, each by both engines")?;
+        writeln!(out, "  how they were filled: {:?}", self.fills)?;
+        for (what, count) in self.counts() {
+            writeln!(out, "  {what}: {count}")?;
+        }
+        Ok(())
+    }
+}

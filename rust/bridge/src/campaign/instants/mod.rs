@@ -1,0 +1,75 @@
+//! One instant, by either engine, from sound states that need not be reachable.
+//!
+//! What is answered is compared with the second simulator's engine, and with its plain machine
+//! continued from the same moment.
+
+mod compare;
+mod met;
+
+pub use met::Met;
+
+use super::switches::{named, number};
+use super::{Machine, Outcome};
+use compare::Comparison;
+use cup_check::engine::Wrong;
+use cup_check::generate::{Family, Fill, Rng};
+
+/// States that the gate compares at least, each by both engines.
+pub const STATES: u64 = 100_000;
+
+/// States that are filled for one plan.
+const OF_ONE_PLAN: u64 = 2;
+
+/// What to compare on.
+#[derive(Clone, Copy, Debug)]
+pub struct Campaign {
+    /// How many states.
+    pub states: u64,
+    /// Where they start from.
+    pub seed: u64,
+    /// The exchanged rule of the second simulator's engines.
+    pub wrong: Wrong,
+}
+
+impl Campaign {
+    /// A campaign by the variables CUP_INSTANTS, CUP_SEED and CUP_WRONG, or the gate's without them.
+    pub fn asked_for() -> Campaign {
+        Campaign {
+            states: number("CUP_INSTANTS", STATES),
+            seed: number("CUP_SEED", 0),
+            wrong: named("CUP_WRONG", Wrong::named, &Wrong::ALL),
+        }
+    }
+
+    /// Compares a machine's instants with the second simulator's, until a few differences are found.
+    pub fn run(&self, machine: &dyn Machine) -> Outcome<Met> {
+        let mut outcome: Outcome<Met> = Outcome::default();
+        let first = Rng::new(self.seed).bits();
+        for number in 0..self.states.div_ceil(OF_ONE_PLAN) {
+            let mut rng = Rng::new(first.wrapping_add(number));
+            // Families in turn, and each family's plans through all fills.
+            let family = Family::ALL[number as usize % Family::ALL.len()];
+            let fill = Fill::ALL[number as usize / Family::ALL.len() % Fill::ALL.len()];
+            let plan = family.plan(&mut rng);
+            let left = self.states - number * OF_ONE_PLAN;
+            for state in 0..left.min(OF_ONE_PLAN) {
+                let comparison = Comparison {
+                    machine,
+                    wrong: self.wrong,
+                    plan: &plan,
+                    state: &fill.state(&mut rng, &plan),
+                };
+                outcome.met.count_state(fill, &plan);
+                let found = comparison.check(&mut rng, &mut outcome.met);
+                let described = |difference| {
+                    let state = format!("state {state} of plan {number} of seed {}", self.seed);
+                    format!("{state} ({family:?}, {fill:?}), {difference}")
+                };
+                if outcome.found(found.err().map(described)) {
+                    return outcome;
+                }
+            }
+        }
+        outcome
+    }
+}

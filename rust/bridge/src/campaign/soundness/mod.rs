@@ -1,0 +1,156 @@
+//! The test of "A sound state" on states of every sort.
+//!
+//! A base is a sound state, filled in one of the ways of [`Fill`] for a random plan. It is compared
+//! as it is, and then changed many times in one or two fields near the limits of a clause.
+
+mod met;
+
+pub use met::{Count, Met, Part};
+
+use super::switches::{named, number};
+use super::{Machine, Outcome};
+use crate::state::State;
+use cup_check::generate::near::{change, without_integrators};
+use cup_check::generate::{Breakage, Family, Fill, Rng};
+use cup_check::raw::RawState;
+use cup_check::sound::{broken_by, Clause, Lapse};
+
+/// States that the gate compares at least.
+pub const STATES: u64 = 1_000_000;
+
+/// States that come from one base, the base among them.
+const OF_ONE_BASE: u64 = 40;
+
+/// What to compare on.
+#[derive(Clone, Copy, Debug)]
+pub struct Campaign {
+    /// How many states.
+    pub states: u64,
+    /// Where they start from.
+    pub seed: u64,
+    /// The second simulator's exchanged test.
+    pub lapse: Lapse,
+}
+
+/// How a state comes from its base.
+#[derive(Clone, Copy, Debug, PartialEq, Eq)]
+enum Origin {
+    /// The base itself.
+    Base,
+    /// One or two fields changed.
+    Changed,
+    /// One clause broken and all others kept.
+    Broken(Breakage),
+    /// Nothing of the base: a plan without integrators.
+    WithoutIntegrators,
+}
+
+impl Campaign {
+    /// A campaign by the variables CUP_STATES, CUP_SEED and CUP_LAPSE, or the gate's without them.
+    pub fn asked_for() -> Campaign {
+        Campaign {
+            states: number("CUP_STATES", STATES),
+            seed: number("CUP_SEED", 0),
+            lapse: named("CUP_LAPSE", Lapse::named, &Lapse::all()),
+        }
+    }
+
+    /// Compares a machine's test with the second simulator's, until a few differences are found.
+    pub fn run(&self, machine: &dyn Machine) -> Outcome<Met> {
+        let table = self.lapse.soundness();
+        let mut outcome: Outcome<Met> = Outcome::default();
+        let first = Rng::new(self.seed).bits();
+        for number in 0..self.states.div_ceil(OF_ONE_BASE) {
+            let mut rng = Rng::new(first.wrapping_add(number));
+            let base = Base::drawn(&mut rng, number);
+            let mut state = base.state.clone();
+            let left = self.states - number * OF_ONE_BASE;
+            for step in 0..left.min(OF_ONE_BASE) {
+                let origin = origin(&mut rng, step);
+                base.lead_to(&mut rng, origin, &mut state);
+                let broken = broken_by(&table, &state);
+                let unchanged = (origin == Origin::Base).then_some(base.fill);
+                outcome.met.count(&state, &broken, unchanged);
+                let found = compare(machine, &state, &broken);
+                let described = |what| {
+                    let base = base.described(&state);
+                    let state = format!("state {step} of base {number} of seed {}", self.seed);
+                    format!("{state}, {origin:?} from {base}: {what}")
+                };
+                if outcome.found(found.err().map(described)) {
+                    return outcome;
+                }
+            }
+        }
+        outcome
+    }
+}
+
+/// A sound state from which others come.
+struct Base {
+    family: Family,
+    fill: Fill,
+    state: RawState,
+}
+
+impl Base {
+    /// Families and fills in turn.
+    fn drawn(rng: &mut Rng, number: u64) -> Base {
+        let number = number as usize;
+        let family = Family::ALL[number % Family::ALL.len()];
+        let fill = Fill::ALL[number / Family::ALL.len() % Fill::ALL.len()];
+        let plan = family.plan(rng);
+        let state = fill.state(rng, &plan);
+        Base {
+            family,
+            fill,
+            state,
+        }
+    }
+
+    /// Fills a state from this one; but for the base itself it is another.
+    fn lead_to(&self, rng: &mut Rng, origin: Origin, state: &mut RawState) {
+        state.clone_from(&self.state);
+        match origin {
+            Origin::Base => return,
+            Origin::Changed => (),
+            Origin::WithoutIntegrators => *state = without_integrators(rng),
+            Origin::Broken(breakage) => {
+                // Where the base does not lend itself to it, fields are changed below.
+                if let Some((broken, _)) = breakage.apply(rng, &self.state) {
+                    *state = broken;
+                }
+            }
+        }
+        while *state == self.state {
+            change(rng, state);
+        }
+    }
+
+    /// How it came about, and what was changed, in part if it is much.
+    fn described(&self, state: &RawState) -> String {
+        let most = 6;
+        let changes = State::from(&self.state).differences(&State::from(state));
+        let more = if changes.len() > most { ", .." } else { "" };
+        let shown = changes[..changes.len().min(most)].join(", ");
+        format!("{:?}, {:?}, {shown}{more}", self.family, self.fill)
+    }
+}
+
+fn origin(rng: &mut Rng, step: u64) -> Origin {
+    match rng.below(500) {
+        _ if step == 0 => Origin::Base,
+        0 => Origin::WithoutIntegrators,
+        1..=50 => Origin::Broken(rng.pick(&Breakage::ALL)),
+        _ => Origin::Changed,
+    }
+}
+
+/// `Err` describes a difference.
+fn compare(machine: &dyn Machine, state: &RawState, broken: &[Clause]) -> Result<(), String> {
+    match (machine.sound(&State::from(state)), broken.is_empty()) {
+        (true, false) => Err(format!("said to be sound, but it breaks {broken:?}")),
+        (false, true) => Err("said to be not sound, but it breaks nothing".to_string()),
+        _ => Ok(()),
+    }
+}

@@ -1,0 +1,190 @@
+//! The structs of include/cup.h, field for field, and the second simulator's state as one of them.
+//!
+//! The fields and their order are those of the header. `bridge/tests/echo.rs` compares size and place
+//! of every field with what a program in C says of the header.
+
+mod fields;
+
+pub use fields::{Field, Words};
+
+use cup_check::limits::{COMMANDS_MAX, INPUTS_MAX, INTEGRATORS_MAX, LINKS_MAX, NODES_MAX};
+use cup_check::raw::{RawPlan, RawRunning, RawState};
+
+/// Entries of a table by source number. A plan has at most 56 sources.
+pub const TABLE_SOURCES: usize = 64;
+
+/// `CupPlan`: what the plan file says, with 0 in unused entries.
+#[derive(Clone, Debug, PartialEq, Eq)]
+#[repr(C)]
+#[allow(missing_docs)] // The fields carry the header's names.
+pub struct Plan {
+    pub horizon: u32,
+    pub n: usize,
+    pub m: usize,
+    pub k: usize,
+    pub links: usize,
+    pub commands: usize,
+    pub starts: [i64; INTEGRATORS_MAX],
+    pub quanta: [i64; INTEGRATORS_MAX],
+    pub firsts: [i64; INPUTS_MAX],
+    pub kinds: [usize; NODES_MAX],
+    pub lefts: [usize; NODES_MAX],
+    pub rights: [usize; NODES_MAX],
+    pub lows: [i64; NODES_MAX],
+    pub highs: [i64; NODES_MAX],
+    pub targets: [usize; LINKS_MAX],
+    pub sources: [usize; LINKS_MAX],
+    pub coefficients: [i64; LINKS_MAX],
+    pub ticks: [u32; COMMANDS_MAX],
+    pub numbers: [usize; COMMANDS_MAX],
+    pub values: [i64; COMMANDS_MAX],
+}
+
+/// `CupRunning`: how far the plan has run.
+#[derive(Clone, Debug, PartialEq, Eq)]
+#[repr(C)]
+#[allow(missing_docs)]
+pub struct Running {
+    pub x: [i64; INTEGRATORS_MAX],
+    pub q: [i64; INTEGRATORS_MAX],
+    pub s: [i64; INTEGRATORS_MAX],
+    pub l: [u32; INTEGRATORS_MAX],
+    pub d: [u32; INTEGRATORS_MAX],
+    pub inputs: [i64; INPUTS_MAX],
+    pub clock: u32,
+    pub next: usize,
+    pub instants: u64,
+    pub updates: u64,
+}
+
+/// `CupState`, which may hold any numbers.
+#[derive(Clone, Debug, PartialEq, Eq)]
+#[repr(C)]
+#[allow(missing_docs)]
+pub struct State {
+    pub plan: Plan,
+    pub run: Running,
+}
+
+/// `CupLoaded`, what load answers.
+#[derive(Clone, Debug, PartialEq, Eq)]
+#[repr(C)]
+pub struct Loaded {
+    /// 0 or the refusal, 1 to 9.
+    pub number: usize,
+    /// The lowest faulty entry, 0 for the numbers 0 to 4.
+    pub entry: usize,
+    /// The start state, or the idle state.
+    pub state: State,
+}
+
+/// `CupWritten`, what the plan writer answers.
+#[derive(Clone, Debug, PartialEq, Eq)]
+#[repr(C)]
+pub struct Written {
+    /// 0, 10 or 13.
+    pub number: usize,
+    /// Bytes written, 0 if the number is not 0.
+    pub length: usize,
+    /// The state handed in.
+    pub state: State,
+}
+
+/// `CupRan`, what an instant answers.
+#[derive(Clone, Debug, PartialEq, Eq)]
+#[repr(C)]
+pub struct Ran {
+    /// 0, 10 or 12.
+    pub number: usize,
+    /// 0 paused, 1 finished, 2 range.
+    pub status: usize,
+    /// The integrator of status 2, else 0.
+    pub integrator: usize,
+    /// Bytes written.
+    pub written: usize,
+    /// The state afterwards.
+    pub state: State,
+}
+
+/// `CupTables`, what a run works out once.
+#[derive(Clone, Debug, PartialEq, Eq)]
+#[repr(C)]
+pub struct Tables {
+    /// For each integrator its first link; the entry n is where the last one's links end.
+    pub ranges: [usize; INTEGRATORS_MAX + 1],
+    /// For each source the integrators, and from bit 32 on the nodes, that its change reaches.
+    pub reach: [u64; TABLE_SOURCES],
+    /// The value of each source.
+    pub values: [i64; TABLE_SOURCES],
+}
+
+impl Tables {
+    /// What is answered for a state that is not sound.
+    pub const NONE: Tables = Tables {
+        ranges: [0; INTEGRATORS_MAX + 1],
+        reach: [0; TABLE_SOURCES],
+        values: [0; TABLE_SOURCES],
+    };
+}
+
+/// Conversions by the fields' names, so that no two can be exchanged on the way.
+macro_rules! same_fields {
+    ($mirror:ident, $raw:ident, $($field:ident),+) => {
+        impl From<&$raw> for $mirror {
+            fn from(raw: &$raw) -> $mirror {
+                $mirror { $($field: raw.$field),+ }
+            }
+        }
+
+        impl From<&$mirror> for $raw {
+            fn from(mirror: &$mirror) -> $raw {
+                $raw { $($field: mirror.$field),+ }
+            }
+        }
+    };
+}
+
+same_fields!(
+    Plan,
+    RawPlan,
+    horizon,
+    n,
+    m,
+    k,
+    links,
+    commands,
+    starts,
+    quanta,
+    firsts,
+    kinds,
+    lefts,
+    rights,
+    lows,
+    highs,
+    targets,
+    sources,
+    coefficients,
+    ticks,
+    numbers,
+    values
+);
+
+same_fields!(Running, RawRunning, x, q, s, l, d, inputs, clock, next, instants, updates);
+
+impl From<&RawState> for State {
+    fn from(raw: &RawState) -> State {
+        State {
+            plan: Plan::from(&raw.plan),
+            run: Running::from(&raw.run),
+        }
+    }
+}
+
+impl From<&State> for RawState {
+    fn from(state: &State) -> RawState {
+        RawState {
+            plan: RawPlan::from(&state.plan),
+            run: RawRunning::from(&state.run),
+        }
+    }
+}

@@ -1,0 +1,24 @@
+//! The proved instant against the second simulator's engines and its plain machine, from at least
+//! [`STATES`] sound states, most of which no run reaches.
+//!
+//! CUP_INSTANTS asks for more states, CUP_SEED for other ones, and CUP_WRONG exchanges a rule of the
+//! second simulator's engines, which has to make this test fail.
+
+mod common;
+
+use common::judge;
+use cup_bridge::campaign::instants::{Campaign, Met, STATES};
+use cup_bridge::campaign::Archive;
+use std::time::Instant;
+
+#[test]
+fn the_proved_instant_agrees_with_the_second_simulator() {
+    let campaign = Campaign::asked_for();
+    let least = STATES;
+    assert!(campaign.states >= least, "CUP_INSTANTS is at least {least}");
+    let started = Instant::now();
+    let outcome = campaign.run(&Archive);
+    let exchanged = format!("with wrong rule {:?}", campaign.wrong);
+    judge(&outcome, Met::thin, &exchanged, campaign.seed, started);
+    assert_eq!(outcome.met.states(), campaign.states);
+}

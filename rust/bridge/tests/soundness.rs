@@ -1,0 +1,23 @@
+//! The proved test of soundness against the second simulator's, on at least [`STATES`] states.
+//!
+//! CUP_STATES asks for more states, CUP_SEED for other ones, and CUP_LAPSE exchanges a test of the
+//! second simulator, which has to make this test fail.
+
+mod common;
+
+use common::judge;
+use cup_bridge::campaign::soundness::{Campaign, Met, STATES};
+use cup_bridge::campaign::Archive;
+use std::time::Instant;
+
+#[test]
+fn the_proved_test_agrees_with_the_second_simulator() {
+    let campaign = Campaign::asked_for();
+    let least = STATES;
+    assert!(campaign.states >= least, "CUP_STATES is at least {least}");
+    let started = Instant::now();
+    let outcome = campaign.run(&Archive);
+    let exchanged = format!("with lapse {:?}", campaign.lapse);
+    judge(&outcome, Met::thin, &exchanged, campaign.seed, started);
+    assert_eq!(outcome.met.states, campaign.states);
+}
