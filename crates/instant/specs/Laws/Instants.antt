@@ -3,11 +3,14 @@ use mathlib.Core.Path.{_≡_, refl, sym, ap, _∙_}
 use mathlib.Core.Bool.{Bool, true, false, _||_}
 use mathlib.Core.List.{List}
 use Prim.Native.Nat.{ℕ, zero, suc, _+_, _-_, _*_, _/_, _%_, _^_, _≤_, _<_}
+use native.Mathlib.Nat.{mul-le-mul-right}
 use native.Mathlib.Omega.{arith}
 use lib.IntN.{ℤ, pos}
 use lib.Dec.{ltb}
 use lib.ListN.{length}
 use borrow.Author.Tests.{ltb-true, ltb-false}
+use mir.Syntax.{w64}
+use mir.Val.{Fits}
 use Rattle.integers.specs.Parts.{∣_∣}
 use Rattle.bitset.specs.Mask.{has, maskOf, countOf, each, joinedOf}
 use Rattle.bitset.specs.Bits.{maskOf-lt, maskOf-or}
@@ -99,6 +102,16 @@ module _ (p : Plan) (r : Running) {t due : ℕ} {ranges reach : List ℕ} {value
       rw (ready .values-are)
       (values-sized p (r .q) (r .inputs) rules (λ i h. ready .sound .integrators i h .output)
       (λ j h. within-size M (int (r .inputs) j) .0 (ready .sound .inputs j h)))
+
+  -- ---- 6. the counts stay far below 2^64
+  pub instants-fit : Fits w64 (r .instants + 1)
+  instants-fit = omega (arith, ready .sound .instants, ready .sound .clock, rules .horizon)
+
+  pub updates-fit : (moved : ℕ → Bool) {grown : ℕ} → grown ≡ countOf moved 32 → Fits w64 (r .updates + grown)
+  updates-fit moved e =
+      let ok = ready .sound in
+      let most : r .updates ≤ 32 * r .instants = omega (arith, ok .updates, mul-le-mul-right (r .instants) (limits .n)) in
+      rw e (omega (arith, ok .instants, ok .clock, rules .horizon, countOf-le moved 32))
 
   -- ---- 1. and 2.
   pub outputs-ready : DueReach due t (r .x) (r .s) (r .l)
@@ -234,10 +247,6 @@ module _ (p : Plan) (r : Running) {t due : ℕ} {ranges reach : List ℕ} {value
               {grown : ℕ} (counted : grown ≡ countOf (has moved) 32) where
             count-then : grown ≡ countOf (moves p engine (r .d) t) (p .n)
             count-then = counted ∙ rw moved-then (countOf-mask (moves p engine (r .d) t) (p .n) 32 (limits .n))
-
-            -- both sums are small
-            pub instants-most : r .instants + 1 < 2 ^ 64
-            instants-most = omega (arith, ready .sound .instants, ready .sound .clock, ready .sound .plan .horizon)
 
             figures-then : moving x s l d
                 ≡ moving (takenAt p r t (moves p engine (r .d) t) .x) (takenAt p r t (moves p engine (r .d) t) .s)

@@ -1,116 +1,149 @@
--- The steps of the code are those of the law on instants, one after the other.
-use mathlib.Core.Path.{_≡_, sym, _∙_}
-use mathlib.Core.List.{List}
-use Prim.Native.Nat.{ℕ, _*_, _≤_}
-use native.Mathlib.Nat.{mul-le-mul-right}
+-- The steps of the code are those of the law on instants, one after the other; each call's place leads back to the one before it.
+use mathlib.Core.Path.{_∙_}
 use native.Mathlib.Omega.{arith}
-use lib.IntN.{ℤ}
-use lib.ListN.{length}
-use denote.Ref.{now}
 use borrow.Author.Needs.{needs}
-use Rattle.bitset.specs.Mask.{has}
-use Rattle.bitset.specs.Counts.{countOf-le}
 use Rattle.plan.specs.declared.Plan.{Plan}
-use Rattle.machine.specs.Sound.{RunningShaped}
 use Rattle.machine.specs.declared.Running.{Running}
-use Rattle.instant.specs.Lent.{planOf, runningOf, InstantReady}
+use Rattle.instant.specs.Lent.{planOf, runningOf}
 use Rattle.instant.specs.Laws.Instants as law
 use Rattle.instant.proofs.instants.take_instant.Statement.{statement}
 use Rattle.instant.proofs.instants.take_instant.Tie as tie
 
-module _ (c : tie.Start) where
+module _ (s : tie.Start) where
   abbrev p : Plan
   p =
-      let a = c .args in
+      let a = s .args in
       planOf (a .counts) (a .starts .now) (a .quanta .now) (a .firsts .now) (a .kinds .now) (a .lefts .now) (a .rights .now) (a .lows .now)
       (a .highs .now) (a .targets .now) (a .sources .now) (a .coefficients .now) (a .ticks .now) (a .numbers .now) (a .settings .now)
 
   abbrev r : Running
-  r =
-      let a = c .args in
-      runningOf (a .x .now) (a .q .now) (a .s .now) (a .l .now) (a .d .now) (a .inputs .now) (a .clocks)
+  r = let a = s .args in runningOf (a .x .now) (a .q .now) (a .s .now) (a .l .now) (a .d .now) (a .inputs .now) (a .clocks)
 
--- src/instants.rt:112:16
+-- ---- from each call to the one before it
+abbrev start : tie.After-set-outputs → tie.Start
+start c = c .before .before .before .before .before .before .before .before
+
+abbrev outputs : tie.After-obey-commands → tie.After-set-outputs
+outputs c = c .before .before .before
+
+abbrev commands : tie.After-joined → tie.After-obey-commands
+commands c = c .before
+
+abbrev changes : tie.After-reached-by → tie.After-joined
+changes c = c .before
+
+abbrev reach : tie.After-work-nodes → tie.After-reached-by
+reach c = c .before .before
+
+abbrev nodes : tie.After-write-events → tie.After-work-nodes
+nodes c = c .before .before .before
+
+abbrev events : tie.After-moved-set → tie.After-write-events
+events c = c .before .before .before
+
+abbrev moves : tie.After-move-all → tie.After-moved-set
+moves c = c .before .before .before .before .before .before
+
+-- ---- what the calls ask
 add-base : tie.Need-add-base
-add-base c = let limits = law.limits (p (c .before .before)) (r (c .before .before)) (c .before .before .pre) in omega (arith, limits .n, limits .m)
+add-base c = let s = c .before .before in let limits = law.limits (p s) (r s) (s .pre) in omega (arith, limits .n, limits .m)
 
--- src/instants.rt:113:5
 set-outputs-requires : tie.Need-set-outputs-requires
 set-outputs-requires c κs = let s = c .before .before .before .before .before .before .before in law.outputs-ready (p s) (r s) (s .pre)
 
--- src/instants.rt:114:9
 obey-commands-requires : tie.Need-obey-commands-requires
-obey-commands-requires c κs = let s = c .before .before .before .before .before .before .before .before .before .before in law.obeying-ready (p s) (r s) (s .pre)
+obey-commands-requires c κs = let s = start (c .before .before) in law.obeying-ready (p s) (r s) (s .pre)
 
--- src/instants.rt:115:9
 joined-requires : tie.Need-joined-requires
-joined-requires c κs = let s = c .before .before .before .before .before .before .before .before .before .before .before in (law.limits (p s) (r s) (s .pre) .n, law.due-below (p s) (r s) (s .pre))
+joined-requires c κs = let s = start (outputs c) in (law.limits (p s) (r s) (s .pre) .n, law.due-below (p s) (r s) (s .pre))
 
--- src/instants.rt:116:9
 reached-by-requires : tie.Need-reached-by-requires
 reached-by-requires c κs = search needs
 
--- src/instants.rt:117:5
 work-nodes-requires : tie.Need-work-nodes-requires
 work-nodes-requires c κs =
-    let s = c .before .before .before .before .before .before .before .before .before .before .before .before .before .before in
-    (law.nodes-below (p s) (r s) (s .pre) (c .before .before .before .before .before .before .set-outputs .ensures) (c .before .before .before .obey-commands .ensures) (c .before .before .joined .ensures) (c .before .reached-by .ensures .0) (c .before .reached-by .ensures .1), law.nodes-ready-then (p s) (r s) (s .pre) (c .before .before .before .before .before .before .set-outputs .ensures) (c .before .before .before .obey-commands .ensures))
+    let reached = c .before in
+    let joined = changes reached in
+    let obeyed = commands joined in
+    let set = outputs obeyed in
+    let s = start set in
+    let output = set .set-outputs .ensures in
+    let command = obeyed .obey-commands .ensures in
+    let told = reached .reached-by .ensures in (
+      law.nodes-below (p s) (r s) (s .pre) output command (joined .joined .ensures) (told .0) (told .1),
+      law.nodes-ready-then (p s) (r s) (s .pre) output command,
+    )
 
--- src/instants.rt:118:9
 write-events-requires : tie.Need-write-events-requires
 write-events-requires c κs =
-    let s = c .before .before .before .before .before .before .before .before .before .before .before .before .before .before .before .before .before in
-    law.events-ready-then (p s) (r s) (s .pre) (c .before .before .before .before .before .before .before .before .before .set-outputs .ensures) (c .before .before .before .before .before .before .obey-commands .ensures) (c .before .before .before .before .before .joined .ensures) (c .before .before .before .before .reached-by .ensures .0) (c .before .before .before .before .reached-by .ensures .1) (c .before .before .work-nodes .ensures)
+    let worked = c .before .before in
+    let reached = reach worked in
+    let joined = changes reached in
+    let obeyed = commands joined in
+    let set = outputs obeyed in
+    let s = start set in
+    let told = reached .reached-by .ensures in
+    law.events-ready-then (p s) (r s) (s .pre) (set .set-outputs .ensures) (obeyed .obey-commands .ensures) (joined .joined .ensures)
+    (told .0) (told .1) (worked .work-nodes .ensures)
 
--- src/instants.rt:119:9
 moved-set-requires : tie.Need-moved-set-requires
-moved-set-requires c κs = let s = c .before .before .before .before .before .before .before .before .before .before .before .before .before .before .before .before .before .before .before .before in law.limits (p s) (r s) (s .pre) .n
+moved-set-requires c κs =
+    let s = start (outputs (commands (changes (reach (nodes (c .before .before)))))) in law.limits (p s) (r s) (s .pre) .n
 
--- src/instants.rt:120:5
 move-all-requires : tie.Need-move-all-requires
 move-all-requires c κs =
-    let s = c .before .before .before .before .before .before .before .before .before .before .before .before .before .before .before .before .before .before .before .before .before .before .before .before .before .before in
-    law.moves-ready (p s) (r s) (s .pre) (c .before .before .before .before .before .before .before .before .before .before .before .before .before .before .before .before .before .before .set-outputs .ensures) (c .before .before .before .before .before .before .before .before .before .before .before .before .before .before .before .obey-commands .ensures) (c .before .before .before .before .before .before .before .before .before .before .before .before .before .before .joined .ensures) (c .before .before .before .before .before .before .before .before .before .before .before .before .before .reached-by .ensures .0) (c .before .before .before .before .before .before .before .before .before .before .before .before .before .reached-by .ensures .1) (c .before .before .before .before .before .before .before .before .before .before .before .work-nodes .ensures) (s .args .engine) (c .before .before .before .before .before .moved-set .ensures)
+    let moved = c .before .before .before .before .before in
+    let worked = nodes (events moved) in
+    let reached = reach worked in
+    let joined = changes reached in
+    let obeyed = commands joined in
+    let set = outputs obeyed in
+    let s = start set in
+    let told = reached .reached-by .ensures in
+    law.moves-ready (p s) (r s) (s .pre) (set .set-outputs .ensures) (obeyed .obey-commands .ensures) (joined .joined .ensures)
+    (told .0) (told .1) (worked .work-nodes .ensures) (s .args .engine) (moved .moved-set .ensures)
 
--- src/instants.rt:124:19
 add-t56 : tie.Need-add-t56
-add-t56 c = let s = c .before .before .before .before .before .before .before .before .before .before .before .before .before .before .before .before .before .before .before .before .before .before .before .before .before .before .before .before in let ok = s .pre .sound in omega (arith, ok .instants, ok .clock, ok .plan .horizon)
+add-t56 c =
+    let s = start (outputs (commands (changes (reach (nodes (events (moves (c .before)))))))) in
+    law.instants-fit (p s) (r s) (s .pre)
 
--- src/instants.rt:125:36
 count-requires : tie.Need-count-requires
 count-requires c κs = search needs
 
--- src/instants.rt:125:18
 add-t59 : tie.Need-add-t59
 add-t59 c =
-    let s = c .before .before .before .before .before .before .before .before .before .before .before .before .before .before .before .before .before .before .before .before .before .before .before .before .before .before .before .before .before .before in
-    let ok = s .pre .sound in
-    let limits = law.limits (p s) (r s) (s .pre) in
-    let grown : (c .before .count .result) ≤ 32 = rw (c .before .count .ensures) (countOf-le (has (c .before .before .before .before .before .before .before .before .before .moved-set .result)) 32) in
-    let most : s .args .clocks .updates ≤ 32 * s .args .clocks .instants = omega (arith, ok .updates, mul-le-mul-right (s .args .clocks .instants) (limits .n)) in
-    omega (arith, ok .instants, ok .clock, ok .plan .horizon)
+    let s = start (outputs (commands (changes (reach (nodes (events (moves (c .before .before .before)))))))) in
+    law.updates-fit (p s) (r s) (s .pre) _ (c .before .count .ensures)
 
--- src/instants.rt:59:1
 same-length : tie.Need-same-length
 same-length c = search needs
 
--- src/instants.rt:59:1
 returns : tie.Need-returns
 returns c =
-    let s = c .before .before .before .before .before .before .before .before .before .before .before .before .before .before .before .before .before .before .before .before .before .before .before .before .before .before .before .before .before .before in
-    let output = (c .before .before .before .before .before .before .before .before .before .before .before .before .before .before .before .before .before .before .before .before .before .before .set-outputs .ensures) in
-    let command = (c .before .before .before .before .before .before .before .before .before .before .before .before .before .before .before .before .before .before .before .obey-commands .ensures) in
-    let changed = (c .before .before .before .before .before .before .before .before .before .before .before .before .before .before .before .before .before .before .joined .ensures) in
-    let reached = (c .before .before .before .before .before .before .before .before .before .before .before .before .before .before .before .before .before .reached-by .ensures) in
-    let worked = (c .before .before .before .before .before .before .before .before .before .before .before .before .before .before .before .work-nodes .ensures) in
-    let wrote = (c .before .before .before .before .before .before .before .before .before .before .before .before .write-events .ensures) in
-    let moved = (c .before .before .before .before .before .before .before .before .before .moved-set .ensures) in
-    let running = law.running-then (p s) (r s) (s .pre) output command changed (reached .0) (reached .1) worked (s .args .engine) moved (c .before .before .before .move-all .ensures) (c .before .count .ensures) in
-    let values = law.values-then (p s) (r s) (s .pre) output command changed (reached .0) (reached .1) worked in
+    let counted = c .before in
+    let move = counted .before .before in
+    let moved = moves move in
+    let wrote = events moved in
+    let worked = nodes wrote in
+    let reached = reach worked in
+    let joined = changes reached in
+    let obeyed = commands joined in
+    let set = outputs obeyed in
+    let s = start set in
+    let output = set .set-outputs .ensures in
+    let command = obeyed .obey-commands .ensures in
+    let changed = joined .joined .ensures in
+    let told = reached .reached-by .ensures in
+    let work = worked .work-nodes .ensures in
+    let running =
+    law.running-then (p s) (r s) (s .pre) output command changed (told .0) (told .1) work (s .args .engine) (moved .moved-set .ensures)
+    (move .move-all .ensures) (counted .count .ensures) in
+    let values = law.values-then (p s) (r s) (s .pre) output command changed (told .0) (told .1) work in
     let q = law.outputs-then (p s) (r s) (s .pre) output command in
     let inputs = law.inputs-then (p s) (r s) (s .pre) output command in
-    let events = law.events-then (p s) (r s) (s .pre) output command changed (reached .0) (reached .1) worked in
-    (running, (values ∙ rw (← q, ← inputs), (wrote .1 ∙ rw events, wrote .0 ∙ rw events)))
+    let bytes = law.events-then (p s) (r s) (s .pre) output command changed (told .0) (told .1) work in
+    (running, (values ∙ rw (← q, ← inputs), (wrote .write-events .ensures .1 ∙ rw bytes, wrote .write-events .ensures .0 ∙ rw bytes)))
 
 pub take-instant-spec : {M : Type 1} → statement M
 take-instant-spec =
