@@ -1,5 +1,4 @@
 -- What a run answers, from machine.specs.Runs, and what it asks.
-use mathlib.Core.List.{List}
 use Prim.Native.Nat.{ℕ, _+_, _*_, _≤_}
 use lib.ListN.{length}
 use Rattle.plan.specs.declared.Plan.{Plan}

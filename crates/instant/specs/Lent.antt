@@ -19,8 +19,8 @@ use Rattle.reach.specs.Table.{reachTable}
 use Rattle.instant.specs.declared.instants.Counts.{Counts}
 use Rattle.instant.specs.declared.instants.Clocks.{Clocks}
 
-abbrev pub planOf : Counts → List ℤ → List ℤ → List ℤ → List ℕ → List ℕ → List ℕ → List ℤ → List ℤ → List ℕ → List ℕ → List ℤ → List ℕ → List ℕ → List ℤ
-    → Plan
+abbrev pub planOf : Counts → List ℤ → List ℤ → List ℤ → List ℕ → List ℕ → List ℕ → List ℤ → List ℤ → List ℕ → List ℕ → List ℤ → List ℕ
+    → List ℕ → List ℤ → Plan
 planOf c starts quanta firsts kinds lefts rights lows highs targets sources coefficients ticks numbers values =
     record {
       horizon = c .horizon;

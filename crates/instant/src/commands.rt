@@ -1,6 +1,6 @@
 // 2. "Commands of tick t set their inputs."
 ghost use mathlib.Core.Path.{_≡_};
-ghost use Prim.Native.Nat.{_-_, _≤_};
+ghost use Prim.Native.Nat.{_-_};
 ghost use Rattle.instant.specs.Commands.{obeying, obeyFrom, CommandsReady};
 use bitset::with;
 

@@ -2,7 +2,7 @@
 // for a run, has an entry of 64 bits for each source: bit i is set where a change of the source reaches integrator i, bit 32 + j where it touches node j.
 ghost use mathlib.Core.Path.{_≡_};
 ghost use Prim.Native.Nat.{_+_, _/_, _%_, _^_, _≤_, _<_};
-ghost use Rattle.reach.specs.Table.{marked, linked, ownNodes, added, handedDown, spreadFrom, tableFrom, heardBy, Linked, Wired};
+ghost use Rattle.reach.specs.Table.{linked, ownNodes, added, handedDown, spreadFrom, tableFrom, heardBy, Linked, Wired};
 use bitset::lowest64;
 use bitset::rest64;
 use bitset::union64;

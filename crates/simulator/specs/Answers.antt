@@ -7,12 +7,10 @@ use lib.ListN.{length}
 use Rattle.plan.specs.Format.{planIn}
 use Rattle.plan.specs.Rules.{CountsRule}
 use Rattle.plan.specs.Refusals.{numberOf, entryOf, isClean, findingOf, accepted}
-use Rattle.plan.specs.declared.Finding.{Finding}
 use Rattle.plan.specs.declared.Finding.the-variants.{Clean}
 use Rattle.planwriter.specs.Plans.{writtenLength, writtenBuffer, written-short, written-whole}
 use Rattle.machine.specs.Start.{startState, idleState}
 use Rattle.machine.specs.SoundTest.{isSound}
-use Rattle.machine.specs.Sound.{Sound}
 use Rattle.machine.specs.Laws.Tested.{sound-means}
 use Rattle.machine.specs.declared.State.{State}
 use Rattle.simulator.specs.Calls.{loadOf, writeNumber, writeOf, bufferOfWrite}

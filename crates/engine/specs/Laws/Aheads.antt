@@ -1,6 +1,5 @@
 -- What lies ahead of a sound state, by document 01. Assumes nothing.
 use mathlib.Core.Path.{_≡_, refl}
-use native.Mathlib.Omega.{arith}
 use Rattle.bitset.specs.Mask.{maskOf}
 use Rattle.plan.specs.Laws.Counts.{counts-of}
 use Rattle.plan.specs.declared.Plan.{Plan}

@@ -58,7 +58,8 @@ engine-of-requires c κs = search needs
 run-requires : tie.Need-run-requires
 run-requires c κs =
     let e = c .before .before .before .before in
-    instant-ready (engineOf (e .before .before .before .args .eager)) (state e) (now (e .before .before .before .args .buffer)) (sound e) (c .before .before .if2 .left)
+    let a = e .before .before .before .args in
+    instant-ready (engineOf (a .eager)) (state e) (now (a .buffer)) (sound e) (c .before .before .if2 .left)
 
 same-length : tie.Need-same-length
 same-length c = search needs

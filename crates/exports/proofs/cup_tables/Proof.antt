@@ -1,10 +1,11 @@
 -- The tables of a sound state: its plan keeps the rules, and its outputs and inputs are within ±M.
 use mathlib.Core.Path.{_≡_, sym, _∙_}
 use mathlib.Core.Bool.{true}
-use Prim.Native.Nat.{ℕ}
+use Prim.Native.Nat.{ℕ, _≤_, _<_}
 use native.Mathlib.Omega.{arith}
 use borrow.Author.Needs.{needs}
 use borrow.Author.Tests.{not-true, not-false}
+use Rattle.integers.specs.Parts.{∣_∣}
 use Rattle.plan.specs.Format.{M}
 use Rattle.plan.specs.Lists.{int}
 use Rattle.plan.specs.Laws.Counts.{Counts, counts-of}
@@ -13,7 +14,7 @@ use Rattle.machine.specs.Sound.{Sound}
 use Rattle.machine.specs.SoundTest.{isSound}
 use Rattle.machine.specs.Laws.Tested.{sound-means}
 use Rattle.machine.specs.declared.State.{State}
-use Rattle.dynamics.specs.Links.{rangesOf, firstLink}
+use Rattle.dynamics.specs.Links.{rangesOf}
 use Rattle.dynamics.specs.Laws.SourceValues.{nodes-ready, first-sized, all-nodes}
 use Rattle.reach.specs.Table.{reachTable}
 use Rattle.reach.specs.Laws.Reached.{table-wired, table-linked}
@@ -57,15 +58,18 @@ source-values-requires c κs =
     let e = c .before .before .before .before .before .before .before .before .before .before .before .before .before .before .before .before .before .before in
     let p = state e .plan in
     let r = state e .run in
-    let sized = first-sized p (r .q) (r .inputs) (sound e .plan) (λ i h. sound e .integrators i h .output) (λ j h. within-size M (int (r .inputs) j) .0 (sound e .inputs j h)) in
-    (limits e .n, limits e .m, nodes-ready p (sound e .plan) _ sized)
+    let outputs : (i : ℕ) → i < p .n → ∣ int (r .q) i ∣ ≤ M = λ i h. sound e .integrators i h .output in
+    let inputs : (j : ℕ) → j < p .m → ∣ int (r .inputs) j ∣ ≤ M = λ j h. within-size M (int (r .inputs) j) .0 (sound e .inputs j h) in
+    (limits e .n, limits e .m, nodes-ready p (sound e .plan) _ (first-sized p (r .q) (r .inputs) (sound e .plan) outputs inputs))
 
 returns-2 : tie.Need-returns-2
 unfolding rangesOf reachTable
 returns-2 c =
-    let e = c .before .before .before .before .before .before .before .before .before .before .before .before .before .before .before .before .before .before .before in
+    let tabled = c .before .before .before .before .before .before .before .before .before in
+    let ranged = tabled .before .before .before .before .before .before .before in
+    let e = ranged .before .before .before in
     let values = c .source-values .ensures ∙ all-nodes (state e .plan) (state e .run .q) (state e .run .inputs) (sound e .plan) in
-    rw (c .before .before .before .before .before .before .before .before .before .before .before .before .before .before .before .before .link-ranges .ensures, c .before .before .before .before .before .before .before .before .before .reach-table .ensures, values) (tables-are (state e) (is-true e))
+    rw (ranged .link-ranges .ensures, tabled .reach-table .ensures, values) (tables-are (state e) (is-true e))
 
 pub cup-tables-spec : {M : Type 1} → statement M
 cup-tables-spec =

@@ -1,11 +1,11 @@
 -- One instant as the code takes it, step by step, is the machine's. Assumes nothing.
 use mathlib.Core.Path.{_≡_, refl, sym, ap, _∙_}
-use mathlib.Core.Bool.{Bool, true, false, _||_}
+use mathlib.Core.Bool.{Bool, true, false}
 use mathlib.Core.List.{List}
-use Prim.Native.Nat.{ℕ, zero, suc, _+_, _-_, _*_, _/_, _%_, _^_, _≤_, _<_}
+use Prim.Native.Nat.{ℕ, zero, _+_, _-_, _*_, _/_, _%_, _^_, _≤_, _<_}
 use native.Mathlib.Nat.{mul-le-mul-right}
 use native.Mathlib.Omega.{arith}
-use lib.IntN.{ℤ, pos}
+use lib.IntN.{ℤ}
 use lib.Dec.{ltb}
 use lib.ListN.{length}
 use borrow.Author.Tests.{ltb-true, ltb-false}
@@ -16,15 +16,15 @@ use Rattle.bitset.specs.Mask.{has, maskOf, countOf, each, joinedOf}
 use Rattle.bitset.specs.Bits.{maskOf-lt, maskOf-or}
 use Rattle.bitset.specs.Counts.{countOf-mask, countOf-le}
 use Rattle.plan.specs.Format.{M}
-use Rattle.plan.specs.Lists.{nat, int}
+use Rattle.plan.specs.Lists.{int}
 use Rattle.plan.specs.Rules.{PlanRules}
 use Rattle.plan.specs.Laws.Counts.{Counts, counts-of}
 use Rattle.plan.specs.Laws.Means.{within-size}
 use Rattle.plan.specs.declared.Plan.{Plan}
 use Rattle.machine.specs.Values.{valueWith, valueOf}
 use Rattle.machine.specs.Next.{nextCommand}
-use Rattle.machine.specs.Reach.{isDue, isCommanded, changes, dependsWith, reached}
-use Rattle.machine.specs.Instant.{settings, outputs, moves, takenAt, tickOf, instant, eventsOf}
+use Rattle.machine.specs.Reach.{isDue, changes, dependsWith, reached}
+use Rattle.machine.specs.Instant.{settings, outputs, moves, takenAt, instant, eventsOf}
 use Rattle.machine.specs.Sound.{RunningShaped}
 use Rattle.machine.specs.Laws.Next.{tick-command}
 use Rattle.machine.specs.Laws.Inputs.{output-value, input-value}
@@ -35,7 +35,6 @@ use Rattle.machine.specs.Laws.Soundness.{Takes, takes-next, output-size, settin
 use Rattle.machine.specs.declared.Running.{Running}
 use Rattle.machine.specs.declared.Engine.{Engine}
 use Rattle.machine.specs.declared.Engine.the-variants.{Lazy, Eager}
-use Rattle.dynamics.specs.Links.{rangesOf}
 use Rattle.dynamics.specs.Sources.{valuesOf, nodeStep, NodesReady}
 use Rattle.dynamics.specs.Standing.{DueReach}
 use Rattle.dynamics.specs.Laws.SourceValues.{nodes-ready, values-length, values-at, values-sized}

@@ -1,9 +1,7 @@
 -- A refused file gives its finding's number and entry and the idle state; an accepted one has a plan that keeps the rules, which starts.
-use mathlib.Core.Path.{_≡_, sym, ap, _∙_}
+use mathlib.Core.Path.{sym, _∙_}
 use denote.Ref.{now}
 use borrow.Author.Needs.{needs}
-use Rattle.plan.specs.Refusals.{numberOf, entryOf, accepted}
-use Rattle.plan.specs.Format.{planIn}
 use Rattle.plan.specs.Laws.Answers.{accepted-rules}
 use Rattle.planrules.specs.Findings.{not-clean}
 use Rattle.planfile.specs.Reading.{reading-finding, reading-plan, reading-accepts, reading-refuses}

@@ -1,7 +1,6 @@
 -- 10 where the state is not sound; else its plan keeps the rules, and 0 bytes written mean a short buffer.
 use mathlib.Core.Path.{_≡_, sym, _∙_}
 use mathlib.Core.Bool.{true}
-use denote.Ref.{now}
 use borrow.Author.Needs.{needs}
 use borrow.Author.Tests.{not-true, not-false}
 use Rattle.machine.specs.SoundTest.{isSound}

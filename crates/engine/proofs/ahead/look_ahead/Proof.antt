@@ -1,7 +1,4 @@
 -- Tick and mask are the definition's, so the status is asked and told of them.
-use mathlib.Core.Path.{_≡_, sym}
-use native.Mathlib.Omega.{arith}
-use denote.Ref.{now}
 use borrow.Author.Needs.{needs}
 use Rattle.bitset.specs.Bits.{maskOf-lt}
 use Rattle.machine.specs.Reach.{isDue}
