@@ -11,7 +11,7 @@ ghost use Rattle.dynamics.specs.Ticks.{tickAt, TicksReady, DueReady, Pos
 use integers::divide_up;
 use machine::State;
 
-// The tick at which a move of `speed` a tick, begun at `from`, has gone `distance`: "first the distance to the level ahead, then the division".
+// The tick at which a move of `speed` a tick, begun at `from`, has gone `distance`: the distance is worked out first, then divided, as in source document 002 (M5).
 fn tick_at(from: u32, distance: i64, speed: i64) -> u32
     requires { ⌜ TicksReady from distance speed ⌝ }
     ensures { λ r. ⌜ r ≡ tickAt from distance speed ⌝ }
