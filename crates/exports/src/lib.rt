@@ -98,7 +98,7 @@ pub extern "C" fn cup_write(state: State, buffer: &mut [u8]) -> Written
     write(state, buffer)
 }
 
-// "A sound state": whether every call that takes a state would accept it.
+// "A sound state": whether the state is one, so that no call declines it by 10.
 #[no_mangle]
 pub extern "C" fn cup_sound(state: State) -> bool
     ensures { λ r. ⌜ r ≡ isSound state ⌝ }

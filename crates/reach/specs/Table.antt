@@ -45,8 +45,8 @@ unfoldable pub reachTable : Plan → List ℕ
 reachTable p = tableFrom (p .n + p .m) (p .k) (p .links) (p .kinds) (p .lefts) (p .rights) (p .targets) (p .sources)
 
 -- the entries of the sources in a mask, joined
-unfoldable pub heardBy : List ℕ → ℕ → ℕ
-heardBy table changed = each (λ i entries. union entries (nat table i)) (has changed) 64 0
+unfoldable pub entriesOf : List ℕ → ℕ → ℕ
+entriesOf table changed = each (λ i entries. union entries (nat table i)) (has changed) 64 0
 
 -- what the links ask, and what the nodes ask: operands are sources of a lower number
 pub record Linked (targets sources : List ℕ) (links : ℕ) : Type 0 where

@@ -2,7 +2,7 @@
 // for a run, has an entry of 64 bits for each source: bit i is set where a change of the source reaches integrator i, bit 32 + j where it touches node j.
 ghost use mathlib.Core.Path.{_≡_};
 ghost use Prim.Native.Nat.{_+_, _/_, _%_, _^_, _≤_, _<_};
-ghost use Rattle.reach.specs.Table.{linked, ownNodes, added, handedDown, spreadFrom, tableFrom, heardBy, Linked, Wired};
+ghost use Rattle.reach.specs.Table.{linked, ownNodes, added, handedDown, spreadFrom, tableFrom, entriesOf, Linked, Wired};
 use bitset::lowest64;
 use bitset::rest64;
 use bitset::union64;
@@ -103,8 +103,8 @@ pub fn reach_table<'a>(
 }
 
 // The entries of the changed sources, joined.
-fn heard(changed: u64, table: &[u64; 64]) -> u64
-    ensures { λ r. ⌜ r ≡ heardBy (now (table .entry)) changed ⌝ }
+fn entries_of(changed: u64, table: &[u64; 64]) -> u64
+    ensures { λ r. ⌜ r ≡ entriesOf (now (table .entry)) changed ⌝ }
 {
     let mut left = changed;
     let mut entries: u64 = 0;
@@ -123,9 +123,9 @@ pub struct Reach {
 }
 
 pub fn reached_by(changed: u64, table: &[u64; 64]) -> Reach
-    ensures { λ r. ⌜ (r .integrators ≡ heardBy (now (table .entry)) changed % 2 ^ 32) × (r .nodes ≡ heardBy (now (table .entry)) changed / 2 ^ 32) ⌝ }
+    ensures { λ r. ⌜ (r .integrators ≡ entriesOf (now (table .entry)) changed % 2 ^ 32) × (r .nodes ≡ entriesOf (now (table .entry)) changed / 2 ^ 32) ⌝ }
 {
-    let entries = heard(changed, table);
+    let entries = entries_of(changed, table);
     let integrators = (entries % 4294967296) as u32;
     let nodes = (entries >> 32) as u32;
     Reach { integrators, nodes }

@@ -1,4 +1,4 @@
-// "A sound state": the test that every call makes of a state before it uses it. It asks nothing of the state: each number is bounded before it is used as
+// "A sound state": the test behind refusal 10. It asks nothing of the state: each number is bounded before it is used as
 // an index, a factor or a term.
 ghost use mathlib.Core.Path.{_≡_};
 ghost use Rattle.machine.specs.SoundTest.{isSound};

@@ -40,7 +40,7 @@ use Rattle.dynamics.specs.Standing.{DueReach}
 use Rattle.dynamics.specs.Laws.SourceValues.{nodes-ready, values-length, values-at, values-sized}
 use Rattle.dynamics.specs.Laws.Standings.{due-reach}
 use Rattle.dynamics.specs.Laws.Touched as touched
-use Rattle.reach.specs.Table.{heardBy}
+use Rattle.reach.specs.Table.{entriesOf}
 use Rattle.reach.specs.Laws.Reached as reaching
 use Rattle.instant.specs.Commands.{obeying, obeyFrom, CommandsReady}
 use Rattle.instant.specs.Outputs.{outputting, outputOne}
@@ -183,7 +183,7 @@ module _ (p : Plan) (r : Running) {t due : ℕ} {ranges reach : List ℕ} {value
 
     -- ---- 3. and 4.
     module _ {changed nodes reached-set : ℕ} (changed-is : changed ≡ joinedOf due commanded (p .n))
-        (reached-is : reached-set ≡ heardBy reach changed % 2 ^ 32) (nodes-is : nodes ≡ heardBy reach changed / 2 ^ 32) where
+        (reached-is : reached-set ≡ entriesOf reach changed % 2 ^ 32) (nodes-is : nodes ≡ entriesOf reach changed / 2 ^ 32) where
       changed-then : changed ≡ maskOf (changes p (r .d) t) (p .n + p .m)
       changed-then = changed-is ∙ reaching.joined-changes p (r .d) t due commanded (ready .due-set) (done .commanded-are)
 

@@ -12,7 +12,7 @@ use borrow.Author.Tests.{eq-eqb, ne-eqb}
 use Rattle.bitset.specs.Mask.{has, each, union}
 use Rattle.bitset.specs.Bits.{has-none, has-or, has-with}
 use Rattle.plan.specs.Lists.{nat, some}
-use Rattle.reach.specs.Table.{marked, added, handedDown, heardBy, Wired}
+use Rattle.reach.specs.Table.{marked, added, handedDown, entriesOf, Wired}
 use Rattle.reach.specs.Laws.Some.{some-ext, some-none, some-also}
 
 -- bit b stands in the entry of a source that is in `sources`
@@ -20,9 +20,9 @@ unfoldable pub inEntries : List ℕ → (ℕ → Bool) → ℕ → Bool
 inEntries table sources b = some (λ i. sources i && has (nat table i) b) 64
 
 -- the entries joined
-pub heard-has : (table : List ℕ) (changed b : ℕ) → has (heardBy table changed) b ≡ inEntries table (has changed) b
-unfolding heardBy inEntries each some
-heard-has table changed b = below 64
+pub entries-of-has : (table : List ℕ) (changed b : ℕ) → has (entriesOf table changed) b ≡ inEntries table (has changed) b
+unfolding entriesOf inEntries each some
+entries-of-has table changed b = below 64
   where
     join : ℕ → ℕ → ℕ
     join i entries = union entries (nat table i)

@@ -17,10 +17,10 @@ use Rattle.plan.specs.Rules.{PlanRules}
 use Rattle.plan.specs.Laws.Counts.{counts-of}
 use Rattle.plan.specs.declared.Plan.{Plan}
 use Rattle.machine.specs.Reach.{isDue, isCommanded, changes, dependsWith, linkReaches, reached}
-use Rattle.reach.specs.Table.{linked, ownNodes, spreadFrom, tableFrom, reachTable, heardBy, Linked, Wired}
+use Rattle.reach.specs.Table.{linked, ownNodes, spreadFrom, tableFrom, reachTable, entriesOf, Linked, Wired}
 use Rattle.reach.specs.Laws.Some.{some-ext, some-none, some-only}
 use Rattle.reach.specs.Laws.Masks.{mask-is, has-low, joined-is}
-use Rattle.reach.specs.Laws.Entries.{inEntries, heard-has, entries-ext, entries-none, marked-length, marked-entries}
+use Rattle.reach.specs.Laws.Entries.{inEntries, entries-of-has, entries-ext, entries-none, marked-length, marked-entries}
 use Rattle.reach.specs.Laws.Entries.{handed-length, handed-entries}
 
 -- numbers that differ
@@ -135,7 +135,7 @@ module _ (p : Plan) (rules : PlanRules p) where
     -- ---- the sources that change, as a mask
     module _ (changed : ℕ) (all : changed ≡ maskOf (changes p d t) (p .n + p .m)) where
       abbrev entries : ℕ
-      entries = heardBy (reachTable p) changed
+      entries = entriesOf (reachTable p) changed
 
       changed-has : (i : ℕ) → has changed i ≡ changes p d t i
       unfolding dependsWith
@@ -150,14 +150,14 @@ module _ (p : Plan) (rules : PlanRules p) where
       entries-has : (b : ℕ) → has entries b ≡ inEntries own (dependsWith p d t (p .k)) b
       unfolding reachTable tableFrom
       entries-has b =
-          heard-has (reachTable p) changed b ∙ entries-ext (reachTable p) (has changed) (changes p d t) b changed-has
+          entries-of-has (reachTable p) changed b ∙ entries-ext (reachTable p) (has changed) (changes p d t) b changed-has
           ∙ spread-has (p .k) b own (omega arith) own-length
 
       low-has : (i : ℕ) → i < 32 → has (entries % 2 ^ 32) i ≡ reached p d t i
       unfolding reached linkReaches
       low-has i h = has-low entries 32 i h ∙ entries-has i ∙ own-low (dependsWith p d t (p .k)) i h
 
-      pub reached-mask : heardBy (reachTable p) changed % 2 ^ 32 ≡ maskOf (reached p d t) (p .n)
+      pub reached-mask : entriesOf (reachTable p) changed % 2 ^ 32 ≡ maskOf (reached p d t) (p .n)
       reached-mask =
           mask-is (entries % 2 ^ 32) (p .n) (reached p d t) (λ i h. low-has i (omega (arith, counts-of p (rules .counts) .n)))
           (λ i h. above i h (ltb i 32) refl)
@@ -169,7 +169,7 @@ module _ (p : Plan) (rules : PlanRules p) where
       high-has : (j : ℕ) → has (entries / 2 ^ 32) j ≡ inEntries own (dependsWith p d t (p .k)) (32 + j)
       high-has j = has-shr entries 32 j ∙ entries-has (32 + j)
 
-      pub touched-mask : heardBy (reachTable p) changed / 2 ^ 32 ≡ maskOf (λ j. dependsWith p d t (p .k) (p .n + p .m + j)) (p .k)
+      pub touched-mask : entriesOf (reachTable p) changed / 2 ^ 32 ≡ maskOf (λ j. dependsWith p d t (p .k) (p .n + p .m + j)) (p .k)
       touched-mask =
           mask-is (entries / 2 ^ 32) (p .k) (λ j. dependsWith p d t (p .k) (p .n + p .m + j))
           (λ j h. high-has j ∙ own-node (dependsWith p d t (p .k)) j h) (λ j h. high-has j ∙ own-past (dependsWith p d t (p .k)) j h)

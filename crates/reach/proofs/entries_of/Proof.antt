@@ -1,4 +1,4 @@
--- `reach::heard` meets its contract: joining the entries of the sources that are left ends where joining all ends. Assumes nothing.
+-- `reach::entries_of` meets its contract: joining the entries of the sources that are left ends where joining all ends. Assumes nothing.
 use borrow.Author.Needs.{needs}
 use mathlib.Core.Path.{_≡_, refl, ap, _∙_}
 use mathlib.Core.List.{List}
@@ -7,22 +7,22 @@ use native.Mathlib.Omega.{arith}
 use Rattle.bitset.specs.Mask.{has, each, union}
 use Rattle.bitset.specs.Visiting.{rest-lt, lowest-lt, each-turn, each-done}
 use Rattle.plan.specs.Lists.{nat}
-use Rattle.reach.specs.Table.{heardBy}
-use Rattle.reach.proofs.heard.Statement.{statement}
-use Rattle.reach.proofs.heard.Tie as tie
+use Rattle.reach.specs.Table.{entriesOf}
+use Rattle.reach.proofs.entries_of.Statement.{statement}
+use Rattle.reach.proofs.entries_of.Tie as tie
 
 abbrev join : List ℕ → ℕ → ℕ → ℕ
 join table i entries = union entries (nat table i)
 
 abbrev Inv-loop : tie.InvT-loop
 Inv-loop changed table left₀ entries₀ left entries =
-    (left < 2 ^ 64) × (each (join table) (has left) 64 entries ≡ heardBy table changed)
+    (left < 2 ^ 64) × (each (join table) (has left) 64 entries ≡ entriesOf table changed)
 
 abbrev μ-loop : tie.MeasureT-loop
 μ-loop changed table left₀ entries₀ left entries = left
 
 loop-holds : tie.Need-loop-holds Inv-loop μ-loop
-unfolding heardBy
+unfolding entriesOf
 loop-holds c = (omega arith, refl)
 
 lowest64-requires : tie.Need-lowest64-requires Inv-loop μ-loop
@@ -63,8 +63,8 @@ returns c =
     let l = c .before .loop in
     each-done (join (c .before .before .args .table .now)) 64 (l .left) (l .entries) _ (c .loop-test .left) (l .inv .1)
 
-pub heard-spec : {M : Type 1} → statement M
-heard-spec =
+pub entries-of-spec : {M : Type 1} → statement M
+entries-of-spec =
     tie.close
     (tie.spec
     Inv-loop
