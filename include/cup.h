@@ -160,10 +160,12 @@ bool cup_sound(CupState state);
 /* Hands the state back, sound or not. */
 CupState cup_echo(CupState state);
 
-/* The tables that a run works out once.
+/* The tables that a run works out once. This call is for tests: its contract is that these are the
+ * tables that the run itself works with; what follows describes their entries.
  *
- * ranges[i] is the first link whose target is i or above, for i up to n: the links of integrator i
- * are those from ranges[i] to before ranges[i + 1]. Entries above n are 0.
+ * ranges[i] is the first link whose target is i or above, or the number of links if there is none,
+ * for i up to n: the links of integrator i are those from ranges[i] to before ranges[i + 1]. Entries
+ * above n are 0.
  *
  * reach[source] says what a change of that source reaches: bit i for each integrator i with a link
  * that names the source or a node that depends on it, bit 32 + j for each node j that depends on it,

@@ -1,9 +1,10 @@
 //! The proved calls for Rust: the reader of plan files, the section view and the plan writer; in
 //! [`machine`] the calls on a [`state`].
 //!
-//! The functions come from the library that `rt staticlib exports` makes of the proved crates. Only
-//! this file and [`machine`] have unsafe code: what the C functions ask of their pointers is what
-//! references and slices give. [`campaign`] compares the calls with the second simulator.
+//! The functions come from the library that `rt staticlib exports` makes of the proved crates. The
+//! module `exports` declares them, and only this file and [`machine`] call them and so have unsafe
+//! code: what the C functions ask of their pointers is what references and slices give. [`campaign`]
+//! compares the calls with the second simulator.
 
 #![deny(unsafe_code)]
 #![warn(missing_docs)]

@@ -7,6 +7,7 @@
 #include "cup.h"
 #include <inttypes.h>
 #include <stdio.h>
+#include <stdlib.h>
 #include <string.h>
 
 /* Every field, as ONE(part, field) or MANY(part, field). */
@@ -46,8 +47,10 @@ static void print_layout(void)
 static uint64_t number(void)
 {
     uint64_t read = 0;
-    if (scanf("%" SCNu64, &read) != 1)
+    if (scanf("%" SCNu64, &read) != 1) {
         fprintf(stderr, "too few numbers\n");
+        exit(1);
+    }
     return read;
 }
 

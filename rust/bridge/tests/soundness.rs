@@ -1,4 +1,5 @@
-//! The proved test of soundness against the second simulator's, on at least [`STATES`] states.
+//! The proved test of soundness against the second simulator's, on at least [`STATES`] states, more
+//! than a million of them made by changing a sound one.
 //!
 //! CUP_STATES asks for more states, CUP_SEED for other ones, and CUP_LAPSE exchanges a test of the
 //! second simulator, which has to make this test fail.

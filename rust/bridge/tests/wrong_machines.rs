@@ -99,8 +99,10 @@ enum Fault {
     InstantLazyForEager,
     InstantUnusedTouched,
     TablesWithoutEnd,
+    TablesInnerRange,
     TablesWithoutOwnBit,
     TablesOfInputsAlone,
+    TablesNodeValue,
     TablesWithoutNodes,
     TablesOfUnsound,
 }
@@ -149,10 +151,12 @@ const PLAYING: [Fault; 18] = [
 ];
 
 /// Faults of the tables.
-const TABLES: [Fault; 5] = [
+const TABLES: [Fault; 7] = [
     Fault::TablesWithoutEnd,
+    Fault::TablesInnerRange,
     Fault::TablesWithoutOwnBit,
     Fault::TablesOfInputsAlone,
+    Fault::TablesNodeValue,
     Fault::TablesWithoutNodes,
     Fault::TablesOfUnsound,
 ];
@@ -223,8 +227,10 @@ impl Machine for Fault {
         let nodes = state.plan.n.wrapping_add(state.plan.m);
         match self {
             Fault::TablesWithoutEnd => tables.ranges[state.plan.n.min(32)] = 0,
+            Fault::TablesInnerRange if state.plan.n > 1 => tables.ranges[1] = 0,
             Fault::TablesWithoutOwnBit if nodes < 64 => tables.reach[nodes] &= !(1 << 32),
             Fault::TablesOfInputsAlone => tables.values[0] = 0,
+            Fault::TablesNodeValue if nodes < 64 => tables.values[nodes] = 0,
             Fault::TablesWithoutNodes => {
                 tables
                     .reach

@@ -8,6 +8,7 @@ mod compare;
 pub mod instants;
 mod met;
 mod parties;
+mod signs;
 pub mod soundness;
 pub mod starts;
 mod switches;
@@ -16,6 +17,7 @@ pub mod writes;
 
 pub use met::Met;
 pub use parties::{Archive, Machine, Reader, Second};
+pub use signs::Signs;
 
 use compare::compare;
 use cup_check::file::Slip;

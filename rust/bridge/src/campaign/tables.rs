@@ -170,9 +170,8 @@ impl Met {
         self.without_links += integrators.filter(|i| !linked(i)).count() as u64;
     }
 
-    fn counts(&self) -> [(&'static str, u64); 6] {
+    fn counts(&self) -> [(&'static str, u64); 5] {
         [
-            ("states", self.states),
             ("not sound", self.unsound),
             ("integrators reached by a link", self.by_link),
             ("integrators reached by nodes alone", self.by_nodes),
@@ -196,6 +195,6 @@ impl Met {
 impl fmt::Display for Met {
     fn fmt(&self, out: &mut fmt::Formatter) -> fmt::Result {
         let counts = self.counts().map(|(what, count)| format!("{what} {count}"));
-        writeln!(out, "tables: {}", counts.join(", "))
+        writeln!(out, "tables: {} states, {}", self.states, counts.join(", "))
     }
 }

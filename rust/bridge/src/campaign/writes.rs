@@ -38,7 +38,7 @@ pub struct Met {
     pub written: u64,
     /// Buffers too short, by one byte or by more.
     pub short: [u64; 2],
-    /// States that are not sound, with a buffer that is long enough and with one that is not.
+    /// Calls with a state that is not sound, by a buffer that is long enough and by one that is not.
     pub unsound: [u64; 2],
 }
 
@@ -113,19 +113,23 @@ fn check_call(
         return Err(format!("another state: {}", differences.join(", ")));
     }
     if written.number == 0 {
-        check_loaded(machine, &handed, &bytes[buffer][..written.length])?;
+        check_loaded(machine, state, &bytes[buffer][..written.length])?;
     }
     met.count(state, length, written.number);
     Ok(())
 }
 
 /// What is written loads as the start of the same plan.
-fn check_loaded(machine: &dyn Machine, handed: &State, file: &[u8]) -> Result<(), String> {
+fn check_loaded(machine: &dyn Machine, state: &RawState, file: &[u8]) -> Result<(), String> {
     let loaded = machine.load(file);
-    let right = loaded.number == 0 && loaded.state.plan == handed.plan;
-    right
-        .then_some(())
-        .ok_or(format!("what is written loads by {}", loaded.number))
+    let plan = state.plan.to_plan().ok_or("a count above its limit")?;
+    let start = State::from(&RawState::start(&plan));
+    let differences = start.differences(&loaded.state);
+    if (loaded.number, loaded.entry) != (0, 0) || !differences.is_empty() {
+        let (number, differences) = (loaded.number, differences.join(", "));
+        return Err(format!("what is written loads by {number}: {differences}"));
+    }
+    Ok(())
 }
 
 impl Met {
@@ -165,7 +169,7 @@ impl fmt::Display for Met {
         writeln!(out, "  buffers short by one byte {one}, by more {more}")?;
         writeln!(
             out,
-            "  states not sound {unsound}, with a short buffer {both}"
+            "  calls with a state that is not sound {unsound}, with a short buffer too {both}"
         )
     }
 }

@@ -110,9 +110,11 @@ pub struct Ran {
 #[derive(Clone, Debug, PartialEq, Eq)]
 #[repr(C)]
 pub struct Tables {
-    /// For each integrator its first link; the entry n is where the last one's links end.
+    /// The first link whose target is i or above, or the number of links if there is none, for i
+    /// up to n; so integrator i's links are those from its entry to before the next one's.
     pub ranges: [usize; INTEGRATORS_MAX + 1],
-    /// For each source the integrators, and from bit 32 on the nodes, that its change reaches.
+    /// For each source the integrators, and from bit 32 on the nodes, that its change reaches; of
+    /// a node its own bit too.
     pub reach: [u64; TABLE_SOURCES],
     /// The value of each source.
     pub values: [i64; TABLE_SOURCES],

@@ -1,5 +1,6 @@
 //! What the campaign over instants has met.
 
+use crate::campaign::Signs;
 use cup_check::compare;
 use cup_check::engine::Engine;
 use cup_check::generate::Fill;
@@ -14,11 +15,19 @@ use std::fmt;
 /// How often each has to be met.
 const ENOUGH: u64 = 300;
 
+/// How many states of each fill there have to be.
+const ENOUGH_OF_A_FILL: u64 = 1_000;
+
+/// How many instants each engine has to take.
+const ENOUGH_TAKEN: u64 = 100_000;
+
 /// Counts of states and of instants.
 #[derive(Clone, Debug, Default)]
 pub struct Met {
     /// States, by how they were filled.
     pub fills: BTreeMap<Fill, u64>,
+    /// Signs of states that no run leaves.
+    pub signs: Signs,
     /// States with 32 integrators.
     pub widest: u64,
     /// Calls with a buffer too short.
@@ -27,6 +36,8 @@ pub struct Met {
     pub unsound: u64,
     /// Accepted calls by the status that is answered.
     pub statuses: [u64; 3],
+    /// Instants that the lazy and the eager engine took.
+    pub taken: [u64; 2],
     /// Accepted calls that took no instant.
     pub without_instant: u64,
     /// Range answered with several integrators due at the barred tick.
@@ -48,9 +59,10 @@ impl Met {
     }
 
     /// Counts a state.
-    pub fn count_state(&mut self, fill: Fill, plan: &Plan) {
+    pub fn count_state(&mut self, fill: Fill, state: &RawState) {
         *self.fills.entry(fill).or_default() += 1;
-        self.widest += u64::from(plan.integrators.len() == INTEGRATORS_MAX);
+        self.signs.count(state);
+        self.widest += u64::from(state.plan.n == INTEGRATORS_MAX);
     }
 
     /// Counts an accepted call from a state, by the plain machine after it.
@@ -70,6 +82,7 @@ impl Met {
 
     /// Counts an instant that moves so many integrators.
     pub fn count_instant(&mut self, taken: &Taken, moved: usize, engine: Engine, plan: &Plan) {
+        self.taken[usize::from(engine == Engine::Eager)] += 1;
         self.commands[taken.commanded.len().min(2)] += 1;
         if engine == Engine::Eager {
             return;
@@ -86,6 +99,11 @@ impl Met {
         if all > 7 {
             self.of_many[usize::from(moved < all)] += 1;
         }
+    }
+
+    fn taken(&self) -> [(&'static str, u64); 2] {
+        let [lazy, eager] = self.taken;
+        [("instants, lazy", lazy), ("instants, eager", eager)]
     }
 
     fn counts(&self) -> Vec<(&'static str, u64)> {
@@ -122,22 +140,31 @@ impl Met {
 
     /// What was met too seldom to count as compared.
     pub fn thin(&self) -> Vec<String> {
-        let fills = Fill::ALL.map(|fill| self.fills.get(&fill).copied().unwrap_or(0));
-        let fills = fills.into_iter().map(|count| ("states of a fill", count));
-        let all = self.counts().into_iter().chain(fills);
-        let seldom = all.filter(|(_, count)| *count < ENOUGH);
+        let of_fill = |fill: Fill| self.fills.get(&fill).copied().unwrap_or(0);
+        let fills = Fill::ALL.map(|fill| (format!("{fill:?}"), of_fill(fill), ENOUGH_OF_A_FILL));
+        let taken = self.taken();
+        let taken = taken.map(|(what, count)| (what.to_string(), count, ENOUGH_TAKEN));
+        let counts = self.counts().into_iter();
+        let counts = counts.map(|(what, count)| (what.to_string(), count, ENOUGH));
+        let all = counts.chain(fills).chain(taken);
+        let seldom = all.filter(|(_, count, least)| count < least);
         seldom
-            .map(|(what, count)| format!("{what}: {count}"))
+            .map(|(what, count, _)| format!("{what}: {count}"))
+            .chain(self.signs.thin())
             .collect()
     }
 }
 
 impl fmt::Display for Met {
     fn fmt(&self, out: &mut fmt::Formatter) -> fmt::Result {
-        let states = self.states();
-        writeln!(out, "instants: {states} states, each by both engines")?;
+        let (states, taken) = (self.states(), self.taken.iter().sum::<u64>());
+        writeln!(
+            out,
+            "instants: {states} states, each by both engines, {taken} instants taken"
+        )?;
         writeln!(out, "  how they were filled: {:?}", self.fills)?;
-        for (what, count) in self.counts() {
+        let named = self.signs.counts().into_iter().chain(self.taken());
+        for (what, count) in named.chain(self.counts()) {
             writeln!(out, "  {what}: {count}")?;
         }
         Ok(())

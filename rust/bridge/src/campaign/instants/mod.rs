@@ -14,8 +14,8 @@ use compare::Comparison;
 use cup_check::engine::Wrong;
 use cup_check::generate::{Family, Fill, Rng};
 
-/// States that the gate compares at least, each by both engines.
-pub const STATES: u64 = 100_000;
+/// States that the gate compares at least, each by both engines. Five in eight have an instant.
+pub const STATES: u64 = 170_000;
 
 /// States that are filled for one plan.
 const OF_ONE_PLAN: u64 = 2;
@@ -52,17 +52,18 @@ impl Campaign {
             let fill = Fill::ALL[number as usize / Family::ALL.len() % Fill::ALL.len()];
             let plan = family.plan(&mut rng);
             let left = self.states - number * OF_ONE_PLAN;
-            for state in 0..left.min(OF_ONE_PLAN) {
+            for place in 0..left.min(OF_ONE_PLAN) {
+                let state = &fill.state(&mut rng, &plan);
                 let comparison = Comparison {
                     machine,
                     wrong: self.wrong,
                     plan: &plan,
-                    state: &fill.state(&mut rng, &plan),
+                    state,
                 };
-                outcome.met.count_state(fill, &plan);
+                outcome.met.count_state(fill, state);
                 let found = comparison.check(&mut rng, &mut outcome.met);
                 let described = |difference| {
-                    let state = format!("state {state} of plan {number} of seed {}", self.seed);
+                    let state = format!("state {place} of plan {number} of seed {}", self.seed);
                     format!("{state} ({family:?}, {fill:?}), {difference}")
                 };
                 if outcome.found(found.err().map(described)) {

@@ -1,5 +1,7 @@
 //! What the campaign over states has met.
 
+use super::Origin;
+use crate::campaign::Signs;
 use cup_check::file::Cause;
 use cup_check::generate::Fill;
 use cup_check::limits::Section;
@@ -13,6 +15,12 @@ const ENOUGH: u64 = 100;
 
 /// How many sound states there have to be, of bases and of changed ones.
 const ENOUGH_SOUND: u64 = 5_000;
+
+/// How many sound bases of each fill there have to be.
+const ENOUGH_OF_A_FILL: u64 = 1_000;
+
+/// How many states that come from a base by a change there have to be.
+const ENOUGH_CHANGED: u64 = 1_000_000;
 
 /// A clause of "A sound state", taken apart where it asks for several things.
 #[derive(Clone, Copy, Debug, PartialEq, Eq, PartialOrd, Ord)]
@@ -134,23 +142,31 @@ pub struct Count {
 pub struct Met {
     /// States compared.
     pub states: u64,
+    /// Those that come from a base by changing one or two fields or by breaking one clause.
+    pub changed: u64,
     /// Those that are sound.
     pub sound: u64,
     /// Sound ones that were not changed, by how they were filled.
     pub bases: BTreeMap<Fill, u64>,
+    /// Signs of these that no run leaves.
+    pub signs: Signs,
     /// States that break a part of a clause.
     pub broken: BTreeMap<Part, Count>,
 }
 
 impl Met {
-    /// Counts a state by the clauses that it breaks, and one that is not changed by its fill.
-    pub fn count(&mut self, state: &RawState, broken: &[Clause], unchanged: Option<Fill>) {
+    /// Counts a state by where it comes from and by the clauses that it breaks.
+    pub fn count(&mut self, state: &RawState, broken: &[Clause], origin: Origin) {
+        let sound = broken.is_empty();
         self.states += 1;
-        if broken.is_empty() {
-            self.sound += 1;
-            unchanged
-                .into_iter()
-                .for_each(|fill| *self.bases.entry(fill).or_default() += 1);
+        self.sound += u64::from(sound);
+        match origin {
+            Origin::Base(fill) if sound => {
+                *self.bases.entry(fill).or_default() += 1;
+                self.signs.count(state);
+            }
+            Origin::Changed | Origin::Broken(_) => self.changed += 1,
+            Origin::Base(_) | Origin::WithoutIntegrators => (),
         }
         let parts = Part::of(state, broken);
         let alone = u64::from(parts.len() == 1);
@@ -177,9 +193,14 @@ impl Met {
             .map(|part| format!("{part:?}: {:?}", self.of(part)))
             .collect();
         for fill in Fill::ALL {
-            if !self.bases.contains_key(&fill) {
-                thin.push(format!("{fill:?}: none"));
+            let count = self.bases.get(&fill).copied().unwrap_or(0);
+            if count < ENOUGH_OF_A_FILL {
+                thin.push(format!("{fill:?}: {count}"));
             }
+        }
+        thin.extend(self.signs.thin());
+        if self.changed < ENOUGH_CHANGED {
+            thin.push(format!("changed: {}", self.changed));
         }
         let (bases, sound) = (self.sound_bases(), self.sound);
         if bases < ENOUGH_SOUND || sound - bases < ENOUGH_SOUND {
@@ -191,13 +212,17 @@ impl Met {
 
 impl fmt::Display for Met {
     fn fmt(&self, out: &mut fmt::Formatter) -> fmt::Result {
-        let (states, sound, bases) = (self.states, self.sound, self.sound_bases());
+        let (changed, states) = (self.changed, self.states);
+        let (sound, bases) = (self.sound, self.sound_bases());
         writeln!(
             out,
-            "soundness: {states} states, {sound} of them sound, {} of these changed",
+            "soundness: {changed} changed states, {states} in all, {sound} sound, {} of these changed",
             sound - bases
         )?;
         writeln!(out, "  sound and unchanged: {:?}", self.bases)?;
+        for (what, count) in self.signs.counts() {
+            writeln!(out, "    {what}: {count}")?;
+        }
         writeln!(out, "  broken, in all and alone:")?;
         for part in Part::all() {
             let count = self.of(part);

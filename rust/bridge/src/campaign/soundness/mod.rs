@@ -1,7 +1,8 @@
 //! The test of "A sound state" on states of every sort.
 //!
 //! A base is a sound state, filled in one of the ways of [`Fill`] for a random plan. It is compared
-//! as it is, and then changed many times in one or two fields near the limits of a clause.
+//! as it is, and then changed many times in one or two fields near the limits of a clause. A few
+//! states have a plan without integrators instead.
 
 mod met;
 
@@ -15,8 +16,8 @@ use cup_check::generate::{Breakage, Family, Fill, Rng};
 use cup_check::raw::RawState;
 use cup_check::sound::{broken_by, Clause, Lapse};
 
-/// States that the gate compares at least.
-pub const STATES: u64 = 1_000_000;
+/// States that the gate compares at least, bases and states without integrators among them.
+pub const STATES: u64 = 1_150_000;
 
 /// States that come from one base, the base among them.
 const OF_ONE_BASE: u64 = 40;
@@ -34,9 +35,9 @@ pub struct Campaign {
 
 /// How a state comes from its base.
 #[derive(Clone, Copy, Debug, PartialEq, Eq)]
-enum Origin {
-    /// The base itself.
-    Base,
+pub enum Origin {
+    /// The base itself, filled in this way.
+    Base(Fill),
     /// One or two fields changed.
     Changed,
     /// One clause broken and all others kept.
@@ -66,11 +67,10 @@ impl Campaign {
             let mut state = base.state.clone();
             let left = self.states - number * OF_ONE_BASE;
             for step in 0..left.min(OF_ONE_BASE) {
-                let origin = origin(&mut rng, step);
+                let origin = base.origin(&mut rng, step);
                 base.lead_to(&mut rng, origin, &mut state);
                 let broken = broken_by(&table, &state);
-                let unchanged = (origin == Origin::Base).then_some(base.fill);
-                outcome.met.count(&state, &broken, unchanged);
+                outcome.met.count(&state, &broken, origin);
                 let found = compare(machine, &state, &broken);
                 let described = |what| {
                     let base = base.described(&state);
@@ -108,11 +108,20 @@ impl Base {
         }
     }
 
+    fn origin(&self, rng: &mut Rng, step: u64) -> Origin {
+        match rng.below(500) {
+            _ if step == 0 => Origin::Base(self.fill),
+            0 => Origin::WithoutIntegrators,
+            1..=50 => Origin::Broken(rng.pick(&Breakage::ALL)),
+            _ => Origin::Changed,
+        }
+    }
+
     /// Fills a state from this one; but for the base itself it is another.
     fn lead_to(&self, rng: &mut Rng, origin: Origin, state: &mut RawState) {
         state.clone_from(&self.state);
         match origin {
-            Origin::Base => return,
+            Origin::Base(_) => return,
             Origin::Changed => (),
             Origin::WithoutIntegrators => *state = without_integrators(rng),
             Origin::Broken(breakage) => {
@@ -134,15 +143,6 @@ impl Base {
         let more = if changes.len() > most { ", .." } else { "" };
         let shown = changes[..changes.len().min(most)].join(", ");
         format!("{:?}, {:?}, {shown}{more}", self.family, self.fill)
-    }
-}
-
-fn origin(rng: &mut Rng, step: u64) -> Origin {
-    match rng.below(500) {
-        _ if step == 0 => Origin::Base,
-        0 => Origin::WithoutIntegrators,
-        1..=50 => Origin::Broken(rng.pick(&Breakage::ALL)),
-        _ => Origin::Changed,
     }
 }
 
