@@ -1,4 +1,4 @@
--- `engine::commands::obey_commands` meets its contract: obeying from command e on ends where obeying from the next command on ends.
+-- `instant::commands::obey_commands` meets its contract: obeying from command e on ends where obeying from the next command on ends.
 -- Assumes nothing.
 use mathlib.Core.Path.{_≡_, refl, sym, _∙_}
 use Prim.Native.Nat.{_-_, _≤_, _<_}

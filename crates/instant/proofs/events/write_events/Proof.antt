@@ -1,4 +1,4 @@
--- `engine::events::write_events` meets its contract: the events of the sources that are left, from the place behind the last event on, end
+-- `instant::events::write_events` meets its contract: the events of the sources that are left, from the place behind the last event on, end
 -- as all of them end from the first place on. Assumes nothing.
 use mathlib.Core.List.{[], _∷_}
 use Prim.Native.Nat.{_<_}

@@ -1,4 +1,4 @@
--- `engine::move_all` meets its contract: moving those that are left ends where moving all of the mask ends. Assumes nothing.
+-- `instant::move_all` meets its contract: moving those that are left ends where moving all of the mask ends. Assumes nothing.
 use mathlib.Core.Path.{_≡_, refl}
 use Prim.Native.Nat.{_^_, _<_}
 use native.Mathlib.Omega.{arith}

@@ -1,4 +1,4 @@
--- `engine::move_one` meets its contract: each answer fits, so the bits of the locals read as the integers. Assumes nothing.
+-- `instant::move_one` meets its contract: each answer fits, so the bits of the locals read as the integers. Assumes nothing.
 use borrow.Author.Needs.{needs, sfits-of}
 use mathlib.Core.Path.{_≡_, _∙_}
 use mir.Syntax.{w64}

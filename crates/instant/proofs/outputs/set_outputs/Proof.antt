@@ -1,4 +1,4 @@
--- `engine::set_outputs` meets its contract: setting the outputs that are left ends where setting all of the mask ends. Assumes nothing.
+-- `instant::set_outputs` meets its contract: setting the outputs that are left ends where setting all of the mask ends. Assumes nothing.
 use mathlib.Core.Path.{_≡_, refl, _∙_}
 use Prim.Native.Nat.{_^_, _<_}
 use native.Mathlib.Omega.{arith}
