@@ -8,11 +8,11 @@ use Rattle.machine.specs.Sound.{Sound}
 use Rattle.machine.specs.declared.Running.{Running}
 use Rattle.machine.specs.declared.State.{State}
 use Rattle.machine.specs.declared.Engine.{Engine}
-use Rattle.engine.specs.declared.runs.Finished.{Finished}
+use Rattle.engine.specs.declared.runs.Ended.{Ended}
 
 -- "answers status, integrator (0 unless range) and bytes written", with the running figures after the run
-unfoldable pub finishedOf : Plan → Engine → ℕ → Running → Finished
-finishedOf p engine budget r =
+unfoldable pub endedOf : Plan → Engine → ℕ → Running → Ended
+endedOf p engine budget r =
     record {
       status = statusOf p (after p engine budget r);
       integrator = integratorOf p (after p engine budget r);

@@ -4,5 +4,5 @@ mod runs;
 
 pub use ahead::Ahead;
 pub use ahead::look_ahead;
-pub use runs::Finished;
+pub use runs::Ended;
 pub use runs::run;

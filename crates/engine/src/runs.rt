@@ -3,7 +3,7 @@ ghost use mathlib.Core.Path.{_≡_};
 ghost use lib.ListN.{length};
 ghost use Rattle.machine.specs.Runs.{events};
 ghost use Rattle.instant.specs.Events.{putAt};
-ghost use Rattle.engine.specs.Running.{finishedOf, RunReady};
+ghost use Rattle.engine.specs.Running.{endedOf, RunReady};
 use crate::ahead::look_ahead;
 use dynamics::link_ranges;
 use dynamics::source_values;
@@ -16,7 +16,7 @@ use machine::State;
 use reach::reach_table;
 
 // The status of the state after a run, its integrator, the bytes written from the buffer's start, and the running figures.
-pub struct Finished {
+pub struct Ended {
     pub status: usize,
     pub integrator: usize,
     pub written: usize,
@@ -24,9 +24,9 @@ pub struct Finished {
 }
 
 // The tables are worked out once; in the loop the plan's arrays are lent where they lie, and those of the running figures as local copies.
-pub fn run(st: State, engine: Engine, budget: u64, buf: &mut [u8]) -> Finished
+pub fn run(st: State, engine: Engine, budget: u64, buf: &mut [u8]) -> Ended
     requires { ⌜ RunReady st budget (length (now buf)) ⌝ }
-    ensures { λ w. ⌜ w ≡ finishedOf (st .plan) engine budget (st .run) ⌝ }
+    ensures { λ w. ⌜ w ≡ endedOf (st .plan) engine budget (st .run) ⌝ }
     ensures { λ _. ⌜ now (buf .exit) ≡ putAt (now (buf .entry)) 0 (events (st .plan) engine budget (st .run)) ⌝ }
 {
     let counts = Counts {
@@ -146,7 +146,7 @@ pub fn run(st: State, engine: Engine, budget: u64, buf: &mut [u8]) -> Finished
         instants: clocks.instants,
         updates: clocks.updates,
     };
-    Finished {
+    Ended {
         status: ahead.status,
         integrator: ahead.integrator,
         written: end,

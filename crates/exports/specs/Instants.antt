@@ -15,8 +15,8 @@ use Rattle.machine.specs.declared.State.{State}
 use Rattle.machine.specs.declared.Engine.{Engine}
 use Rattle.machine.specs.declared.Engine.the-variants.{Lazy, Eager}
 use Rattle.instant.specs.Events.{putAt}
-use Rattle.engine.specs.Running.{finishedOf, RunReady}
-use Rattle.engine.specs.declared.runs.Finished.{Finished}
+use Rattle.engine.specs.Running.{endedOf, RunReady}
+use Rattle.engine.specs.declared.runs.Ended.{Ended}
 use Rattle.simulator.specs.Calls.{roomOf, declineOf, runNumber, ranState, ranEvents, runOf, bufferOfRun}
 use Rattle.simulator.specs.declared.Ran.{Ran}
 
@@ -46,7 +46,7 @@ module _ (engine : Engine) (st : State) (buffer : List ℕ) where
       pub instant-ready : RunReady st 1 (length buffer)
       instant-ready = record { sound = sound-means st .0 yes; room = omega arith }
 
-      pub instant-taken : {finished : Finished} {after : List ℕ} → finished ≡ finishedOf (st .plan) engine 1 (st .run)
+      pub instant-taken : {finished : Ended} {after : List ℕ} → finished ≡ endedOf (st .plan) engine 1 (st .run)
           → after ≡ putAt buffer 0 (events (st .plan) engine 1 (st .run))
           → Answers (record {
             number = 0;
@@ -55,7 +55,7 @@ module _ (engine : Engine) (st : State) (buffer : List ℕ) where
             written = finished .written;
             state = record { plan = st .plan; run = finished .run };
           }) after
-      unfolding runOf bufferOfRun runNumber declineOf roomOf ranState ranEvents finishedOf putAt
+      unfolding runOf bufferOfRun runNumber declineOf roomOf ranState ranEvents endedOf putAt
       instant-taken e a =
           let enough : leb (1 * (st .plan .n + st .plan .m) * 12) (length buffer) ≡ true = le-leb _ (length buffer) (omega arith) in
           (rw (e, yes, enough), a ∙ rw (yes, enough, zero-add))

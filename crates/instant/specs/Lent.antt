@@ -4,10 +4,11 @@ use mathlib.Core.Bool.{true}
 use mathlib.Core.List.{List}
 use Prim.Native.Nat.{ℕ, _+_, _*_, _≤_}
 use lib.IntN.{ℤ}
+use lib.ListN.{length}
 use Rattle.bitset.specs.Mask.{maskOf, allOf, union}
 use Rattle.plan.specs.declared.Plan.{Plan}
 use Rattle.machine.specs.Reach.{isDue}
-use Rattle.machine.specs.Instant.{tickOf}
+use Rattle.machine.specs.Instant.{tickOf, instant, eventsOf}
 use Rattle.machine.specs.Status.{isPaused}
 use Rattle.machine.specs.Sound.{SoundRunning, RunningShaped}
 use Rattle.machine.specs.declared.Running.{Running}
@@ -16,6 +17,7 @@ use Rattle.machine.specs.declared.Engine.the-variants.{Lazy, Eager}
 use Rattle.dynamics.specs.Links.{rangesOf}
 use Rattle.dynamics.specs.Sources.{valuesOf}
 use Rattle.reach.specs.Table.{reachTable}
+use Rattle.instant.specs.Events.{putAt}
 use Rattle.instant.specs.declared.instants.Counts.{Counts}
 use Rattle.instant.specs.declared.instants.Clocks.{Clocks}
 
@@ -76,3 +78,12 @@ pub record InstantReady (p : Plan) (r : Running) (t due : ℕ) (ranges reach : L
   pub reach-is : reach ≡ reachTable p
   pub values-are : values ≡ valuesOf p (r .q) (r .inputs)
   pub room : at + (p .n + p .m) * 12 ≤ size
+
+-- what it leaves: the machine's figures after the instant, the values of all sources by these, the events from byte `at` on and nothing else changed in the buffer, and
+-- the place behind the events
+pub record InstantTaken (p : Plan) (engine : Engine) (r : Running) (at : ℕ) (buffer : List ℕ) (r' : Running) (values' : List ℤ) (buffer' : List ℕ) (end : ℕ)
+    : Type 0 where
+  pub figures : r' ≡ instant p engine r
+  pub sources : values' ≡ valuesOf p (r' .q) (r' .inputs)
+  pub bytes : buffer' ≡ putAt buffer at (eventsOf p r)
+  pub place : end ≡ at + length (eventsOf p r)

@@ -1,11 +1,8 @@
 // "One instant", steps 1 to 6, on lent arrays.
 ghost use mathlib.Core.Path.{_≡_};
-ghost use Prim.Native.Nat.{_+_, _≤_};
+ghost use Prim.Native.Nat.{_≤_};
 ghost use lib.ListN.{length};
-ghost use Rattle.machine.specs.Instant.{instant, eventsOf};
-ghost use Rattle.dynamics.specs.Sources.{valuesOf};
-ghost use Rattle.instant.specs.Events.{putAt};
-ghost use Rattle.instant.specs.Lent.{planOf, runningOf, movedSet, InstantReady};
+ghost use Rattle.instant.specs.Lent.{planOf, runningOf, movedSet, InstantReady, InstantTaken};
 use crate::commands::obey_commands;
 use crate::events::write_events;
 use crate::moves::move_all;
@@ -55,7 +52,8 @@ fn moved_set(engine: Engine, n: usize, due: u32, reached: u32) -> u32
 
 // The instant at t, the next one of a sound and paused state; `due` is the mask of the integrators that are due there. `ranges` and `reach` are the plan's
 // tables. `values` holds the value of every source before the instant and after it; of the nodes only those are worked out that depend on a change, since
-// the others keep their value. All outputs are set before any slope is worked out.
+// the others keep their value. All outputs are set before any slope is worked out. `starts`, `firsts` and `targets` are not read: they are lent so that the
+// contract can name the plan whole.
 pub fn take_instant<'a>(
     engine: Engine,
     counts: Counts,
@@ -91,22 +89,12 @@ pub fn take_instant<'a>(
     requires { ⌜ InstantReady (planOf counts (now starts) (now quanta) (now firsts) (now kinds) (now lefts) (now rights) (now lows) (now highs) (now targets)
         (now sources) (now coefficients) (now ticks) (now numbers) (now settings)) (runningOf (now x) (now q) (now s) (now l) (now d) (now inputs) clocks)
         t due (now ranges) (now reach) (now values) at (length (now buf)) ⌝ }
-    ensures { λ w. ⌜ runningOf (now (x .exit)) (now (q .exit)) (now (s .exit)) (now (l .exit)) (now (d .exit)) (now (inputs .exit)) (w .clocks)
-        ≡ instant (planOf counts (now (starts .entry)) (now (quanta .entry)) (now (firsts .entry)) (now (kinds .entry)) (now (lefts .entry))
+    ensures { λ w. ⌜ InstantTaken (planOf counts (now (starts .entry)) (now (quanta .entry)) (now (firsts .entry)) (now (kinds .entry)) (now (lefts .entry))
         (now (rights .entry)) (now (lows .entry)) (now (highs .entry)) (now (targets .entry)) (now (sources .entry)) (now (coefficients .entry))
         (now (ticks .entry)) (now (numbers .entry)) (now (settings .entry))) engine
-        (runningOf (now (x .entry)) (now (q .entry)) (now (s .entry)) (now (l .entry)) (now (d .entry)) (now (inputs .entry)) clocks) ⌝ }
-    ensures { λ _. ⌜ now (values .exit) ≡ valuesOf (planOf counts (now (starts .entry)) (now (quanta .entry)) (now (firsts .entry)) (now (kinds .entry))
-        (now (lefts .entry)) (now (rights .entry)) (now (lows .entry)) (now (highs .entry)) (now (targets .entry)) (now (sources .entry))
-        (now (coefficients .entry)) (now (ticks .entry)) (now (numbers .entry)) (now (settings .entry))) (now (q .exit)) (now (inputs .exit)) ⌝ }
-    ensures { λ _. ⌜ now (buf .exit) ≡ putAt (now (buf .entry)) at (eventsOf (planOf counts (now (starts .entry)) (now (quanta .entry)) (now (firsts .entry))
-        (now (kinds .entry)) (now (lefts .entry)) (now (rights .entry)) (now (lows .entry)) (now (highs .entry)) (now (targets .entry))
-        (now (sources .entry)) (now (coefficients .entry)) (now (ticks .entry)) (now (numbers .entry)) (now (settings .entry)))
-        (runningOf (now (x .entry)) (now (q .entry)) (now (s .entry)) (now (l .entry)) (now (d .entry)) (now (inputs .entry)) clocks)) ⌝ }
-    ensures { λ w. ⌜ w .end ≡ at + length (eventsOf (planOf counts (now (starts .entry)) (now (quanta .entry)) (now (firsts .entry)) (now (kinds .entry))
-        (now (lefts .entry)) (now (rights .entry)) (now (lows .entry)) (now (highs .entry)) (now (targets .entry)) (now (sources .entry))
-        (now (coefficients .entry)) (now (ticks .entry)) (now (numbers .entry)) (now (settings .entry)))
-        (runningOf (now (x .entry)) (now (q .entry)) (now (s .entry)) (now (l .entry)) (now (d .entry)) (now (inputs .entry)) clocks)) ⌝ }
+        (runningOf (now (x .entry)) (now (q .entry)) (now (s .entry)) (now (l .entry)) (now (d .entry)) (now (inputs .entry)) clocks) at (now (buf .entry))
+        (runningOf (now (x .exit)) (now (q .exit)) (now (s .exit)) (now (l .exit)) (now (d .exit)) (now (inputs .exit)) (w .clocks))
+        (now (values .exit)) (now (buf .exit)) (w .end) ⌝ }
 {
     let n = counts.n;
     let base = n + counts.m;

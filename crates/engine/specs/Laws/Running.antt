@@ -29,11 +29,11 @@ use Rattle.reach.specs.Table.{reachTable}
 use Rattle.engine.specs.Ahead.{aheadOf, AheadReady}
 use Rattle.instant.specs.Events.{putAt}
 use Rattle.instant.specs.Lent.{InstantReady}
-use Rattle.engine.specs.Running.{finishedOf}
+use Rattle.engine.specs.Running.{endedOf}
 use Rattle.engine.specs.Laws.Aheads.{ahead-ready, ahead-is}
 use Rattle.instant.specs.Laws.Buffers.{put-none, put-append, length-put}
 use Rattle.engine.specs.declared.ahead.Ahead.{Ahead}
-use Rattle.engine.specs.declared.runs.Finished.{Finished}
+use Rattle.engine.specs.declared.runs.Ended.{Ended}
 
 -- what lies ahead of the figures r
 abbrev pub aheadAt : Plan → Running → Ahead
@@ -151,12 +151,12 @@ module _ {p : Plan} {engine : Engine} {budget : ℕ} {first : Running} {buffer�
   -- what the code answers and leaves in the buffer, where nothing is left of the run
   abbrev Done : Type 0
   Done =
-      _≡_ {A = Finished} (record { status = ahead .status; integrator = ahead .integrator; written = end; run = r })
-      (finishedOf p engine budget first)
+      _≡_ {A = Ended} (record { status = ahead .status; integrator = ahead .integrator; written = end; run = r })
+      (endedOf p engine budget first)
       × (buffer ≡ putAt buffer₀ 0 (events p engine budget first))
 
   done : (after p engine (budget - taken) r ≡ r) × (events p engine (budget - taken) r ≡ []) → Done
-  unfolding finishedOf
+  unfolding endedOf
   done none =
       let here : r ≡ after p engine budget first = sym (none .0) ∙ now .figures in
       let written : end ≡ length (events p engine budget first) = omega (arith, now .ends, ap length (none .1)) in

@@ -108,7 +108,7 @@ look-ahead-requires-2 : tie.Need-look-ahead-requires-2 Inv-loop μ-loop
 look-ahead-requires-2 c κs =
     let step = c .before .before .before .before .before .before .before .before .before in
     let t = turn (step .before) in
-    law.ahead-ready-then (loop t .loop .inv) (more t) (paused t) (step .take-instant .ensures .0)
+    law.ahead-ready-then (loop t .loop .inv) (more t) (paused t) (step .take-instant .ensures .figures)
 
 add-taken : tie.Need-add-taken Inv-loop μ-loop
 add-taken c =
@@ -123,7 +123,7 @@ loop-again c =
     let step = c .before .before .before .before .before .before .before .before .before .before in
     let t = turn (step .before) in
     let done = step .take-instant .ensures in
-    law.advanced (loop t .loop .inv) (more t) (paused t) (done .0) (done .1 .0) (done .1 .1 .0) (done .1 .1 .1) (c .look-ahead2 .ensures)
+    law.advanced (loop t .loop .inv) (more t) (paused t) (done .figures) (done .sources) (done .bytes) (done .place) (c .look-ahead2 .ensures)
 
 -- ---- the end, by the status or by the budget
 same-length : tie.Need-same-length Inv-loop μ-loop

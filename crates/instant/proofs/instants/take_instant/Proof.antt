@@ -143,7 +143,12 @@ returns c =
     let q = law.outputs-then (p s) (r s) (s .pre) output command in
     let inputs = law.inputs-then (p s) (r s) (s .pre) output command in
     let bytes = law.events-then (p s) (r s) (s .pre) output command changed (told .0) (told .1) work in
-    (running, (values ∙ rw (← q, ← inputs), (wrote .write-events .ensures .1 ∙ rw bytes, wrote .write-events .ensures .0 ∙ rw bytes)))
+    record {
+      figures = running;
+      sources = values ∙ rw (← q, ← inputs);
+      bytes = wrote .write-events .ensures .1 ∙ rw bytes;
+      place = wrote .write-events .ensures .0 ∙ rw bytes;
+    }
 
 pub take-instant-spec : {M : Type 1} → statement M
 take-instant-spec =
