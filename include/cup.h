@@ -1,4 +1,4 @@
-/* The cup simulator: plan files, states, and one instant of the machine, proved against document 01.
+/* The cup simulator: plan files, states, lazy and eager runs, positions, proved against document 01.
  *
  * The functions are in target/staticlib/libexports.a, made by 'rt staticlib exports', for x86-64.
  *
@@ -34,8 +34,10 @@ extern "C" {
  *    9  a command's tick, input or value is outside its limits, or it does not stand above its
  *       predecessor
  *   10  the state is not sound
+ *   11  a run's budget is above 1,024
  *   12  a run's buffer is shorter than budget × (n + m) × 12 bytes
  *   13  the plan writer's buffer is shorter than the file
+ *   14  the position call's integrator number is n or more
  *
  * Of several that a file or a call meets, the lowest is answered. */
 
@@ -59,8 +61,9 @@ extern "C" {
 /* The bytes of an event: tick, source and signed value, little-endian, 32 bits each. */
 #define CUP_EVENT_BYTES 12
 
-/* The longest buffer that cup_instant asks for. */
-#define CUP_INSTANT_BYTES_MAX ((CUP_INTEGRATORS_MAX + CUP_INPUTS_MAX) * CUP_EVENT_BYTES)
+/* The largest budget of a run, and the longest buffer that a run with this budget asks for. */
+#define CUP_BUDGET_MAX 1024
+#define CUP_RUN_BYTES(budget) ((budget) * (CUP_INTEGRATORS_MAX + CUP_INPUTS_MAX) * CUP_EVENT_BYTES)
 
 /* A plan: what the plan file says, number for number. Entries from a section's count on are 0. */
 typedef struct {
@@ -114,11 +117,18 @@ typedef struct {
     CupState state;
 } CupWritten;
 
-/* What cup_instant answers. */
+/* What cup_run_lazy and cup_run_eager answer. */
 typedef struct {
     size_t number, status, integrator, written;
     CupState state;
 } CupRan;
+
+/* What cup_position answers. */
+typedef struct {
+    size_t number;
+    int64_t value;
+    CupState state;
+} CupPositioned;
 
 /* What cup_tables answers. */
 typedef struct {
@@ -174,14 +184,23 @@ CupState cup_echo(CupState state);
  * If the state is not sound all entries are 0. */
 CupTables cup_tables(CupState state);
 
-/* One instant, by the eager or by the lazy engine: what a run with budget 1 answers. It takes the
- * next instant unless the status is 1 or 2 beforehand, writes the instant's events from the buffer's
- * start and answers 0, the status of the state that it answers (0 paused, 1 finished, 2 range), the
- * integrator that bars the next instant (0 unless the status is 2), the number of bytes written and
- * the state; bytes behind them keep their value. If the state is not sound it answers 10, else 12 if
- * the buffer is shorter than (n + m) × 12 bytes; then the other figures are 0, the state is the one
- * handed in and no byte of the buffer changes. */
-CupRan cup_instant(CupState state, bool eager, uint8_t *buffer, size_t buffer_length);
+/* The lazy run and the eager run. Each takes as many instants as the budget says, or fewer if the
+ * status is first 1 or 2, writes their events from the buffer's start and answers 0, the status of the
+ * state that it answers (0 paused, 1 finished, 2 range), the integrator that bars the next instant (0
+ * unless the status is 2), the number of bytes written and the state; bytes behind them keep their
+ * value. If the state is not sound they answer 10, else 11 if the budget is above 1,024, else 12 if the
+ * buffer is shorter than budget × (n + m) × 12 bytes; then the other figures are 0, the state is the
+ * one handed in and no byte of the buffer changes.
+ *
+ * Both write the same events and lead to the same status, clock and positions, in any mix of calls. The
+ * lazy run moves those integrators that an instant concerns, the eager run all; updates count them. */
+CupRan cup_run_lazy(CupState state, uint64_t budget, uint8_t *buffer, size_t buffer_length);
+CupRan cup_run_eager(CupState state, uint64_t budget, uint8_t *buffer, size_t buffer_length);
+
+/* The position call: answers 0, where the integrator is at the state's clock, and the state handed in.
+ * If the state is not sound it answers 10, else 14 if the integrator's number is n or more; then the
+ * value is 0. */
+CupPositioned cup_position(CupState state, size_t integrator);
 
 #ifdef __cplusplus
 }

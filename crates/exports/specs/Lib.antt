@@ -1,4 +1,3 @@
 pub mod Rewriting
 pub mod Viewing
 pub mod Tables
-pub mod Instants

@@ -5,15 +5,13 @@ ghost use lib.ListN.{length};
 ghost use Rattle.plan.specs.Format.{part};
 ghost use Rattle.plan.specs.Refusals.{numberOf, entryOf, findingOf, sectionOf};
 ghost use Rattle.machine.specs.SoundTest.{isSound};
-ghost use Rattle.simulator.specs.Calls.{loadOf, writeOf, bufferOfWrite, runOf, bufferOfRun};
-ghost use Rattle.exports.specs.Instants.{engineOf, declinedWith};
+ghost use Rattle.machine.specs.declared.Engine.the-variants.{Lazy, Eager};
+ghost use Rattle.simulator.specs.Calls.{loadOf, writeOf, bufferOfWrite, runOf, bufferOfRun, positionedOf};
 ghost use Rattle.exports.specs.Tables.{tablesOf};
 ghost use Rattle.exports.specs.Viewing.{viewLength, viewOffset};
 ghost use Rattle.exports.specs.Rewriting.{rewriteNumber, rewriteLength, rewriteBuffer};
 use dynamics::link_ranges;
 use dynamics::source_values;
-use engine::run;
-use machine::Engine;
 use machine::State;
 use plan::Finding;
 use planfile::offset_in;
@@ -23,9 +21,13 @@ use planrules::number_of;
 use planwriter::write_plan;
 use reach::reach_table;
 use simulator::Loaded;
+use simulator::Positioned;
 use simulator::Ran;
 use simulator::Written;
 use simulator::load;
+use simulator::position;
+use simulator::run_eager;
+use simulator::run_lazy;
 use simulator::section;
 use simulator::write;
 use soundness::is_sound;
@@ -168,49 +170,28 @@ pub extern "C" fn cup_tables(state: State) -> Tables
     }
 }
 
-// "0 for every other figure, and the state handed in"
-fn declined(number: usize, state: State) -> Ran
-    ensures { λ r. ⌜ r ≡ declinedWith number state ⌝ }
-{
-    Ran {
-        number,
-        status: 0,
-        integrator: 0,
-        written: 0,
-        state,
-    }
-}
-
-fn engine_of(eager: bool) -> Engine
-    ensures { λ r. ⌜ r ≡ engineOf eager ⌝ }
-{
-    if eager { Engine::Eager } else { Engine::Lazy }
-}
-
-// One instant: what a run with budget 1 answers. For tests.
+// The public call `run_lazy`.
 #[no_mangle]
-pub extern "C" fn cup_instant(state: State, eager: bool, buffer: &mut [u8]) -> Ran
-    ensures { λ r. ⌜ r ≡ runOf (engineOf eager) state 1 (now (buffer .entry)) ⌝ }
-    ensures { λ _. ⌜ now (buffer .exit) ≡ bufferOfRun (engineOf eager) state 1 (now (buffer .entry)) ⌝ }
+pub extern "C" fn cup_run_lazy(state: State, budget: u64, buffer: &mut [u8]) -> Ran
+    ensures { λ r. ⌜ r ≡ runOf Lazy state budget (now (buffer .entry)) ⌝ }
+    ensures { λ _. ⌜ now (buffer .exit) ≡ bufferOfRun Lazy state budget (now (buffer .entry)) ⌝ }
 {
-    if !is_sound(state) {
-        return declined(10, state);
-    }
-    let room = (state.plan.n + state.plan.m) * 12;
-    if buffer.len() < room {
-        return declined(12, state);
-    }
-    let finished = run(state, engine_of(eager), 1, buffer);
-    let after = finished.run;
-    let stepped = State {
-        run: after,
-        ..state
-    };
-    Ran {
-        number: 0,
-        status: finished.status,
-        integrator: finished.integrator,
-        written: finished.written,
-        state: stepped,
-    }
+    run_lazy(state, budget, buffer)
+}
+
+// The public call `run_eager`.
+#[no_mangle]
+pub extern "C" fn cup_run_eager(state: State, budget: u64, buffer: &mut [u8]) -> Ran
+    ensures { λ r. ⌜ r ≡ runOf Eager state budget (now (buffer .entry)) ⌝ }
+    ensures { λ _. ⌜ now (buffer .exit) ≡ bufferOfRun Eager state budget (now (buffer .entry)) ⌝ }
+{
+    run_eager(state, budget, buffer)
+}
+
+// The public call `position`.
+#[no_mangle]
+pub extern "C" fn cup_position(state: State, integrator: usize) -> Positioned
+    ensures { λ r. ⌜ r ≡ positionedOf state integrator ⌝ }
+{
+    position(state, integrator)
 }

@@ -1,9 +1,15 @@
--- The answers of load and write by the cases that their code tells apart. Assumes nothing.
+-- The answers of the calls by the cases that their code tells apart. Assumes nothing.
 use mathlib.Core.Path.{_≡_, sym, _∙_}
 use mathlib.Core.Bool.{true, false}
 use mathlib.Core.List.{List}
-use Prim.Native.Nat.{ℕ}
+use Prim.Native.Nat.{ℕ, _+_, _-_, _*_, _≤_, _<_}
+use native.Mathlib.Nat.{zero-add}
+use native.Mathlib.Omega.{arith}
+use lib.IntN.{ℤ, pos, _+ℤ_, _*ℤ_}
+use lib.Dec.{leb, ltb}
 use lib.ListN.{length}
+use borrow.Author.Tests.{le-leb, lt-leb, lt-ltb, le-ltb}
+use Rattle.plan.specs.Lists.{nat, int}
 use Rattle.plan.specs.Format.{planIn}
 use Rattle.plan.specs.Rules.{CountsRule}
 use Rattle.plan.specs.Refusals.{numberOf, entryOf, isClean, findingOf, accepted}
@@ -13,9 +19,20 @@ use Rattle.machine.specs.Start.{startState, idleState}
 use Rattle.machine.specs.SoundTest.{isSound}
 use Rattle.machine.specs.Laws.Tested.{sound-means}
 use Rattle.machine.specs.declared.State.{State}
-use Rattle.simulator.specs.Calls.{loadOf, writeNumber, writeOf, bufferOfWrite}
+use Rattle.machine.specs.Instant.{positionAt}
+use Rattle.machine.specs.Runs.{events, positionOf}
+use Rattle.machine.specs.declared.Engine.{Engine}
+use Rattle.dynamics.specs.Ticks.{PositionReady}
+use Rattle.dynamics.specs.Laws.Standings.{ready-at}
+use Rattle.instant.specs.Events.{putAt}
+use Rattle.engine.specs.Running.{endedOf, RunReady}
+use Rattle.engine.specs.declared.runs.Ended.{Ended}
+use Rattle.simulator.specs.Calls.{loadOf, writeNumber, writeOf, bufferOfWrite, roomOf, declineOf, runNumber, ranState, ranEvents}
+use Rattle.simulator.specs.Calls.{runOf, bufferOfRun, positionNumber, positionedOf}
 use Rattle.simulator.specs.declared.Loaded.{Loaded}
 use Rattle.simulator.specs.declared.Written.{Written}
+use Rattle.simulator.specs.declared.Ran.{Ran}
+use Rattle.simulator.specs.declared.Positioned.{Positioned}
 
 -- ---- load
 module _ (file : List ℕ) where
@@ -51,3 +68,72 @@ module _ (st : State) (buffer : List ℕ) where
     unfolding writeOf bufferOfWrite writeNumber writtenLength writtenBuffer
     write-whole n =
         let e = written-whole (st .plan) rule (length buffer) (λ z. n (s ∙ z)) in (rw (s, yes, e), a ∙ sym (rw (yes, e)))
+
+-- ---- runs
+-- "and else return number, 0 for every other figure, and the state handed in"
+abbrev pub declinedWith : ℕ → State → Ran
+declinedWith number st = record { number = number; status = 0; integrator = 0; written = 0; state = st }
+
+module _ (engine : Engine) (st : State) (budget : ℕ) (buffer : List ℕ) where
+  abbrev pub RanAs : Ran → List ℕ → Type 0
+  RanAs ran after = (ran ≡ runOf engine st budget buffer) × (after ≡ bufferOfRun engine st budget buffer)
+
+  pub run-unsound : isSound st ≡ false → RanAs (declinedWith 10 st) buffer
+  unfolding runOf bufferOfRun runNumber
+  run-unsound e = (rw e, rw e)
+
+  module _ (yes : isSound st ≡ true) where
+    pub run-above : 1024 < budget → RanAs (declinedWith 11 st) buffer
+    unfolding runOf bufferOfRun runNumber declineOf
+    run-above h = let above = lt-leb budget 1024 h in (rw (yes, above), rw (yes, above))
+
+    module _ (few : budget ≤ 1024) where
+      pub run-short : length buffer < budget * (st .plan .n + st .plan .m) * 12 → RanAs (declinedWith 12 st) buffer
+      unfolding runOf bufferOfRun runNumber declineOf roomOf
+      run-short h =
+          let within = le-leb budget 1024 few in let short = lt-leb (budget * (st .plan .n + st .plan .m) * 12) (length buffer) h in
+          (rw (yes, within, short), rw (yes, within, short))
+
+      module _ (room : budget * (st .plan .n + st .plan .m) * 12 ≤ length buffer) where
+        pub run-ready : RunReady st budget (length buffer)
+        run-ready = record { sound = sound-means st .0 yes; room = room }
+
+        -- from what the engine's run answers, and the buffer that it leaves
+        pub run-accepted : {ended : Ended} {after : List ℕ} → ended ≡ endedOf (st .plan) engine budget (st .run)
+            → after ≡ putAt buffer 0 (events (st .plan) engine budget (st .run))
+            → RanAs (record {
+              number = 0;
+              status = ended .status;
+              integrator = ended .integrator;
+              written = ended .written;
+              state = record { plan = st .plan; run = ended .run };
+            }) after
+        unfolding runOf bufferOfRun runNumber declineOf roomOf ranState ranEvents endedOf putAt
+        run-accepted e a =
+            let within = le-leb budget 1024 few in
+            let enough = le-leb (budget * (st .plan .n + st .plan .m) * 12) (length buffer) room in
+            (rw (e, yes, within, enough), a ∙ rw (yes, within, enough, zero-add))
+
+-- ---- position call
+module _ (st : State) (i : ℕ) where
+  abbrev pub PositionedAs : ℕ → ℤ → Type 0
+  PositionedAs number value = _≡_ {A = Positioned} (record { number = number; value = value; state = st }) (positionedOf st i)
+
+  pub position-unsound : isSound st ≡ false → PositionedAs 10 (pos 0)
+  unfolding positionedOf positionNumber
+  position-unsound e = rw e
+
+  module _ (yes : isSound st ≡ true) where
+    pub position-above : st .plan .n ≤ i → PositionedAs 14 (pos 0)
+    unfolding positionedOf positionNumber
+    position-above h = rw (yes, le-ltb i (st .plan .n) h)
+
+    module _ (known : i < st .plan .n) where
+      pub position-ready : PositionReady (int (st .run .x) i) (int (st .run .s) i) (nat (st .run .l) i) (st .run .clock)
+      position-ready =
+          let sound = sound-means st .0 yes in
+          ready-at (st .plan) (st .run) sound (st .run .clock) (omega arith) i known (omega (arith, sound .integrators i known .ahead))
+
+      pub position-known : PositionedAs 0 (int (st .run .x) i +ℤ int (st .run .s) i *ℤ pos (st .run .clock - nat (st .run .l) i))
+      unfolding positionedOf positionNumber positionOf positionAt
+      position-known = rw (yes, lt-ltb i (st .plan .n) known)

@@ -1,4 +1,10 @@
 // The public calls of the cup simulator: what each answers.
+mod positions;
+mod runs;
+
+pub use positions::position;
+pub use runs::run_eager;
+pub use runs::run_lazy;
 ghost use mathlib.Core.Path.{_≡_};
 ghost use Rattle.plan.specs.Refusals.{sectionOf, sectionStart};
 ghost use Rattle.planfile.specs.Pointers.{further};

@@ -1,6 +1,6 @@
 //! The functions of include/cup.h.
 
-use crate::state::{Loaded, Ran, State, Tables, Written};
+use crate::state::{Loaded, Positioned, Ran, State, Tables, Written};
 
 #[allow(unsafe_code)]
 extern "C" {
@@ -23,5 +23,7 @@ extern "C" {
     pub fn cup_sound(state: State) -> bool;
     pub fn cup_echo(state: State) -> State;
     pub fn cup_tables(state: State) -> Tables;
-    pub fn cup_instant(state: State, eager: bool, buffer: *mut u8, buffer_length: usize) -> Ran;
+    pub fn cup_run_lazy(state: State, budget: u64, buffer: *mut u8, buffer_length: usize) -> Ran;
+    pub fn cup_run_eager(state: State, budget: u64, buffer: *mut u8, buffer_length: usize) -> Ran;
+    pub fn cup_position(state: State, integrator: usize) -> Positioned;
 }

@@ -4,7 +4,7 @@
 //! box, since a state is 10 KB.
 
 use crate::exports;
-use crate::state::{Loaded, Ran, State, Tables, Written};
+use crate::state::{Loaded, Positioned, Ran, State, Tables, Written};
 
 /// Loads a plan file: number, entry, and the start state or the idle state.
 #[allow(unsafe_code)]
@@ -42,13 +42,44 @@ pub fn tables(state: &State) -> Box<Tables> {
     Box::new(unsafe { exports::cup_tables(state.clone()) })
 }
 
-/// What a run with budget 1 answers: 10 for a state that is not sound, 12 for a short buffer, else
-/// one instant unless the status is 1 or 2 beforehand. Later bytes keep their value, and all do if
-/// the number is not 0.
+/// The lazy run: 10 for a state that is not sound, 11 for a budget above 1,024, 12 for a short buffer;
+/// else the budget's instants, or fewer if the status is first 1 or 2, with their events from the
+/// buffer's start. Later bytes keep their value, and all do if the number is not 0.
 #[allow(unsafe_code)]
-pub fn instant(state: &State, eager: bool, buffer: &mut [u8]) -> Box<Ran> {
+pub fn run_lazy(state: &State, budget: u64, buffer: &mut [u8]) -> Box<Ran> {
     // SAFETY: the slice is valid for its length and borrowed mutably; the state goes as a copy.
     Box::new(unsafe {
-        exports::cup_instant(state.clone(), eager, buffer.as_mut_ptr(), buffer.len())
+        exports::cup_run_lazy(state.clone(), budget, buffer.as_mut_ptr(), buffer.len())
     })
+}
+
+/// The eager run, in all else as [`run_lazy`].
+#[allow(unsafe_code)]
+pub fn run_eager(state: &State, budget: u64, buffer: &mut [u8]) -> Box<Ran> {
+    // SAFETY: the slice is valid for its length and borrowed mutably; the state goes as a copy.
+    Box::new(unsafe {
+        exports::cup_run_eager(state.clone(), budget, buffer.as_mut_ptr(), buffer.len())
+    })
+}
+
+/// A run by either engine.
+pub fn run(state: &State, eager: bool, budget: u64, buffer: &mut [u8]) -> Box<Ran> {
+    if eager {
+        run_eager(state, budget, buffer)
+    } else {
+        run_lazy(state, budget, buffer)
+    }
+}
+
+/// One instant: a run with budget 1.
+pub fn instant(state: &State, eager: bool, buffer: &mut [u8]) -> Box<Ran> {
+    run(state, eager, 1, buffer)
+}
+
+/// The position call: 10 for a state that is not sound, 14 for an integrator number of n or more, else
+/// where the integrator is at the state's clock.
+#[allow(unsafe_code)]
+pub fn position(state: &State, integrator: usize) -> Box<Positioned> {
+    // SAFETY: the function is given a copy of the state and a number.
+    Box::new(unsafe { exports::cup_position(state.clone(), integrator) })
 }

@@ -1,4 +1,4 @@
-/* Lists a plan file by single instants of the lazy engine: 'list FILE'.
+/* Lists a plan file by lazy runs with budget 64: 'list FILE'.
  *
  * Prints what document 01's listing program prints, in the words that the second simulator's has. On
  * the way it asks that every state is sound, that the eager engine writes the same events, and that
@@ -10,9 +10,12 @@
 #include <stdlib.h>
 #include <string.h>
 
+/* The budget of each run. */
+#define BUDGET 64
+
 /* Longer than any accepted file, so that a longer one is refused as it should be. */
 static uint8_t file[CUP_FILE_BYTES_MAX + 1], copy[CUP_FILE_BYTES_MAX];
-static uint8_t events[CUP_INSTANT_BYTES_MAX], others[CUP_INSTANT_BYTES_MAX];
+static uint8_t events[CUP_RUN_BYTES(BUDGET)], others[CUP_RUN_BYTES(BUDGET)];
 
 static void demand(int kept, const char *what)
 {
@@ -43,13 +46,13 @@ static void print_events(size_t written)
                (int32_t)word(events + at + 8));
 }
 
-/* One instant by both engines; the lazy one's answer. */
+/* A run by both engines; the lazy one's answer. */
 static CupRan next(const CupState *state)
 {
-    CupRan ran = cup_instant(*state, false, events, sizeof events);
-    CupRan eager = cup_instant(*state, true, others, sizeof others);
-    demand(ran.number == 0 && eager.number == 0, "an instant is declined");
-    demand(cup_sound(ran.state) && cup_sound(eager.state), "an instant leaves an unsound state");
+    CupRan ran = cup_run_lazy(*state, BUDGET, events, sizeof events);
+    CupRan eager = cup_run_eager(*state, BUDGET, others, sizeof others);
+    demand(ran.number == 0 && eager.number == 0, "a run is declined");
+    demand(cup_sound(ran.state) && cup_sound(eager.state), "a run leaves an unsound state");
     demand(ran.written == eager.written && memcmp(events, others, ran.written) == 0,
            "the engines write other events");
     return ran;

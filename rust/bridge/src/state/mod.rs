@@ -90,11 +90,11 @@ pub struct Written {
     pub state: State,
 }
 
-/// `CupRan`, what an instant answers.
+/// `CupRan`, what a run answers.
 #[derive(Clone, Debug, PartialEq, Eq)]
 #[repr(C)]
 pub struct Ran {
-    /// 0, 10 or 12.
+    /// 0, 10, 11 or 12.
     pub number: usize,
     /// 0 paused, 1 finished, 2 range.
     pub status: usize,
@@ -103,6 +103,18 @@ pub struct Ran {
     /// Bytes written.
     pub written: usize,
     /// The state afterwards.
+    pub state: State,
+}
+
+/// `CupPositioned`, what the position call answers.
+#[derive(Clone, Debug, PartialEq, Eq)]
+#[repr(C)]
+pub struct Positioned {
+    /// 0, 10 or 14.
+    pub number: usize,
+    /// x + s × (c − l), 0 if the number is not 0.
+    pub value: i64,
+    /// The state handed in.
     pub state: State,
 }
 

@@ -1,0 +1,106 @@
+-- 10 where the state is not sound, 11 where the budget is above its limit, 12 where the buffer is short, else the engine's answer.
+use mathlib.Core.Path.{_≡_, sym, _∙_}
+use mathlib.Core.Bool.{true}
+use native.Mathlib.Omega.{arith}
+use Prim.Native.Nat.{_+_, _*_, _≤_}
+use denote.Ref.{now}
+use borrow.Author.Needs.{needs}
+use borrow.Author.Tests.{not-true, not-false}
+use Rattle.plan.specs.Laws.Counts.{Counts, counts-of}
+use Rattle.machine.specs.SoundTest.{isSound}
+use Rattle.machine.specs.Laws.Tested.{sound-means}
+use Rattle.machine.specs.declared.State.{State}
+use Rattle.simulator.specs.Calls.{roomOf}
+use Rattle.simulator.specs.Proofs.StateLimits.{room-most}
+use Rattle.simulator.specs.Answers.{run-unsound, run-above, run-short, run-ready, run-accepted}
+use Rattle.simulator.proofs.runs.run_by.Statement.{statement}
+use Rattle.simulator.proofs.runs.run_by.Tie as tie
+
+is-sound-requires : tie.Need-is-sound-requires
+is-sound-requires c κs = search needs
+
+declined-requires : tie.Need-declined-requires
+declined-requires c κs = search needs
+
+returns : tie.Need-returns
+returns c =
+    let test = c .before .before in
+    let answers = run-unsound _ _ _ _ (sym (test .is-sound .ensures) ∙ not-true _ (c .before .if1 .taken)) in
+    (c .declined .ensures ∙ answers .0, answers .1)
+
+-- ---- where the state is sound
+module _ (c : tie.Else1) where
+  abbrev state : State
+  state = c .before .before .before .args .state
+
+  sound : isSound state ≡ true
+  sound = sym (c .before .is-sound .ensures) ∙ not-false _ (c .if1 .left)
+
+  limits : Counts (state .plan)
+  limits = counts-of (state .plan) (sound-means state .0 sound .plan .counts)
+
+declined-requires-2 : tie.Need-declined-requires-2
+declined-requires-2 c κs = search needs
+
+returns-2 : tie.Need-returns-2
+returns-2 c =
+    let e = c .before .before in
+    let answers = run-above _ _ _ _ (sound e) (c .before .if2 .taken) in
+    (c .declined2 .ensures ∙ answers .0, answers .1)
+
+-- ---- where the budget is within its limit
+room-fits : (c : tie.Else2) → let a = c .before .before .before .before .args in a .budget * (a .state .plan .n + a .state .plan .m) * 12 ≤ 491520
+unfolding roomOf
+room-fits c = let e = c .before in room-most (state e .plan) (limits e) _ 1024 (c .if2 .left)
+
+add-room : tie.Need-add-room
+add-room c = let limits = limits (c .before .before) in omega (arith, limits .n, limits .m)
+
+mul-room : tie.Need-mul-room
+mul-room c = omega (arith, room-fits (c .before))
+
+mul-room-2 : tie.Need-mul-room-2
+mul-room-2 c = omega (arith, room-fits (c .before))
+
+declined-requires-3 : tie.Need-declined-requires-3
+declined-requires-3 c κs = search needs
+
+returns-3 : tie.Need-returns-3
+returns-3 c =
+    let e = c .before .before .before in
+    let answers = run-short _ _ _ _ (sound (e .before)) (e .if2 .left) (c .before .if3 .taken) in
+    (c .declined3 .ensures ∙ answers .0, answers .1)
+
+run-requires : tie.Need-run-requires
+run-requires c κs =
+    let e = c .before .before .before in
+    let a = e .before .before .before .before .args in
+    run-ready (a .engine) (a .state) (a .budget) (now (a .buf)) (sound (e .before)) (e .if2 .left) (c .before .if3 .left)
+
+same-length : tie.Need-same-length
+same-length c = search needs
+
+returns-4 : tie.Need-returns-4
+returns-4 c =
+    let ran = c .before .before .before .before in
+    let room = ran .before .before in
+    let e = room .before .before in
+    run-accepted _ _ _ _ (sound (e .before)) (e .if2 .left) (room .if3 .left) (ran .run .ensures .0) (ran .run .ensures .1)
+
+pub run-by-spec : {M : Type 1} → statement M
+run-by-spec =
+    tie.close
+    (tie.spec
+    is-sound-requires
+    declined-requires
+    returns
+    declined-requires-2
+    returns-2
+    add-room
+    mul-room
+    mul-room-2
+    declined-requires-3
+    returns-3
+    run-requires
+    same-length
+    returns-4)

@@ -1,0 +1,33 @@
+// The position call: 10, then 14, else where the integrator is at the clock.
+ghost use mathlib.Core.Path.{_≡_};
+ghost use Rattle.simulator.specs.Calls.{positionedOf};
+use crate::Positioned;
+use machine::State;
+use soundness::is_sound;
+
+// "Position call: x+s×(c−l) for a numbered integrator."
+pub fn position(state: State, integrator: usize) -> Positioned
+    ensures { λ r. ⌜ r ≡ positionedOf state integrator ⌝ }
+{
+    if !is_sound(state) {
+        return Positioned {
+            number: 10,
+            value: 0,
+            state,
+        };
+    }
+    if state.plan.n <= integrator {
+        return Positioned {
+            number: 14,
+            value: 0,
+            state,
+        };
+    }
+    let r = state.run;
+    let value = dynamics::position(r.x[integrator], r.s[integrator], r.l[integrator], r.clock);
+    Positioned {
+        number: 0,
+        value,
+        state,
+    }
+}

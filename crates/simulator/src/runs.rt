@@ -1,0 +1,75 @@
+// The lazy and the eager run: 10, 11 and 12 in order, then the engine's run. Both are one function of the engine, so that they decline alike.
+ghost use mathlib.Core.Path.{_≡_};
+ghost use Rattle.machine.specs.declared.Engine.the-variants.{Lazy, Eager};
+ghost use Rattle.simulator.specs.Answers.{declinedWith};
+ghost use Rattle.simulator.specs.Calls.{runOf, bufferOfRun};
+use crate::Ran;
+use engine::run;
+use machine::Engine;
+use machine::State;
+use soundness::is_sound;
+
+// "A run's budget is above 1,024."
+const LARGEST_BUDGET: u64 = 1024;
+
+// Bytes of an event.
+const EVENT_BYTES: usize = 12;
+
+// "0 for every other figure, and the state handed in"
+fn declined(number: usize, state: State) -> Ran
+    ensures { λ r. ⌜ r ≡ declinedWith number state ⌝ }
+{
+    Ran {
+        number,
+        status: 0,
+        integrator: 0,
+        written: 0,
+        state,
+    }
+}
+
+// The product of refusal 12 is worked out only once the budget is known to be small.
+fn run_by(engine: Engine, state: State, budget: u64, buf: &mut [u8]) -> Ran
+    ensures { λ r. ⌜ r ≡ runOf engine state budget (now (buf .entry)) ⌝ }
+    ensures { λ _. ⌜ now (buf .exit) ≡ bufferOfRun engine state budget (now (buf .entry)) ⌝ }
+{
+    if !is_sound(state) {
+        return declined(10, state);
+    }
+    if LARGEST_BUDGET < budget {
+        return declined(11, state);
+    }
+    let room = budget as usize * (state.plan.n + state.plan.m) * EVENT_BYTES;
+    if buf.len() < room {
+        return declined(12, state);
+    }
+    let ended = run(state, engine, budget, buf);
+    let after = ended.run;
+    let reached = State {
+        run: after,
+        ..state
+    };
+    Ran {
+        number: 0,
+        status: ended.status,
+        integrator: ended.integrator,
+        written: ended.written,
+        state: reached,
+    }
+}
+
+// "The lazy engine moves those due or reached".
+pub fn run_lazy(state: State, budget: u64, buf: &mut [u8]) -> Ran
+    ensures { λ r. ⌜ r ≡ runOf Lazy state budget (now (buf .entry)) ⌝ }
+    ensures { λ _. ⌜ now (buf .exit) ≡ bufferOfRun Lazy state budget (now (buf .entry)) ⌝ }
+{
+    run_by(Engine::Lazy, state, budget, buf)
+}
+
+// "the eager engine all".
+pub fn run_eager(state: State, budget: u64, buf: &mut [u8]) -> Ran
+    ensures { λ r. ⌜ r ≡ runOf Eager state budget (now (buf .entry)) ⌝ }
+    ensures { λ _. ⌜ now (buf .exit) ≡ bufferOfRun Eager state budget (now (buf .entry)) ⌝ }
+{
+    run_by(Engine::Eager, state, budget, buf)
+}
