@@ -2,6 +2,7 @@
 pub mod Calls
 pub mod Answers
 pub mod Lists
+pub mod Sessions
 pub mod Limits
 pub mod Promises
 pub mod Proofs

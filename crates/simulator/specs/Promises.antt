@@ -4,6 +4,7 @@ pub mod Numbers
 pub mod Files
 pub mod Machine
 pub mod Lists
+pub mod Sessions
 pub mod States
 pub mod Calls
 pub mod Limits
@@ -12,6 +13,7 @@ use Rattle.simulator.specs.Promises.Files.{EveryFile, EveryHeader, Every
 use Rattle.simulator.specs.Promises.Machine.{ValuesMean, DueLeast, DueBetween, StartMeans, NextMeans, StepsMean, ReachMeans, Frame}
 use Rattle.simulator.specs.Promises.Machine.{EventsRead, StatusMeans, RunTakes, PlainTakes}
 use Rattle.simulator.specs.Promises.Lists.{ListsMean, GrowthMeans, Demand3}
+use Rattle.simulator.specs.Promises.Sessions.{EverySession}
 use Rattle.simulator.specs.Promises.States.{SoundMeans, LoadSound, RunSound, IdleLoaded, NextDetermined, RunMoves, RunShaped}
 use Rattle.simulator.specs.Promises.Calls.{EveryNumber, Accepted, Declined, EveryBuffer}
 use Rattle.simulator.specs.Promises.Limits.{LimitPromise}
@@ -41,6 +43,7 @@ pub record EveryPromise : Type 0 where
   pub lists-mean : ListsMean
   pub growth-means : GrowthMeans
   pub demand-3 : Demand3
+  pub every-session : EverySession
   pub sound-means : SoundMeans
   pub load-sound : LoadSound
   pub run-sound : RunSound

@@ -18,4 +18,5 @@ pub mod ListCalls
 pub mod Plain
 pub mod Runs
 pub mod Demand3
+pub mod Sessions
 pub mod All

@@ -13,6 +13,7 @@ use Rattle.simulator.specs.Proofs.Events.{events-read}
 use Rattle.simulator.specs.Proofs.Runs.{run-sound, run-moves, run-shaped}
 use Rattle.simulator.specs.Proofs.Folds.{lists-mean, growth-means}
 use Rattle.simulator.specs.Proofs.Demand3.{demand-3}
+use Rattle.simulator.specs.Proofs.Sessions.{every-session}
 
 pub every-promise : EveryPromise
 every-promise =
@@ -40,6 +41,7 @@ every-promise =
       lists-mean = lists-mean;
       growth-means = growth-means;
       demand-3 = demand-3;
+      every-session = every-session;
       sound-means = sound-means;
       load-sound = load-sound;
       run-sound = run-sound;
