@@ -8,6 +8,7 @@
 //! - [`plain`]: the plain machine, naive on purpose, with an observer of what a lazy engine moves;
 //! - [`engine`]: the lazy and the eager engine, which share no code with the plain machine;
 //! - [`raw`], [`sound`], [`calls`]: the state as a struct of arrays, its soundness, the public calls;
+//! - [`fast`]: the lazy engine once more, written for speed, to time the proved one against;
 //! - [`listing`]: the listing program as a function;
 //! - [`generate`]: seeded plans, lists of run calls, states filled by hand and damaged files;
 //! - [`compare`]: any simulator's calls compared with the plain machine;
@@ -19,6 +20,7 @@
 pub mod calls;
 pub mod compare;
 pub mod engine;
+pub mod fast;
 pub mod file;
 pub mod generate;
 pub mod limits;

@@ -4,10 +4,9 @@ mod common;
 
 use common::{compare_random, loaded, rng_of, CHECKER};
 use cup_check::compare::{loaded_list, Met};
-use cup_check::engine::Engine;
 use cup_check::file::rules;
-use cup_check::generate::{Call, Family};
-use cup_check::limits::{BUDGET_MAX, EVENT_BYTES};
+use cup_check::generate::{long_list, Family};
+use cup_check::limits::BUDGET_MAX;
 use cup_check::sound::broken_clauses;
 
 /// Lists tried for each family.
@@ -59,14 +58,9 @@ fn runs_agree_with_the_plain_machine() {
 fn long_runs_agree_with_the_plain_machine() {
     let mut met = Met::default();
     for seed in 0..12 {
-        let plan = Family::Swinging.plan(&mut rng_of(Family::Swinging, seed));
-        let buffer = BUDGET_MAX as usize * plan.events_per_instant() * EVENT_BYTES;
-        let call = |engine| Call {
-            engine,
-            budget: BUDGET_MAX,
-            buffer,
-        };
-        let list = [call(Engine::Lazy), call(Engine::Eager), call(Engine::Lazy)].repeat(4);
+        let mut rng = rng_of(Family::Swinging, seed);
+        let plan = Family::Swinging.plan(&mut rng);
+        let list = long_list(&mut rng, plan.events_per_instant());
         loaded_list(&CHECKER, &plan, &list, &mut met)
             .unwrap_or_else(|difference| panic!("seed {seed}: {difference}"));
     }

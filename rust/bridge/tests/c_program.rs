@@ -54,9 +54,11 @@ one byte short 8, 0 bytes, first a5
     );
 }
 
-/// The listings kept beside the sample plans come from the second simulator.
+/// The listings kept beside the sample plans come from the second simulator. The program itself compares
+/// both engines and asks for every position, and ends with another status if something is not as it
+/// should be.
 #[test]
-fn a_program_in_c_lists_the_samples_by_single_instants() {
+fn a_program_in_c_lists_the_samples_by_runs_of_both_engines() {
     let program = compiled("list");
     for sample in samples::all() {
         let listing = root().join(format!("plans/{}.txt", sample.name));

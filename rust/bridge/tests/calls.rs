@@ -1,6 +1,6 @@
 //! The proved calls from Rust, with answers that are known.
 
-use cup_bridge::machine::{instant, load, sound, tables};
+use cup_bridge::machine::{instant, load, position, run, sound, tables};
 use cup_bridge::state::{State, Tables};
 use cup_bridge::{meaning, read, rewrite, section, Answer, Rewritten};
 use cup_check::samples;
@@ -79,10 +79,13 @@ fn events(bytes: &[u8]) -> Vec<(u32, u32, i32)> {
         .collect()
 }
 
-/// The position of an integrator at the clock.
-fn position(state: &State, i: usize) -> i64 {
-    let run = &state.run;
-    run.x[i] + run.s[i] * i64::from(run.clock - run.l[i])
+/// Where the two integrators of document 01's cup are.
+fn positions(state: &State) -> [i64; 2] {
+    [0, 1].map(|i| {
+        let answer = position(state, i);
+        assert_eq!((answer.number, &answer.state), (0, state));
+        answer.value
+    })
 }
 
 /// Document 01's "A cup in full": events, status, clock, instants and updates, and the positions.
@@ -102,7 +105,7 @@ fn a_cup_in_full_instant_by_instant() {
         assert_eq!(events(&buffer[..second.written]), [(6, 2, -3)]);
         let run = &second.state.run;
         assert_eq!((run.clock, run.instants, run.updates), (6, 2, updates[1]));
-        assert_eq!([0, 1].map(|i| position(&second.state, i)), [18, 24]);
+        assert_eq!(positions(&second.state), [18, 24]);
         // Finished: nothing more happens.
         let third = instant(&second.state, eager, &mut buffer[..36]);
         assert_eq!((third.number, third.status, third.written), (0, 1, 0));
@@ -111,6 +114,49 @@ fn a_cup_in_full_instant_by_instant() {
         let short = instant(&start, eager, &mut [7; 35]);
         assert_eq!((short.number, short.status, short.written), (12, 0, 0));
         assert_eq!(short.state, start);
+    }
+}
+
+/// The same by one call, and what the calls decline.
+#[test]
+fn a_cup_in_full_by_one_run() {
+    let start = load(&kept("plans/sample.plan")).state;
+    assert_eq!(positions(&start), [0, 0]);
+    for (eager, updates) in [(false, 3), (true, 4)] {
+        let mut buffer = [7; 64 * 36];
+        let ran = run(&start, eager, 64, &mut buffer);
+        assert_eq!((ran.number, ran.status, ran.integrator), (0, 1, 0));
+        assert_eq!(events(&buffer[..ran.written]), [(4, 0, 12), (6, 2, -3)]);
+        assert!(buffer[24..].iter().all(|&byte| byte == 7));
+        let after = &ran.state.run;
+        assert_eq!(
+            (after.clock, after.instants, after.updates),
+            (6, 2, updates)
+        );
+        assert_eq!(positions(&ran.state), [18, 24]);
+        // A run of no instant tells the status and needs no buffer.
+        let none = run(&start, eager, 0, &mut []);
+        assert_eq!((none.number, none.status, none.written), (0, 0, 0));
+        assert_eq!(none.state, start);
+        let declined = |state: &State, budget, room: usize| {
+            let mut buffer = vec![7; room];
+            let ran = run(state, eager, budget, &mut buffer);
+            assert_eq!((ran.status, ran.integrator, ran.written), (0, 0, 0));
+            assert_eq!(ran.state, *state);
+            assert!(buffer.iter().all(|&byte| byte == 7));
+            ran.number
+        };
+        assert_eq!(declined(&start, 1_025, 1_025 * 36), 11);
+        assert_eq!(declined(&start, u64::MAX, 0), 11);
+        assert_eq!(declined(&start, 1_024, 1_024 * 36 - 1), 12);
+        let mut unsound = start.clone();
+        unsound.run.updates = 1;
+        assert_eq!(declined(&unsound, 1_025, 0), 10);
+        assert_eq!(position(&unsound, 2).number, 10);
+    }
+    for integrator in [2, 32, 1 << 32, usize::MAX] {
+        let none = position(&start, integrator);
+        assert_eq!((none.number, none.value, &none.state), (14, 0, &start));
     }
 }
 
@@ -149,7 +195,7 @@ fn every_number_means_what_the_readme_says() {
     assert_eq!(meaning(15), meaning(usize::MAX));
 }
 
-/// So has the C header, of the numbers that its functions answer.
+/// So has the C header.
 #[test]
 fn every_number_means_what_the_header_says() {
     let header = String::from_utf8(kept("include/cup.h")).expect("text");
@@ -158,7 +204,7 @@ fn every_number_means_what_the_header_says() {
         .filter(|word| *word != "*")
         .collect();
     let header = words.join(" ");
-    for number in (0..=10).chain([12, 13]) {
+    for number in 0..=14 {
         let row = format!(" {number} {} ", meaning(number));
         assert!(header.contains(&row), "{row}");
     }

@@ -29,11 +29,12 @@ static void print_layout(void)
 #define SIZE(type) printf("%s %zu\n", #type, sizeof(type));
 #define INNER(type, field) printf("%s.%s %zu\n", #type, #field, offsetof(type, field));
     SIZE(CupPlan) SIZE(CupRunning) SIZE(CupState) SIZE(CupLoaded) SIZE(CupWritten) SIZE(CupRan)
-    SIZE(CupTables)
+    SIZE(CupPositioned) SIZE(CupTables)
     INNER(CupLoaded, number) INNER(CupLoaded, entry) INNER(CupLoaded, state)
     INNER(CupWritten, number) INNER(CupWritten, length) INNER(CupWritten, state)
     INNER(CupRan, number) INNER(CupRan, status) INNER(CupRan, integrator) INNER(CupRan, written)
     INNER(CupRan, state)
+    INNER(CupPositioned, number) INNER(CupPositioned, value) INNER(CupPositioned, state)
     INNER(CupTables, ranges) INNER(CupTables, reach) INNER(CupTables, values)
 #define PLACE_ONE(part, field) \
     printf("%s.%s %zu %zu 1\n", #part, #field, offsetof(CupState, part.field), \

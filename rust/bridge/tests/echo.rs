@@ -9,7 +9,7 @@ mod common;
 
 use common::compiled;
 use cup_bridge::machine::{echo, instant, sound, write};
-use cup_bridge::state::{Loaded, Plan, Ran, Running, State, Tables, Written};
+use cup_bridge::state::{Loaded, Plan, Positioned, Ran, Running, State, Tables, Written};
 use cup_check::calls::{Checker, Simulator};
 use cup_check::engine::Engine;
 use cup_check::generate::{plans, Fill, Rng};
@@ -84,6 +84,7 @@ fn layout() -> String {
         format!("CupLoaded {}", size_of::<Loaded>()),
         format!("CupWritten {}", size_of::<Written>()),
         format!("CupRan {}", size_of::<Ran>()),
+        format!("CupPositioned {}", size_of::<Positioned>()),
         format!("CupTables {}", size_of::<Tables>()),
     ];
     macro_rules! places {
@@ -96,6 +97,7 @@ fn layout() -> String {
         Loaded: number entry state;
         Written: number length state;
         Ran: number status integrator written state;
+        Positioned: number value state;
         Tables: ranges reach values;
     );
     for field in filled(0).fields() {

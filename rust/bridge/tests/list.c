@@ -1,8 +1,10 @@
-/* Lists a plan file by lazy runs with budget 64: 'list FILE'.
+/* Lists a plan file by runs of budget 64: 'list FILE'.
  *
- * Prints what document 01's listing program prints, in the words that the second simulator's has. On
- * the way it asks that every state is sound, that the eager engine writes the same events, and that
- * the plan is written back as it was. */
+ * Prints what document 01's listing program prints, in the words that the second simulator's has: the
+ * events and the end of the lazy runs. Beside them the eager runs go their own way from the same start,
+ * and after each call both have to have written the same events and to be at the same status, clock and
+ * positions. On the way it views the sections, asks that every state is sound, that calls which have to
+ * be declined are, and that the plan is written back as it was. */
 
 #include "cup.h"
 #include <inttypes.h>
@@ -10,12 +12,12 @@
 #include <stdlib.h>
 #include <string.h>
 
-/* The budget of each run. */
 #define BUDGET 64
 
 /* Longer than any accepted file, so that a longer one is refused as it should be. */
 static uint8_t file[CUP_FILE_BYTES_MAX + 1], copy[CUP_FILE_BYTES_MAX];
 static uint8_t events[CUP_RUN_BYTES(BUDGET)], others[CUP_RUN_BYTES(BUDGET)];
+static uint8_t none[1];
 
 static void demand(int kept, const char *what)
 {
@@ -46,16 +48,96 @@ static void print_events(size_t written)
                (int32_t)word(events + at + 8));
 }
 
-/* A run by both engines; the lazy one's answer. */
-static CupRan next(const CupState *state)
+/* The sections have as many entries as the state says, and the first integrator starts where it is. */
+static void check_sections(size_t length, const CupState *state)
 {
-    CupRan ran = cup_run_lazy(*state, BUDGET, events, sizeof events);
-    CupRan eager = cup_run_eager(*state, BUDGET, others, sizeof others);
-    demand(ran.number == 0 && eager.number == 0, "a run is declined");
-    demand(cup_sound(ran.state) && cup_sound(eager.state), "a run leaves an unsound state");
-    demand(ran.written == eager.written && memcmp(events, others, ran.written) == 0,
+    const size_t entries[] = { state->plan.n, state->plan.m, state->plan.k, state->plan.links,
+                               state->plan.commands };
+    const size_t bytes[] = { 8, 4, 20, 12, 12 };
+    size_t offset;
+    for (size_t section = 0; section < 5; section++)
+        demand(cup_section(file, length, section, &offset) == entries[section] * bytes[section],
+               "a section has another length");
+    demand(cup_section(file, length, 5, &offset) == 0, "there is a sixth section");
+    demand(cup_section(file, length, 0, &offset) > 0 &&
+               (int32_t)word(file + offset) == state->plan.starts[0],
+           "the first integrator starts elsewhere");
+}
+
+/* Every field; the bytes that fill a struct up between two fields are nobody's. */
+static int is_same(const CupState *one, const CupState *other)
+{
+    size_t counts = offsetof(CupPlan, n), clock = offsetof(CupRunning, clock);
+    return one->plan.horizon == other->plan.horizon &&
+           memcmp((const uint8_t *)&one->plan + counts, (const uint8_t *)&other->plan + counts,
+                  sizeof one->plan - counts) == 0 &&
+           memcmp(&one->run, &other->run, clock) == 0 && one->run.clock == other->run.clock &&
+           one->run.next == other->run.next && one->run.instants == other->run.instants &&
+           one->run.updates == other->run.updates;
+}
+
+/* Both states have every integrator at the same place, and no call has one more. */
+static void check_positions(const CupState *lazy, const CupState *eager)
+{
+    size_t n = lazy->plan.n;
+    for (size_t i = 0; i < n; i++) {
+        CupPositioned one = cup_position(*lazy, i), other = cup_position(*eager, i);
+        demand(one.number == 0 && other.number == 0, "a position is declined");
+        demand(one.value == other.value, "the engines have other positions");
+        demand(is_same(&one.state, lazy) && is_same(&other.state, eager),
+               "a position call answers another state");
+        /* An eager run has moved every integrator at the clock, if it has moved any. */
+        if (eager->run.instants > 0)
+            demand(other.value == eager->run.x[i], "the eager run has not moved all");
+    }
+    demand(cup_position(*lazy, n).number == 14 && cup_position(*lazy, n).value == 0 &&
+               cup_position(*eager, SIZE_MAX).number == 14,
+           "there are more positions than integrators");
+}
+
+static int is_declined(CupRan ran, size_t number, const CupState *state)
+{
+    return ran.number == number && ran.status == 0 && ran.integrator == 0 && ran.written == 0 &&
+           is_same(&ran.state, state);
+}
+
+/* Declined by 11, 12 and 10, with the state handed back and no byte written. */
+static void check_declines(const CupState *state)
+{
+    size_t needed = (state->plan.n + state->plan.m) * CUP_EVENT_BYTES;
+    memset(others, 0xa5, sizeof others);
+    demand(is_declined(cup_run_lazy(*state, CUP_BUDGET_MAX + 1, others, sizeof others), 11, state) &&
+               is_declined(cup_run_eager(*state, UINT64_MAX, none, 0), 11, state),
+           "a budget above 1,024 is not declined");
+    demand(is_declined(cup_run_lazy(*state, 1, others, needed - 1), 12, state) &&
+               is_declined(cup_run_eager(*state, BUDGET, others, BUDGET * needed - 1), 12, state),
+           "a short buffer is not declined");
+    CupState unsound = *state;
+    unsound.run.updates = unsound.run.instants * unsound.plan.n + 1;
+    demand(is_declined(cup_run_lazy(unsound, 1, others, needed), 10, &unsound) &&
+               is_declined(cup_run_eager(unsound, CUP_BUDGET_MAX + 1, none, 0), 10, &unsound) &&
+               cup_position(unsound, 0).number == 10 && cup_position(unsound, SIZE_MAX).number == 10,
+           "an unsound state is not declined");
+    for (size_t at = 0; at < sizeof others; at++)
+        demand(others[at] == 0xa5, "a declined call writes");
+}
+
+/* A call of each engine, each from its own state. */
+static void check_call(CupRan *lazy, CupRan *eager)
+{
+    *lazy = cup_run_lazy(lazy->state, BUDGET, events, sizeof events);
+    *eager = cup_run_eager(eager->state, BUDGET, others, sizeof others);
+    demand(lazy->number == 0 && eager->number == 0, "a run is declined");
+    demand(cup_sound(lazy->state) && cup_sound(eager->state), "a run leaves an unsound state");
+    demand(lazy->written == eager->written && memcmp(events, others, lazy->written) == 0,
            "the engines write other events");
-    return ran;
+    demand(lazy->status == eager->status && lazy->integrator == eager->integrator &&
+               lazy->state.run.clock == eager->state.run.clock &&
+               lazy->state.run.instants == eager->state.run.instants,
+           "the engines come to other moments");
+    demand(eager->state.run.updates == eager->state.run.instants * eager->state.plan.n,
+           "the eager run counts other updates");
+    check_positions(&lazy->state, &eager->state);
 }
 
 int main(int count, char **words)
@@ -67,18 +149,21 @@ int main(int count, char **words)
         printf("refused %zu %zu\n", loaded.number, loaded.entry);
         return 0;
     }
-    CupRan ran = { .state = loaded.state };
+    check_sections(length, &loaded.state);
+    CupRan lazy = { .state = loaded.state }, eager = { .state = loaded.state };
     do {
-        ran = next(&ran.state);
-        print_events(ran.written);
-    } while (ran.status == 0);
-    CupTables tables = cup_tables(ran.state);
-    demand(tables.ranges[ran.state.plan.n] == ran.state.plan.links, "the tables have other links");
-    CupWritten written = cup_write(ran.state, copy, sizeof copy);
+        check_declines(&lazy.state);
+        check_call(&lazy, &eager);
+        print_events(lazy.written);
+    } while (lazy.status == 0);
+    const CupState *end = &lazy.state;
+    CupTables tables = cup_tables(*end);
+    demand(tables.ranges[end->plan.n] == end->plan.links, "the tables have other links");
+    CupWritten written = cup_write(*end, copy, sizeof copy);
     demand(written.number == 0 && written.length == length && memcmp(file, copy, length) == 0,
            "the plan is written otherwise");
-    demand(written.state.run.updates == ran.state.run.updates, "another state comes back");
-    printf("end %zu %" PRIu32 " %" PRIu64 " %" PRIu64 "\n", ran.status, ran.state.run.clock,
-           ran.state.run.instants, ran.state.run.updates);
+    demand(is_same(&written.state, end), "another state comes back");
+    printf("end %zu %" PRIu32 " %" PRIu64 " %" PRIu64 "\n", lazy.status, end->run.clock,
+           end->run.instants, end->run.updates);
     return 0;
 }

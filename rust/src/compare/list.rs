@@ -1,30 +1,52 @@
 //! One list of run calls against one plain machine.
 
+use super::buffer::Marked;
 use super::state::{moment_of, same_as_plain};
-use super::{holds, same, Found, Met};
+use super::{holds, same, same_events, Beside, Called, Found, Met};
 use crate::calls::{Ran, Simulator};
 use crate::calls::{BUDGET_ABOVE, NO_SUCH_INTEGRATOR, SHORT_RUN_BUFFER};
 use crate::engine::Engine;
 use crate::file::encode;
 use crate::file::layout::section_bytes;
 use crate::generate::Call;
-use crate::limits::{BUDGET_MAX, EVENT_BYTES};
+use crate::limits::{BUDGET_MAX, EVENT_BYTES, INTEGRATORS_MAX};
 use crate::plain::{Event, Observer, Plain};
 use crate::plan::Plan;
 use crate::raw::RawState;
 use crate::sound::broken_clauses;
 use std::collections::BTreeSet;
 
+/// Integrator numbers that no plan has, among them those that are low ones if cut to 8, 16 or 32 bits.
+const WILD: [usize; 6] = [
+    INTEGRATORS_MAX,
+    1 << 8,
+    1 << 16,
+    1 << 32,
+    1 << 63,
+    usize::MAX,
+];
+
 /// Loads a lawful plan's file, views its sections, runs the list from the loaded state and writes
 /// the plan again.
 pub fn loaded_list(simulator: &dyn Simulator, plan: &Plan, list: &[Call], met: &mut Met) -> Found {
+    loaded_list_beside(simulator, plan, list, met, &mut ())
+}
+
+/// The same, with what else is compared after each call.
+pub fn loaded_list_beside(
+    simulator: &dyn Simulator,
+    plan: &Plan,
+    list: &[Call],
+    met: &mut Met,
+    beside: &mut dyn Beside,
+) -> Found {
     let file = encode(plan);
     let loaded = simulator.load(&file);
     same("load", (loaded.number, loaded.entry), (0, 0))?;
     same("updates at the start", loaded.state.run.updates, 0)?;
     check_sections(simulator, plan, &file)?;
     let start = Plain::start(plan);
-    let last = compare_list(simulator, start, loaded.state, list, met)?;
+    let last = compare_list(simulator, start, loaded.state, list, met, beside)?;
     check_written(simulator, &last, &file)
 }
 
@@ -36,8 +58,20 @@ pub fn continued_list(
     list: &[Call],
     met: &mut Met,
 ) -> Found {
+    continued_list_beside(simulator, plan, state, list, met, &mut ())
+}
+
+/// The same, with what else is compared after each call.
+pub fn continued_list_beside(
+    simulator: &dyn Simulator,
+    plan: &Plan,
+    state: &RawState,
+    list: &[Call],
+    met: &mut Met,
+    beside: &mut dyn Beside,
+) -> Found {
     let start = Plain::continued(plan, moment_of(state));
-    let last = compare_list(simulator, start, state.clone(), list, met)?;
+    let last = compare_list(simulator, start, state.clone(), list, met, beside)?;
     check_written(simulator, &last, &encode(plan))
 }
 
@@ -48,6 +82,7 @@ fn compare_list(
     state: RawState,
     list: &[Call],
     met: &mut Met,
+    beside: &mut dyn Beside,
 ) -> Result<RawState, String> {
     let mut comparison = Comparison {
         simulator,
@@ -61,7 +96,7 @@ fn compare_list(
     comparison.check_state()?;
     for (number, call) in list.iter().enumerate() {
         let at = |difference| format!("call {number} ({call:?}): {difference}");
-        comparison.check_call(call).map_err(at)?;
+        comparison.check_call(call, beside).map_err(at)?;
     }
     comparison.check_whole_list(start)?;
     Ok(comparison.state)
@@ -77,20 +112,12 @@ fn check_sections(simulator: &dyn Simulator, plan: &Plan, file: &[u8]) -> Found 
 
 /// The writer gives the plan's file back from whatever state the runs have reached.
 fn check_written(simulator: &dyn Simulator, state: &RawState, file: &[u8]) -> Found {
-    let mut buffer = marked_buffer(file.len() + 5);
-    let written = simulator.write(state, &mut buffer);
+    let mut buffer = Marked::new(file.len() + 5);
+    let written = simulator.write(state, buffer.handed());
     same("write", (written.number, written.length), (0, file.len()))?;
-    same("bytes of the written plan", &buffer[..file.len()], file)?;
-    let untouched = &marked_buffer(buffer.len())[file.len()..];
-    same("bytes after the plan", &buffer[file.len()..], untouched)?;
+    same("written plan", buffer.first(file.len()), Some(file))?;
+    same("byte changed", buffer.changed_beside(file.len()), None)?;
     holds("write changed the state", written.state == *state)
-}
-
-/// A buffer whose bytes tell whether they were written to.
-fn marked_buffer(length: usize) -> Vec<u8> {
-    (0..length)
-        .map(|place| (place % 251) as u8 ^ 0x5a)
-        .collect()
 }
 
 struct Comparison<'a> {
@@ -104,15 +131,27 @@ struct Comparison<'a> {
 }
 
 impl Comparison<'_> {
-    fn check_call(&mut self, call: &Call) -> Found {
-        let mut buffer = marked_buffer(call.buffer);
+    fn check_call(&mut self, call: &Call, beside: &mut dyn Beside) -> Found {
+        let mut buffer = Marked::new(call.buffer);
         let ran = self
             .simulator
-            .run(call.engine, &self.state, call.budget, &mut buffer);
+            .run(call.engine, &self.state, call.budget, buffer.handed());
+        let instants_before = self.plain.instants;
         match self.expected_decline(call) {
-            0 => self.check_accepted(call, ran, &buffer),
-            number => self.check_declined(number, &ran, &buffer),
+            0 => self.check_accepted(call, &ran, &buffer)?,
+            number => self.check_declined(number, &ran, &buffer)?,
         }
+        let before = std::mem::replace(&mut self.state, ran.state.clone());
+        if ran.number == 0 {
+            self.check_state()?;
+        }
+        beside.after(&Called {
+            call,
+            before: &before,
+            ran: &ran,
+            written: buffer.first(ran.written).unwrap_or_default(),
+            instants: self.plain.instants - instants_before,
+        })
     }
 
     /// In a list "a call is declined by 11 or 12 only".
@@ -129,29 +168,31 @@ impl Comparison<'_> {
         0
     }
 
-    fn check_declined(&self, number: u32, ran: &Ran, buffer: &[u8]) -> Found {
+    fn check_declined(&self, number: u32, ran: &Ran, buffer: &Marked) -> Found {
         same("number", ran.number, number)?;
         let figures = (ran.status, ran.integrator, ran.written);
         same("figures of a declined call", figures, (0, 0, 0))?;
         holds("a declined call changed the state", ran.state == self.state)?;
-        let untouched = marked_buffer(buffer.len());
-        holds("a declined call changed the buffer", buffer == untouched)
+        same(
+            "byte changed by a declined call",
+            buffer.changed_beside(0),
+            None,
+        )
     }
 
-    fn check_accepted(&mut self, call: &Call, ran: Ran, buffer: &[u8]) -> Found {
+    fn check_accepted(&mut self, call: &Call, ran: &Ran, buffer: &Marked) -> Found {
         same("number", ran.number, 0)?;
         let events_before = self.plain.events.len();
         let moves = self.run_plain(call);
         let status = self.plain.status();
         let answered = (ran.status, ran.integrator);
         same("status", answered, (status.number(), status.integrator()))?;
-        self.check_events(&ran, buffer, events_before)?;
-        self.check_single_instants(call.engine, &ran, buffer, &moves)?;
-        self.check_counts(&ran, &moves)?;
+        self.check_events(ran, buffer, events_before)?;
+        self.check_single_instants(call.engine, ran, buffer, &moves)?;
+        self.check_counts(ran, &moves)?;
         let eager = call.engine == Engine::Eager;
         self.met.count_accepted(eager, moves.len(), &self.plain);
-        self.state = ran.state;
-        self.check_state()
+        Ok(())
     }
 
     /// Feeds the plain machine one accepted budget; answers for each instant of the call which
@@ -162,22 +203,31 @@ impl Comparison<'_> {
         let mut moves = Vec::new();
         let (observer, met) = (&self.observer, &mut *self.met);
         self.plain.run_observed(u128::from(call.budget), |taken| {
-            met.count_instant(taken, observer.moved(taken, true).len(), plan);
-            moves.push(observer.moved(taken, lazy));
+            let moved = observer.moved(taken, true);
+            met.count_instant(taken, moved.len(), plan);
+            if lazy {
+                met.count_lazy(moved.len(), plan);
+                moves.push(moved);
+            } else {
+                moves.push(observer.moved(taken, false));
+            }
         });
         self.budget_sum += u128::from(call.budget);
         moves
     }
 
     /// The bytes written are the plain machine's new events, and "later bytes keep their value".
-    fn check_events(&mut self, ran: &Ran, buffer: &[u8], events_before: usize) -> Found {
+    fn check_events(&mut self, ran: &Ran, buffer: &Marked, events_before: usize) -> Found {
         let new_events = &self.plain.events[events_before..];
         self.met.count_events(new_events);
         let expected: Vec<u8> = new_events.iter().flat_map(Event::bytes).collect();
         same("bytes written", ran.written, expected.len())?;
-        same("events", &buffer[..ran.written], &expected[..])?;
-        let untouched = &marked_buffer(buffer.len())[ran.written..];
-        holds("later bytes changed", buffer[ran.written..] == *untouched)?;
+        same_events(buffer.first(ran.written), &expected)?;
+        same(
+            "later byte changed",
+            buffer.changed_beside(ran.written),
+            None,
+        )?;
         self.joined.extend_from_slice(&expected);
         Ok(())
     }
@@ -189,7 +239,7 @@ impl Comparison<'_> {
         &self,
         engine: Engine,
         ran: &Ran,
-        buffer: &[u8],
+        buffer: &Marked,
         moves: &[BTreeSet<usize>],
     ) -> Found {
         let mut state = self.state.clone();
@@ -208,11 +258,8 @@ impl Comparison<'_> {
             joined.extend(instant_buffer.iter().take(step.written));
             state = step.state;
         }
-        same(
-            "bytes of single instants",
-            &joined[..],
-            &buffer[..ran.written],
-        )?;
+        same_events(buffer.first(ran.written), &joined)
+            .map_err(|difference| format!("joined single instants: {difference}"))?;
         holds("single instants lead to another state", state == ran.state)
     }
 
@@ -227,7 +274,7 @@ impl Comparison<'_> {
     }
 
     /// What has to hold of the state between calls.
-    fn check_state(&self) -> Found {
+    fn check_state(&mut self) -> Found {
         same("broken clauses", broken_clauses(&self.state), Vec::new())?;
         same_as_plain(&self.state, &self.plain)?;
         for (i, &expected) in self.plain.positions.iter().enumerate() {
@@ -235,9 +282,16 @@ impl Comparison<'_> {
             same("position", (answer.number, answer.value), (0, expected))?;
             holds("position changed the state", answer.state == self.state)?;
         }
-        let none = self.simulator.position(&self.state, self.state.plan.n);
-        let answered = (none.number, none.value);
-        same("position of none", answered, (NO_SUCH_INTEGRATOR, 0))
+        let n = self.state.plan.n;
+        for number in WILD.into_iter().chain([n, n + 1]) {
+            let none = self.simulator.position(&self.state, number);
+            let answered = (none.number, none.value);
+            same("position of none", answered, (NO_SUCH_INTEGRATOR, 0))?;
+            let kept = none.state == self.state;
+            holds("position of none changed the state", kept)?;
+            self.met.declined_position += 1;
+        }
+        Ok(())
     }
 
     /// A machine fed the budget sum at once, and the joined bytes.

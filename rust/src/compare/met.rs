@@ -20,6 +20,8 @@ pub struct Met {
     pub declined_budget: u64,
     /// Calls declined by 12.
     pub declined_buffer: u64,
+    /// Position calls declined by 14.
+    pub declined_position: u64,
     /// Accepted calls by the status answered.
     pub statuses: [u64; 3],
     /// Instants.
@@ -46,6 +48,8 @@ pub struct Met {
     pub reached_not_due: u64,
     /// Instants at which a lazy engine leaves integrators where they are.
     pub some_not_moved: u64,
+    /// Instants of lazy calls that move none, some and all. None are moved by commands that reach nobody.
+    pub lazily_moved: [u64; 3],
     /// Instants at the horizon itself.
     pub at_horizon: u64,
     /// Calls that ended by range where the lowest due integrator was not the one to name.
@@ -92,6 +96,16 @@ impl Met {
         self.clipped_nodes += taken.clipped as u64;
         self.reached_not_due += u64::from(moved > due);
         self.some_not_moved += u64::from(moved < plan.integrators.len());
+    }
+
+    /// Counts an instant of a lazy call, which moves so many of a plan's integrators.
+    pub fn count_lazy(&mut self, moved: usize, plan: &Plan) {
+        let group = match moved {
+            0 => 0,
+            _ if moved < plan.integrators.len() => 1,
+            _ => 2,
+        };
+        self.lazily_moved[group] += 1;
     }
 
     /// Counts the events that the plain machine had in a call.

@@ -3,14 +3,19 @@
 //! Every function answers the first difference it finds as a text, so that a test can also ask
 //! whether a simulator that is wrong on purpose is found out.
 
+mod beside;
+mod buffer;
 mod list;
 mod met;
 mod state;
 
-pub use list::{continued_list, loaded_list};
+pub use beside::{Beside, Called};
+pub use buffer::Marked;
+pub use list::{continued_list, continued_list_beside, loaded_list, loaded_list_beside};
 pub use met::Met;
 pub use state::{moment_of, same_as_plain};
 
+use crate::limits::EVENT_BYTES;
 use std::fmt::Debug;
 
 /// Nothing, or the first difference.
@@ -32,4 +37,26 @@ pub fn holds(what: &str, condition: bool) -> Found {
     } else {
         Err(what.to_string())
     }
+}
+
+/// The first event that differs, unless all bytes are equal. `None` is found where a buffer has fewer
+/// bytes than a call says that it has written.
+pub fn same_events(found: Option<&[u8]>, expected: &[u8]) -> Found {
+    let Some(found) = found else {
+        return Err("events: more bytes than the buffer has".to_string());
+    };
+    if found == expected {
+        return Ok(());
+    }
+    let equal = |number: &usize| event(found, *number) == event(expected, *number);
+    let number = (0..).take_while(equal).count();
+    let at = format!("event {number}");
+    same(&at, event(found, number), event(expected, number))
+}
+
+/// The bytes of an event, fewer where they end.
+fn event(bytes: &[u8], number: usize) -> &[u8] {
+    let from = bytes.len().min(number * EVENT_BYTES);
+    let to = bytes.len().min(from + EVENT_BYTES);
+    &bytes[from..to]
 }

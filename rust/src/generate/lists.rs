@@ -2,7 +2,7 @@
 
 use super::rng::Rng;
 use crate::engine::Engine;
-use crate::limits::{BUDGET_MAX, EVENT_BYTES};
+use crate::limits::{BUDGET_MAX, EVENT_BYTES, LISTING_BUDGET};
 
 /// One run call, without its state.
 #[derive(Clone, Copy, Debug, PartialEq, Eq)]
@@ -15,16 +15,35 @@ pub struct Call {
     pub buffer: usize,
 }
 
-/// A list of run calls for a plan with this many integrators and inputs.
+/// A list of run calls for a plan with this many integrators and inputs: by one engine alone, or by
+/// both in any order.
 pub fn run_list(rng: &mut Rng, events_per_instant: usize) -> Vec<Call> {
+    let engines: &[Engine] = match rng.below(6) {
+        0 => &[Engine::Lazy],
+        1 => &[Engine::Eager],
+        _ => &[Engine::Lazy, Engine::Eager],
+    };
     let calls = rng.below(10) + 1;
     (0..calls)
-        .map(|_| call(rng, events_per_instant * EVENT_BYTES))
+        .map(|_| call(rng, engines, events_per_instant * EVENT_BYTES))
         .collect()
 }
 
-fn call(rng: &mut Rng, instant_bytes: usize) -> Call {
-    let engine = rng.pick(&[Engine::Lazy, Engine::Eager]);
+/// Twelve calls with the largest budget and buffers that do, by either engine: more than 12,000 instants
+/// of a plan that runs for so long.
+pub fn long_list(rng: &mut Rng, events_per_instant: usize) -> Vec<Call> {
+    let buffer = BUDGET_MAX as usize * events_per_instant * EVENT_BYTES;
+    let engines = (0..12).map(|_| rng.pick(&[Engine::Lazy, Engine::Eager]));
+    let call = |engine| Call {
+        engine,
+        budget: BUDGET_MAX,
+        buffer,
+    };
+    engines.map(call).collect()
+}
+
+fn call(rng: &mut Rng, engines: &[Engine], instant_bytes: usize) -> Call {
+    let engine = rng.pick(engines);
     let budget = budget(rng);
     Call {
         engine,
@@ -39,24 +58,28 @@ fn budget(rng: &mut Rng) -> u64 {
         1 | 2 => 1,
         3 => 2,
         4..=7 => rng.within(2, 30) as u64,
-        8 | 9 => 64,
+        8 | 9 => LISTING_BUDGET,
         10 | 11 => rng.within(65, 400) as u64,
-        12 | 13 => BUDGET_MAX,
+        12 => rng.within(31, 63) as u64,
+        13 => BUDGET_MAX,
         14 => BUDGET_MAX + 1,
-        _ => rng.pick(&[u64::MAX, u64::MAX / 12, 1 << 63, 1 << 32, 5_000]),
+        _ => rng.pick(&[u64::MAX, u64::MAX, u64::MAX / 12, 1 << 63, 1 << 32, 5_000]),
     }
 }
 
-/// Mostly the length asked for or a little more; a wild budget gets a short buffer.
+/// Mostly the length asked for or a little more. A budget of one too many gets a buffer that would do
+/// for it as often as not, since it is declined all the same; a wild one gets a short buffer.
 fn buffer(rng: &mut Rng, budget: u64, instant_bytes: usize) -> usize {
-    if budget > BUDGET_MAX {
+    let would_do = budget == BUDGET_MAX + 1 && rng.once_in(2);
+    if budget > BUDGET_MAX && !would_do {
         return rng.below(3) * instant_bytes;
     }
     let asked = budget as usize * instant_bytes;
-    match rng.below(8) {
-        0 => asked.saturating_sub(1),
-        1 => asked.saturating_sub(instant_bytes),
-        2 | 3 => asked + rng.below(2 * instant_bytes),
+    match rng.below(16) {
+        0 | 1 => asked.saturating_sub(1),
+        2 => asked.saturating_sub(instant_bytes),
+        3 => 0,
+        4..=7 => asked + rng.below(2 * instant_bytes),
         _ => asked,
     }
 }

@@ -17,7 +17,7 @@ pub mod unreached;
 pub use breakage::Breakage;
 pub use damage::Damage;
 pub use files::Origin;
-pub use lists::{run_list, Call};
+pub use lists::{long_list, run_list, Call};
 pub use plans::Family;
 pub use rng::Rng;
 pub use unreached::Fill;

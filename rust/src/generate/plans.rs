@@ -2,8 +2,8 @@
 
 use super::recipe::{Recipe, Spread};
 use super::rng::Rng;
-use crate::limits::{COEFFICIENT_BOUND, GRAINS, HORIZON_MAX, M};
-use crate::plan::{Plan, LIMIT};
+use crate::limits::{COEFFICIENT_BOUND, GRAINS, HORIZON_MAX, M, NODES_MAX};
+use crate::plan::{Plan, DIFFERENCE, LIMIT, THRESHOLD};
 
 /// What a plan is made for.
 #[derive(Clone, Copy, Debug, PartialEq, Eq)]
@@ -32,11 +32,15 @@ pub enum Family {
     Chain,
     /// Many commands at few ticks, with few different values.
     Commanded,
+    /// Sixteen nodes that each name the one below, and cups that read the topmost.
+    Ladder,
+    /// Up to thirty-two cups without inputs, without links or with nothing else at all.
+    Bare,
 }
 
 impl Family {
     /// Every family.
-    pub const ALL: [Family; 12] = [
+    pub const ALL: [Family; 14] = [
         Family::Ordinary,
         Family::Swinging,
         Family::Together,
@@ -49,6 +53,8 @@ impl Family {
         Family::Tiny,
         Family::Chain,
         Family::Commanded,
+        Family::Ladder,
+        Family::Bare,
     ];
 
     /// A plan of this family that keeps all rules.
@@ -66,6 +72,8 @@ impl Family {
             Family::Tiny => TINY.plan(rng),
             Family::Chain => CHAIN.plan(rng),
             Family::Commanded => COMMANDED.plan(rng),
+            Family::Ladder => ladder(rng),
+            Family::Bare => bare(rng),
         }
     }
 }
@@ -185,6 +193,30 @@ const COMMANDED: Recipe = Recipe {
     command_ticks: 9,
 };
 
+/// Without nodes and links; [`ladder`] adds them.
+const LADDER: Recipe = Recipe {
+    horizon: Spread::Within(100, 3_000),
+    counts: [(2, 8), (1, 3), (0, 0), (0, 0), (0, 8)],
+    start: Spread::Within(-2_000, 2_000),
+    quantum: Spread::Within(20, 900),
+    value: Spread::Within(-900, 900),
+    limit: Spread::Within(-900, 900),
+    coefficient: Spread::OneOf(&[1]),
+    command_ticks: 8,
+};
+
+/// [`bare`] leaves sections out.
+const BARE: Recipe = Recipe {
+    horizon: Spread::OneOf(&[1, 2, 50, 1_000, HORIZON_MAX as i64]),
+    counts: [(1, 32), (1, 8), (0, 3), (1, 40), (0, 20)],
+    start: Spread::Within(-400, 400),
+    quantum: Spread::Within(20, 300),
+    value: Spread::Within(-40, 40),
+    limit: Spread::Within(-40, 40),
+    coefficient: Spread::Within(-GRAINS / 40, GRAINS / 40),
+    command_ticks: 6,
+};
+
 /// Pairs with slopes of opposite sign turn around each other; what they grow by each turn is small
 /// against their size. Each further cup is filled below and emptied above an input's value.
 fn swinging(rng: &mut Rng) -> Plan {
@@ -287,4 +319,44 @@ fn together(rng: &mut Rng) -> Plan {
         plan = plan.command(tick, rng.below(2), rng.within(-9, 9));
     }
     plan
+}
+
+/// A change of the lowest source goes up through all sixteen nodes before it reaches a cup. Some nodes
+/// have a second source, which may be any below.
+fn ladder(rng: &mut Rng) -> Plan {
+    let mut plan = LADDER.plan(rng);
+    let lowest = rng.below(plan.node_source(0));
+    for number in 0..NODES_MAX {
+        let places = plan.node_source(number);
+        let below = if number == 0 { lowest } else { places - 1 };
+        let other = rng.below(places);
+        let (low, high) = (rng.within(-900, 0), rng.within(1, 900));
+        plan = match rng.pick(&[DIFFERENCE, LIMIT, LIMIT, THRESHOLD]) {
+            DIFFERENCE => plan.difference(below, other),
+            LIMIT => plan.limit(below, low, high),
+            _ => plan.threshold(other, below, low, high),
+        };
+    }
+    let topmost = plan.node_source(NODES_MAX - 1);
+    for cup in 0..plan.integrators.len() {
+        let drive = rng.within(GRAINS / 90, GRAINS / 30) * rng.pick(&[1, -1]);
+        if rng.once_in(2) {
+            plan = plan.link(cup, rng.below(topmost), GRAINS / 20);
+        }
+        plan = plan.link(cup, topmost, drive);
+    }
+    plan
+}
+
+/// Links may name inputs and nodes, so a plan without inputs is drawn without them and not cut.
+fn bare(rng: &mut Rng) -> Plan {
+    let [integrators, inputs, nodes, links, commands] = BARE.counts;
+    let none = (0, 0);
+    let counts = match rng.below(4) {
+        0 => [integrators, none, nodes, links, none],
+        1 => [integrators, inputs, nodes, none, commands],
+        2 => [integrators, none, none, links, none],
+        _ => [integrators, none, none, none, none],
+    };
+    Recipe { counts, ..BARE }.plan(rng)
 }

@@ -24,8 +24,8 @@ the next instant either one integrator is due, which only its own link names, or
 8 integrators 256 links name every source in each, so that there the first case has seven fewer.
 
 instant    The instant itself with its events, and then the next tick and the status.
-           Proved: cup_instant less the same call on the same state with the horizon at its clock,
-           which is finished: so soundness, tables and handing states over are in both.
+           Proved: a run with budget 1 less the same call on the same state with the horizon at its
+           clock, which is finished: so soundness, tables and handing states over are in both.
            Second: its run with budget 1 on a state that it has prepared, less the same run on
            that finished state.
 soundness  Proved: cup_sound less the same call on a state with n = 0, which goes no further than

@@ -1,11 +1,13 @@
 //! The proved calls compared with the second simulator: here on files of every sort, in the modules
-//! below on states.
+//! below on states, over lists of run calls, and on what the listing program prints.
 //!
-//! Every file and every state follows from a seed and its own number, so that a difference found
+//! Every file, state and list follows from a seed and its own number, so that a difference found
 //! once can be found again.
 
 mod compare;
 pub mod instants;
+pub mod listings;
+pub mod lists;
 mod met;
 mod parties;
 mod signs;

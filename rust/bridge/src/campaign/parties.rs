@@ -3,10 +3,12 @@
 use crate::machine;
 use crate::state::{Loaded, Ran, State, Tables, Written};
 use crate::{Answer, Rewritten};
-use cup_check::calls::SHORT_FILE_BUFFER;
+use cup_check::calls::{self, Simulator, SHORT_FILE_BUFFER};
+use cup_check::engine::Engine;
 use cup_check::file::read::{read_by, section_by};
 use cup_check::file::{write, Reading, Refusal, Slip};
 use cup_check::plan::Plan;
+use cup_check::raw::RawState;
 
 /// The three calls, so that the comparison serves the proved ones and wrong ones alike.
 pub trait Reader {
@@ -61,6 +63,60 @@ pub struct Archive;
 impl Reader for Archive {}
 
 impl Machine for Archive {}
+
+/// The calls on states in the second simulator's words, for its comparison over lists.
+impl Simulator for Archive {
+    fn load(&self, file: &[u8]) -> calls::Loaded {
+        let loaded = machine::load(file);
+        calls::Loaded {
+            number: figure(loaded.number),
+            entry: loaded.entry,
+            state: RawState::from(&loaded.state),
+        }
+    }
+
+    fn section<'f>(&self, file: &'f [u8], number: usize) -> &'f [u8] {
+        crate::section(file, number)
+    }
+
+    fn write(&self, state: &RawState, buffer: &mut [u8]) -> calls::Written {
+        let written = machine::write(&State::from(state), buffer);
+        calls::Written {
+            number: figure(written.number),
+            length: written.length,
+            state: RawState::from(&written.state),
+        }
+    }
+
+    fn run(&self, engine: Engine, state: &RawState, budget: u64, buffer: &mut [u8]) -> calls::Ran {
+        let state = State::from(state);
+        let ran = match engine {
+            Engine::Lazy => machine::run_lazy(&state, budget, buffer),
+            Engine::Eager => machine::run_eager(&state, budget, buffer),
+        };
+        calls::Ran {
+            number: figure(ran.number),
+            status: figure(ran.status),
+            integrator: ran.integrator,
+            written: ran.written,
+            state: RawState::from(&ran.state),
+        }
+    }
+
+    fn position(&self, state: &RawState, integrator: usize) -> calls::Positioned {
+        let positioned = machine::position(&State::from(state), integrator);
+        calls::Positioned {
+            number: figure(positioned.number),
+            value: positioned.value,
+            state: RawState::from(&positioned.state),
+        }
+    }
+}
+
+/// A number of document 01 in 32 bits; one that does not fit them is none of document 01 either way.
+fn figure(number: usize) -> u32 {
+    u32::try_from(number).unwrap_or(u32::MAX)
+}
 
 /// The second simulator, with one rule of its reader exchanged on request.
 pub struct Second {

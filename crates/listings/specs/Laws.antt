@@ -1,0 +1,6 @@
+pub mod EventLists
+pub mod Ends
+pub mod Joined
+pub mod Fits
+pub mod Answers
+pub mod Loop

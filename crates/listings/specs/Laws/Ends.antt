@@ -1,0 +1,60 @@
+-- A run ends: with the ticks that are left for a budget its status is 1 or 2, and a larger budget changes nothing. Assumes nothing.
+use mathlib.Core.Path.{_≡_, refl, sym, _∙_}
+use mathlib.Core.Bool.{Bool, true, false, cond, true≢false}
+use mathlib.Core.List.{_++_, append-nil}
+use Prim.Native.Nat.{ℕ, zero, suc, _+_, _≤_, _<_}
+use native.Mathlib.Omega.{arith}
+use lib.ListN.{replicate, replicate-append-replicate}
+use Rattle.plan.specs.declared.Plan.{Plan}
+use Rattle.machine.specs.Instant.{takenAt, tickOf, instant}
+use Rattle.machine.specs.Status.{statusOf, isPaused}
+use Rattle.machine.specs.Runs.{after, events}
+use Rattle.machine.specs.Sound.{SoundRunning}
+use Rattle.machine.specs.Laws.Runs.{afterBy, after-by, events-by, after-append, events-append, run-stopped}
+use Rattle.machine.specs.Laws.Soundness.{tick-after, instant-sound}
+use Rattle.machine.specs.Laws.Status.{is-paused, tick-horizon}
+use Rattle.machine.specs.declared.Running.{Running}
+use Rattle.machine.specs.declared.Engine.{Engine}
+
+module _ (p : Plan) (engine : Engine) where
+  -- ---- a budget in two parts
+  pub after-parts : (a b : ℕ) (r : Running) → after p engine (a + b) r ≡ after p engine b (after p engine a r)
+  after-parts a b r =
+      rw (after-by p engine (a + b) r, after-by p engine a r, after-by p engine b (afterBy p (replicate a engine) r), ← replicate-append-replicate a b engine)
+      (after-append p (replicate a engine) (replicate b engine) r)
+
+  pub events-parts : (a b : ℕ) (r : Running) → events p engine (a + b) r ≡ events p engine a r ++ events p engine b (after p engine a r)
+  events-parts a b r =
+      rw (
+        events-by p engine (a + b) r,
+        events-by p engine a r,
+        after-by p engine a r,
+        events-by p engine b (afterBy p (replicate a engine) r),
+        ← replicate-append-replicate a b engine,
+      )
+      (events-append p (replicate a engine) (replicate b engine) r)
+
+  instant-clock : (r : Running) → SoundRunning p r → r .clock < instant p engine r .clock
+  unfolding instant takenAt
+  instant-clock r ok = tick-after p r ok
+
+  -- ---- the budget that is enough: each instant moves the clock on, and none is behind the horizon
+  pub stops : (b : ℕ) (r : Running) → SoundRunning p r → p .horizon ≤ b + r .clock → statusOf p (after p engine b r) ≡ 0 → ⊥
+  unfolding after
+  stops zero r ok h e =
+      let l : tickOf p r ≤ p .horizon = tick-horizon p r (is-paused p r e) in omega (arith, tick-after p r ok)
+  stops (suc b) r ok h e = go (isPaused p r) refl e (λ t. stops b (instant p engine r) (instant-sound p r ok t engine) (omega (arith, instant-clock r ok)))
+    where
+      go : (c : Bool) → isPaused p r ≡ c → statusOf p (cond c (after p engine b (instant p engine r)) r) ≡ 0
+          → (isPaused p r ≡ true → statusOf p (after p engine b (instant p engine r)) ≡ 0 → ⊥) → ⊥
+      go true t s ih = ih t s
+      go false t s ih = true≢false (sym (is-paused p r s) ∙ t)
+
+  -- a larger budget ends at the same place, with the same events
+  module _ (b k : ℕ) (r : Running) (ok : SoundRunning p r) (h : p .horizon ≤ b + r .clock) where
+    pub after-enough : after p engine (b + k) r ≡ after p engine b r
+    after-enough = after-parts b k r ∙ run-stopped p engine k (after p engine b r) (stops b r ok h) .0
+
+    pub events-enough : events p engine (b + k) r ≡ events p engine b r
+    events-enough =
+        events-parts b k r ∙ rw (run-stopped p engine k (after p engine b r) (stops b r ok h) .1) (append-nil (events p engine b r))

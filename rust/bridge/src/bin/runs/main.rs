@@ -1,0 +1,143 @@
+//! Times of runs: the proved engines beside an engine written by hand for speed, in one run.
+
+mod plans;
+mod sides;
+
+use cup_bridge::machine::{echo, sound};
+use cup_bridge::timing::{repeated, times, warn_of_checks, Repeated};
+use cup_check::file::rules;
+use cup_check::limits::BUDGET_MAX;
+use cup_check::plan::Plan;
+use sides::{Course, Start};
+use std::hint::black_box;
+
+const NOTES: &str = "\
+A ratio is the time of the proved lazy engine over that of the hand-written one; below 1 the proved
+one is faster. Each figure is the best of 101 batches, with the batches of all sides in turn.
+
+lazy, eager  The proved calls, as the bridge has them: each call tests its state for soundness, works
+             its tables out, and is handed a state of 9,808 bytes by value and answers one in a box.
+called       The hand-written lazy engine in the form of a call: likewise, but without the test.
+kept         The hand-written lazy engine with its tables and figures kept over the calls.
+readable     The second simulator's lazy engine, written to be read, with its state kept.
+
+A run starts from the loaded state: copying that is timed, loading it is not, nor is working out the
+tables of the form that keeps them. No side clears the buffer between calls. All sides are first seen
+to end in the same state, with the same events.
+";
+
+/// Instants of a run, but for the chains.
+const INSTANTS: u64 = 4_096;
+/// The sides in the order of their columns.
+const SIDES: [&str; 5] = ["lazy", "eager", "called", "kept", "readable"];
+
+fn main() {
+    println!("{NOTES}");
+    warn_of_checks();
+    let mut plans = [1, 4, 8, 16, 32]
+        .map(|n| (format!("n = {n}"), plans::mixed(n)))
+        .to_vec();
+    plans.push(("n = 32 in pairs".to_string(), plans::pairs()));
+    print_speeds(&plans);
+    print_calls(&plans);
+    print_chains();
+}
+
+/// Instants a second.
+fn print_speeds(plans: &[(String, Plan)]) {
+    println!("Thousands of instants a second, over {INSTANTS} instants");
+    print_head("plan, budget; links; moved and events an instant; clock");
+    for budget in [64, BUDGET_MAX] {
+        for (name, plan) in plans {
+            let start = start_of(plan);
+            let course = Course {
+                budget,
+                calls: (INSTANTS / budget) as usize,
+            };
+            let end = start.agreed(course);
+            let run = &end.state.run;
+            assert_eq!((end.status, run.instants), (0, INSTANTS));
+            let taken = timed(&start, course);
+            let each = |sum: f64| sum / INSTANTS as f64;
+            let (moved, events) = (each(run.updates as f64), each(end.events_count() as f64));
+            let what = format!(
+                "{name}, {budget}; {}; {moved:.2}, {events:.2}; {}",
+                plan.links.len(),
+                run.clock
+            );
+            print_line(taken, taken.map(|ns| INSTANTS as f64 * 1e6 / ns), 0, &what);
+        }
+    }
+}
+
+/// What a call takes, and of that what does not grow with the budget.
+fn print_calls(plans: &[(String, Plan)]) {
+    println!("\nMicroseconds of one call from the loaded state");
+    print_head("plan, budget; soundness; a state handed over and back");
+    for (name, plan) in [&plans[0], &plans[2], &plans[4]] {
+        let start = start_of(plan);
+        let [judged, echoed] = times(&[
+            repeated(|| sound(black_box(start.state()))),
+            repeated(|| echo(black_box(start.state()))),
+        ])
+        .map(|times| times.best / 1e3);
+        for budget in [0, 1, BUDGET_MAX] {
+            let course = Course { budget, calls: 1 };
+            start.agreed(course);
+            let taken = timed(&start, course);
+            let what = format!("{name}, {budget}; {judged:.2}; {echoed:.2}");
+            print_line(taken, taken.map(|ns| ns / 1e3), 2, &what);
+        }
+    }
+}
+
+/// The chains, each from its start to its end.
+fn print_chains() {
+    println!("\nMicroseconds of a whole run of the chain, with budget 1,024");
+    print_head("cups; instants; calls; moved and events an instant");
+    for cups in [1, 8, 32] {
+        let start = start_of(&plans::chain(cups));
+        let budget = BUDGET_MAX;
+        let course = Course { budget, calls: 10 };
+        let end = start.agreed(course);
+        let run = &end.state.run;
+        assert_eq!(end.status, 1);
+        let taken = timed(&start, course);
+        let calls = run.instants / budget + 1;
+        let each = |sum: f64| sum / run.instants as f64;
+        let (moved, events) = (each(run.updates as f64), each(end.events_count() as f64));
+        let what = format!("{cups}; {}; {calls}; {moved:.2}, {events:.2}", run.instants);
+        print_line(taken, taken.map(|ns| ns / 1e3), 1, &what);
+    }
+}
+
+fn start_of(plan: &Plan) -> Start {
+    assert_eq!(rules::check(plan), Ok(()));
+    Start::of(plan)
+}
+
+/// The best times of a course in ns, by side.
+fn timed(start: &Start, course: Course) -> [f64; 5] {
+    let sides: [Repeated; 5] = [
+        repeated(|| start.proved(false, course, &mut |_| ())),
+        repeated(|| start.proved(true, course, &mut |_| ())),
+        repeated(|| start.called(course, &mut |_| ())),
+        repeated(|| start.kept(course, &mut |_| ())),
+        repeated(|| start.readable(course, &mut |_| ())),
+    ];
+    times(&sides).map(|times| times.best)
+}
+
+fn print_head(what: &str) {
+    let ratios = format!("{:>8}{:>8}", "/called", "/kept");
+    let sides = SIDES.map(|side| format!("{side:>10}")).concat();
+    println!("{ratios}{sides}    {what}");
+}
+
+/// Both ratios of the times, then the figures that are shown of them.
+fn print_line(taken: [f64; 5], shown: [f64; 5], places: usize, what: &str) {
+    let ratios = [taken[0] / taken[2], taken[0] / taken[3]];
+    let ratios = ratios.map(|ratio| format!("{ratio:>8.2}")).concat();
+    let shown = shown.map(|figure| format!("{figure:>10.places$}")).concat();
+    println!("{ratios}{shown}    {what}");
+}

@@ -1,0 +1,184 @@
+//! The sides that are timed, each taking the same run of a plan.
+
+use cup_bridge::machine;
+use cup_bridge::state::{Ran, State};
+use cup_check::calls;
+use cup_check::engine::run::run;
+use cup_check::engine::{Engine, Rules, State as Readable};
+use cup_check::fast::{run_lazy, Fast};
+use cup_check::limits::{BUDGET_MAX, EVENT_BYTES};
+use cup_check::plan::Plan;
+use cup_check::raw::RawState;
+use cup_check::status::Status;
+use std::cell::RefCell;
+use std::hint::black_box;
+
+/// A plan's start as each side takes it, and a buffer for the largest budget.
+pub struct Start {
+    proved: State,
+    raw: RawState,
+    kept: Fast,
+    readable: Readable,
+    buffer: RefCell<Vec<u8>>,
+}
+
+/// What is run: calls with this budget, so many of them or fewer if the status is first 1 or 2.
+#[derive(Clone, Copy, Debug)]
+pub struct Course {
+    pub budget: u64,
+    pub calls: usize,
+}
+
+/// Where a course ends.
+#[derive(Clone, Debug, PartialEq, Eq)]
+pub struct End {
+    pub status: u32,
+    pub state: RawState,
+    pub events: Vec<u8>,
+}
+
+/// What takes the bytes of each call's events.
+type Events<'a> = &'a mut dyn FnMut(&[u8]);
+
+impl End {
+    pub fn events_count(&self) -> usize {
+        self.events.len() / EVENT_BYTES
+    }
+}
+
+impl Start {
+    pub fn of(plan: &Plan) -> Start {
+        let raw = RawState::start(plan);
+        let room = BUDGET_MAX as usize * plan.events_per_instant() * EVENT_BYTES;
+        Start {
+            proved: State::from(&raw),
+            kept: Fast::prepared(&raw),
+            readable: Readable::start(plan.clone()),
+            buffer: RefCell::new(vec![0; room]),
+            raw,
+        }
+    }
+
+    /// The proved calls; every one is given a copy of a state and answers one.
+    pub fn proved(&self, eager: bool, course: Course, events: Events) -> Box<Ran> {
+        let buffer = &mut *self.buffer.borrow_mut();
+        let mut ran = machine::run(black_box(&self.proved), eager, course.budget, buffer);
+        events(&buffer[..ran.written]);
+        for _ in 1..course.calls {
+            if ran.status != 0 {
+                break;
+            }
+            ran = machine::run(&ran.state, eager, course.budget, buffer);
+            events(&buffer[..ran.written]);
+        }
+        ran
+    }
+
+    /// The hand-written engine in the form of a call.
+    pub fn called(&self, course: Course, events: Events) -> Box<calls::Ran> {
+        let buffer = &mut *self.buffer.borrow_mut();
+        let state = black_box(&self.raw).clone();
+        let mut ran = Box::new(run_lazy(state, course.budget, buffer));
+        events(&buffer[..ran.written]);
+        for _ in 1..course.calls {
+            if ran.status != 0 {
+                break;
+            }
+            ran = Box::new(run_lazy(ran.state.clone(), course.budget, buffer));
+            events(&buffer[..ran.written]);
+        }
+        ran
+    }
+
+    /// The hand-written engine with its tables kept.
+    pub fn kept(&self, course: Course, events: Events) -> (Status, Fast) {
+        let buffer = &mut *self.buffer.borrow_mut();
+        let mut fast = black_box(&self.kept).clone();
+        let mut status = Status::Paused;
+        for _ in 0..course.calls {
+            let outcome = fast.run(course.budget, buffer);
+            events(&buffer[..outcome.written]);
+            status = outcome.status;
+            if status != Status::Paused {
+                break;
+            }
+        }
+        (status, fast)
+    }
+
+    /// The lazy engine that is written to be read, with its state kept.
+    pub fn readable(&self, course: Course, events: Events) -> (Status, Readable) {
+        let buffer = &mut *self.buffer.borrow_mut();
+        let mut state = black_box(&self.readable).clone();
+        let mut status = Status::Paused;
+        for _ in 0..course.calls {
+            let (budget, rules) = (course.budget, &Rules::DOCUMENT);
+            let outcome = run(&mut state, Engine::Lazy, budget, buffer, rules);
+            events(&buffer[..outcome.written]);
+            status = outcome.status;
+            if status != Status::Paused {
+                break;
+            }
+        }
+        (status, state)
+    }
+
+    /// Where all sides end; panics if they do not agree. The eager end has an l, an x and updates
+    /// of its own.
+    pub fn agreed(&self, course: Course) -> End {
+        let lazy = collected(|events| {
+            let ran = self.proved(false, course, events);
+            assert_eq!(ran.number, 0);
+            (ran.status as u32, RawState::from(&ran.state))
+        });
+        let eager = collected(|events| {
+            let ran = self.proved(true, course, events);
+            (ran.status as u32, as_lazy(&ran.state, &lazy.state))
+        });
+        let called = collected(|events| {
+            let ran = self.called(course, events);
+            (ran.status, ran.state)
+        });
+        let kept = collected(|events| {
+            let (status, fast) = self.kept(course, events);
+            let (plan, run) = (self.raw.plan.clone(), fast.figures());
+            (status.number(), RawState { plan, run })
+        });
+        let readable = collected(|events| {
+            let (status, state) = self.readable(course, events);
+            (status.number(), RawState::from(&state))
+        });
+        for (side, end) in [eager, called, kept, readable].iter().enumerate() {
+            assert!(*end == lazy, "side {side} ends elsewhere");
+        }
+        lazy
+    }
+
+    /// The start as the proved calls take it.
+    pub fn state(&self) -> &State {
+        &self.proved
+    }
+}
+
+/// A course with the events of all its calls.
+fn collected(side: impl FnOnce(Events) -> (u32, RawState)) -> End {
+    let mut joined = Vec::new();
+    let (status, state) = side(&mut |events| joined.extend_from_slice(events));
+    End {
+        status,
+        state,
+        events: joined,
+    }
+}
+
+/// An eager state with the l, the x and the updates of a lazy one.
+fn as_lazy(eager: &State, lazy: &RawState) -> RawState {
+    let mut state = RawState::from(eager);
+    let (n, clock) = (state.plan.n, state.run.clock);
+    assert!(state.run.l[..n].iter().all(|&l| l == clock));
+    assert!(state.run.updates == n as u64 * state.run.instants);
+    state.run.x = lazy.run.x;
+    state.run.l = lazy.run.l;
+    state.run.updates = lazy.run.updates;
+    state
+}

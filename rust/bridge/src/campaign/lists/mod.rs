@@ -1,0 +1,123 @@
+//! Lists of run calls, lazy and eager in any order, from loaded states and from sound states that no
+//! run leads to.
+//!
+//! Each list is compared with the plain machine by [`cup_check::compare`], and each of its calls with
+//! the second simulator's engines. Between its calls other states are handed in.
+
+mod beside;
+mod met;
+
+pub use met::{Calls, Met, Plans};
+
+use super::switches::{named, number};
+use super::Outcome;
+use beside::Between;
+use cup_check::calls::{Checker, Simulator};
+use cup_check::compare::{continued_list_beside, loaded_list_beside, Found};
+use cup_check::engine::Wrong;
+use cup_check::generate::{long_list, run_list, Family, Fill, Rng};
+
+/// Lists that the gate compares at least.
+pub const LISTS: u64 = 20_000;
+
+/// One list in so many goes on from a state that is filled by hand.
+const CONTINUED: usize = 4;
+
+/// One list in so many of the family that runs longest is a long one.
+const LONG: usize = 140;
+
+/// What to compare on.
+#[derive(Clone, Copy, Debug)]
+pub struct Campaign {
+    /// How many lists.
+    pub lists: u64,
+    /// Where they start from.
+    pub seed: u64,
+    /// The exchanged rule of the second simulator's engines.
+    pub wrong: Wrong,
+}
+
+impl Campaign {
+    /// A campaign by the variables CUP_LISTS, CUP_SEED and CUP_WRONG, or the gate's without them.
+    pub fn asked_for() -> Campaign {
+        Campaign {
+            lists: number("CUP_LISTS", LISTS),
+            seed: number("CUP_SEED", 0),
+            wrong: named("CUP_WRONG", Wrong::named, &Wrong::ALL),
+        }
+    }
+
+    /// Compares a simulator's lists with the second one's, until a few differences are found.
+    pub fn run(&self, simulator: &dyn Simulator) -> Outcome<Met> {
+        let mut outcome: Outcome<Met> = Outcome::default();
+        let first = Rng::new(self.seed).bits();
+        for number in 0..self.lists {
+            let drawn = Drawn::new(first, number);
+            let found = self.compare(simulator, drawn, &mut outcome.met);
+            let described = |difference| {
+                let list = format!("list {number} of seed {}", self.seed);
+                format!(
+                    "{list} ({:?}, {:?}), {difference}",
+                    drawn.family, drawn.fill
+                )
+            };
+            if outcome.found(found.err().map(described)) {
+                break;
+            }
+        }
+        outcome
+    }
+
+    /// `Err` describes the first difference.
+    fn compare(&self, simulator: &dyn Simulator, drawn: Drawn, met: &mut Met) -> Found {
+        let mut rng = Rng::new(drawn.seed);
+        let plan = drawn.family.plan(&mut rng);
+        let start = drawn.fill.map(|fill| fill.state(&mut rng, &plan));
+        let list = match drawn.long {
+            true => long_list(&mut rng, plan.events_per_instant()),
+            false => run_list(&mut rng, plan.events_per_instant()),
+        };
+        met.plans.count(drawn.family, drawn.fill, &plan);
+        let (compared, calls) = (&mut met.compared, &mut met.calls);
+        let mut between = Between {
+            simulator,
+            second: Checker { wrong: self.wrong },
+            rng,
+            calls,
+        };
+        let found = match start {
+            None => loaded_list_beside(simulator, &plan, &list, compared, &mut between),
+            Some(state) => {
+                let state = &state;
+                met.signs.count(state);
+                continued_list_beside(simulator, &plan, state, &list, compared, &mut between)
+            }
+        };
+        met.calls.end_list();
+        found
+    }
+}
+
+/// Where a list comes from: the families in turn, and of each family loaded states and all fills.
+#[derive(Clone, Copy)]
+struct Drawn {
+    seed: u64,
+    family: Family,
+    fill: Option<Fill>,
+    long: bool,
+}
+
+impl Drawn {
+    fn new(first: u64, number: u64) -> Drawn {
+        let place = number as usize;
+        let family = Family::ALL[place % Family::ALL.len()];
+        let round = place / Family::ALL.len();
+        let filled = round % CONTINUED == CONTINUED - 1;
+        Drawn {
+            seed: first.wrapping_add(number),
+            family,
+            fill: filled.then(|| Fill::ALL[round / CONTINUED % Fill::ALL.len()]),
+            long: family == Family::Swinging && round % LONG == LONG / 2,
+        }
+    }
+}

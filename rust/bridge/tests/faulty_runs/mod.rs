@@ -1,0 +1,362 @@
+//! The proved runs and the proved position call with one fault each, among them those that document 01
+//! lists as breaking the agreement.
+
+use cup_bridge::campaign::Archive;
+use cup_check::calls::{Checker, Loaded, Positioned, Ran, Simulator, Written};
+use cup_check::calls::{BUDGET_ABOVE, NO_SUCH_INTEGRATOR, SHORT_RUN_BUFFER, UNSOUND};
+use cup_check::engine::{Engine, Wrong};
+use cup_check::generate::states::moved_to_clock;
+use cup_check::limits::{BUDGET_MAX, EVENT_BYTES};
+use cup_check::raw::RawState;
+use std::cell::Cell;
+
+/// What is wrong.
+#[derive(Clone, Copy, Debug, PartialEq, Eq)]
+pub enum Fault {
+    FinishedBeforehand,
+    RangeBeforehand,
+    StateUntouched,
+    StatusOfEntry,
+    RangeWithoutIntegrator,
+    IntegratorOfFinished,
+    EagerUnderLazy,
+    LazyUnderEager,
+    OnlyFirstInstant,
+    ReachedInFirstInstantOnly,
+    LastInstantLeftOut,
+    OneInstantTooMany,
+    ZeroBudgetTakesOne,
+    ZeroBudgetIsPaused,
+    InventedCount,
+    CountOfEagerRuns,
+    CountOfLastInstant,
+    InstantsOfBudget,
+    ClockRunsOn,
+    PositionsMovedToClock,
+    UnmovedStatedLater,
+    EventsFromStartEachInstant,
+    EventsOfLastInstantLost,
+    WrittenIsRoom,
+    LaterBytesCleared,
+    OneByteBehindWritten,
+    OneAboveAccepted,
+    MostDeclined,
+    BudgetIn32Bits,
+    OneByteShortAccepted,
+    ExactBufferDeclined,
+    BufferOfIntegratorsAlone,
+    ShortBeforeBudget,
+    BudgetBeforeUnsound,
+    UnsoundAccepted,
+    DeclineWrites,
+    DeclineKeepsStatus,
+    DeclineGivesIdle,
+    DeclineForgetsUpdates,
+    DisturbedByUnsound,
+    StoredPosition,
+    PositionAtNextTick,
+    PositionIsOutput,
+    PositionOfNeighbour,
+    PositionOfN,
+    PositionIn32Bits,
+    PositionDeclinesLast,
+    PositionOfUnsound,
+    NoSuchBeforeUnsound,
+    PositionLeavesValue,
+    PositionMovesState,
+}
+
+/// Faults of a run.
+pub const RUNS: [Fault; 40] = [
+    Fault::FinishedBeforehand,
+    Fault::RangeBeforehand,
+    Fault::StateUntouched,
+    Fault::StatusOfEntry,
+    Fault::RangeWithoutIntegrator,
+    Fault::IntegratorOfFinished,
+    Fault::EagerUnderLazy,
+    Fault::LazyUnderEager,
+    Fault::OnlyFirstInstant,
+    Fault::ReachedInFirstInstantOnly,
+    Fault::LastInstantLeftOut,
+    Fault::OneInstantTooMany,
+    Fault::ZeroBudgetTakesOne,
+    Fault::ZeroBudgetIsPaused,
+    Fault::InventedCount,
+    Fault::CountOfEagerRuns,
+    Fault::CountOfLastInstant,
+    Fault::InstantsOfBudget,
+    Fault::ClockRunsOn,
+    Fault::PositionsMovedToClock,
+    Fault::UnmovedStatedLater,
+    Fault::EventsFromStartEachInstant,
+    Fault::EventsOfLastInstantLost,
+    Fault::WrittenIsRoom,
+    Fault::LaterBytesCleared,
+    Fault::OneByteBehindWritten,
+    Fault::OneAboveAccepted,
+    Fault::MostDeclined,
+    Fault::BudgetIn32Bits,
+    Fault::OneByteShortAccepted,
+    Fault::ExactBufferDeclined,
+    Fault::BufferOfIntegratorsAlone,
+    Fault::ShortBeforeBudget,
+    Fault::BudgetBeforeUnsound,
+    Fault::UnsoundAccepted,
+    Fault::DeclineWrites,
+    Fault::DeclineKeepsStatus,
+    Fault::DeclineGivesIdle,
+    Fault::DeclineForgetsUpdates,
+    Fault::DisturbedByUnsound,
+];
+
+/// Faults of the position call.
+pub const POSITIONS: [Fault; 11] = [
+    Fault::StoredPosition,
+    Fault::PositionAtNextTick,
+    Fault::PositionIsOutput,
+    Fault::PositionOfNeighbour,
+    Fault::PositionOfN,
+    Fault::PositionIn32Bits,
+    Fault::PositionDeclinesLast,
+    Fault::PositionOfUnsound,
+    Fault::NoSuchBeforeUnsound,
+    Fault::PositionLeavesValue,
+    Fault::PositionMovesState,
+];
+
+/// The proved calls with one fault.
+pub struct Faulty {
+    fault: Fault,
+    /// Whether the last run was handed an unsound state.
+    after_unsound: Cell<bool>,
+}
+
+impl Faulty {
+    pub fn new(fault: Fault) -> Faulty {
+        let after_unsound = Cell::new(false);
+        Faulty {
+            fault,
+            after_unsound,
+        }
+    }
+
+    /// The engine and the budget that are run instead of those asked for; the buffer is long enough for
+    /// `fitting` instants.
+    fn instead(&self, engine: Engine, budget: u64, fitting: u64) -> (Engine, u64) {
+        let accepted = budget <= BUDGET_MAX && budget <= fitting;
+        let budget = match self.fault {
+            Fault::OnlyFirstInstant if accepted => budget.min(1),
+            Fault::LastInstantLeftOut if accepted => budget.saturating_sub(1),
+            Fault::OneInstantTooMany if budget < fitting.min(BUDGET_MAX) => budget + 1,
+            Fault::ZeroBudgetTakesOne if fitting > 0 => budget.max(1),
+            Fault::BudgetIn32Bits => u64::from(budget as u32),
+            Fault::OneAboveAccepted if budget == BUDGET_MAX + 1 && fitting >= budget => BUDGET_MAX,
+            _ => budget,
+        };
+        match self.fault {
+            Fault::EagerUnderLazy => (Engine::Eager, budget),
+            Fault::LazyUnderEager => (Engine::Lazy, budget),
+            _ => (engine, budget),
+        }
+    }
+
+    /// The answer of an accepted run, spoilt.
+    fn spoil_accepted(&self, asked: &Asked, ran: &mut Ran, buffer: &mut [u8]) {
+        let (before, room) = (asked.state, buffer.len());
+        let taken = ran.state.run.instants - before.run.instants;
+        let asks = (asked.budget as usize).saturating_mul(asked.instant_bytes());
+        match self.fault {
+            Fault::FinishedBeforehand => *ran = beforehand(before, 1),
+            Fault::RangeBeforehand => *ran = beforehand(before, 2),
+            Fault::StateUntouched => ran.state = before.clone(),
+            Fault::StatusOfEntry => {
+                let entry = Archive.run(asked.engine, before, 0, &mut []);
+                (ran.status, ran.integrator) = (entry.status, entry.integrator);
+            }
+            Fault::RangeWithoutIntegrator => ran.integrator = 0,
+            Fault::IntegratorOfFinished if ran.status == 1 => ran.integrator = before.plan.n - 1,
+            Fault::ZeroBudgetIsPaused if asked.budget == 0 => (ran.status, ran.integrator) = (0, 0),
+            Fault::WrittenIsRoom => ran.written = room,
+            Fault::LaterBytesCleared => buffer[ran.written..].fill(0),
+            Fault::OneByteBehindWritten if ran.written < room => buffer[ran.written] ^= 1,
+            Fault::EventsOfLastInstantLost if taken > 1 => ran.written -= EVENT_BYTES,
+            Fault::EventsFromStartEachInstant if ran.written > EVENT_BYTES => {
+                let last = ran.written - EVENT_BYTES..ran.written;
+                buffer.copy_within(last, 0);
+            }
+            Fault::MostDeclined if asked.budget == BUDGET_MAX => *ran = decline(before, 11),
+            Fault::ExactBufferDeclined if asks > 0 && room == asks => *ran = decline(before, 12),
+            _ => self.spoil_state(asked, &mut ran.state),
+        }
+    }
+
+    /// The state that an accepted run returns, spoilt.
+    fn spoil_state(&self, asked: &Asked, state: &mut RawState) {
+        let (before, n) = (asked.state, state.plan.n);
+        let run = &mut state.run;
+        let taken = run.instants - before.run.instants;
+        match self.fault {
+            Fault::InventedCount => run.updates = run.instants,
+            Fault::CountOfEagerRuns => run.updates = before.run.updates + taken * n as u64,
+            Fault::CountOfLastInstant if taken > 0 => {
+                let moved = run.l[..n].iter().filter(|&&l| l == run.clock).count();
+                run.updates = before.run.updates + moved as u64;
+            }
+            Fault::InstantsOfBudget => run.instants = before.run.instants + asked.budget,
+            Fault::ClockRunsOn if taken < asked.budget => run.clock = state.plan.horizon,
+            Fault::PositionsMovedToClock => *state = moved_to_clock(state),
+            // The same lines, stated at the tick before the clock: neither positions nor l = c tell it.
+            Fault::UnmovedStatedLater if taken > 0 => {
+                let (last, after_l) = (run.clock - 1, run.l);
+                for i in (0..n).filter(|&i| after_l[i] <= last) {
+                    run.x[i] += run.s[i] * i64::from(last - run.l[i]);
+                    run.l[i] = last;
+                }
+            }
+            _ => (),
+        }
+    }
+
+    /// The answer of a declined run, spoilt.
+    fn spoil_declined(&self, asked: &Asked, ran: &mut Ran, buffer: &mut [u8]) {
+        let (before, number) = (asked.state, ran.number);
+        let empty = buffer.is_empty();
+        match self.fault {
+            Fault::OneByteShortAccepted if number == SHORT_RUN_BUFFER => {
+                let mut longer = [buffer, &[0][..]].concat();
+                *ran = Archive.run(asked.engine, before, asked.budget, &mut longer);
+            }
+            Fault::BufferOfIntegratorsAlone if number == SHORT_RUN_BUFFER => {
+                let needed = asked.budget as usize * before.plan.n * EVENT_BYTES;
+                if buffer.len() >= needed {
+                    let mut longer = vec![0; asked.budget as usize * asked.instant_bytes()];
+                    *ran = Archive.run(asked.engine, before, asked.budget, &mut longer);
+                }
+            }
+            Fault::ShortBeforeBudget if number == BUDGET_ABOVE => ran.number = SHORT_RUN_BUFFER,
+            Fault::BudgetBeforeUnsound if number == UNSOUND && asked.budget > BUDGET_MAX => {
+                ran.number = BUDGET_ABOVE;
+            }
+            Fault::UnsoundAccepted if number == UNSOUND => ran.number = 0,
+            Fault::DeclineWrites if !empty => buffer[0] ^= 1,
+            Fault::DeclineKeepsStatus => ran.status = 1,
+            Fault::DeclineGivesIdle => ran.state = RawState::idle(),
+            Fault::DeclineForgetsUpdates => ran.state.run.updates = 0,
+            _ => (),
+        }
+    }
+}
+
+/// What a run is asked.
+struct Asked<'a> {
+    state: &'a RawState,
+    engine: Engine,
+    budget: u64,
+}
+
+impl Asked<'_> {
+    /// The bytes of an instant; of an unsound state whatever its counts say.
+    fn instant_bytes(&self) -> usize {
+        let plan = &self.state.plan;
+        plan.n.wrapping_add(plan.m).wrapping_mul(EVENT_BYTES).max(1)
+    }
+}
+
+/// A status that is answered before anything is done.
+fn beforehand(state: &RawState, status: u32) -> Ran {
+    Ran {
+        status,
+        ..decline(state, 0)
+    }
+}
+
+fn decline(state: &RawState, number: u32) -> Ran {
+    Ran {
+        number,
+        status: 0,
+        integrator: 0,
+        written: 0,
+        state: state.clone(),
+    }
+}
+
+/// The first instant as it should be, the others by an engine that moves only the due.
+fn reached_once(asked: &Asked, buffer: &mut [u8]) -> Ran {
+    let first = Archive.run(asked.engine, asked.state, 1, buffer);
+    let wrong = Wrong::OnlyDueMoved;
+    let rest = &mut buffer[first.written..];
+    let ran = Checker { wrong }.run(asked.engine, &first.state, asked.budget - 1, rest);
+    let written = first.written + ran.written;
+    Ran { written, ..ran }
+}
+
+impl Simulator for Faulty {
+    fn load(&self, file: &[u8]) -> Loaded {
+        Simulator::load(&Archive, file)
+    }
+
+    fn section<'f>(&self, file: &'f [u8], number: usize) -> &'f [u8] {
+        Simulator::section(&Archive, file, number)
+    }
+
+    fn write(&self, state: &RawState, buffer: &mut [u8]) -> Written {
+        Simulator::write(&Archive, state, buffer)
+    }
+
+    fn run(&self, engine: Engine, state: &RawState, budget: u64, buffer: &mut [u8]) -> Ran {
+        let asked = Asked {
+            state,
+            engine,
+            budget,
+        };
+        let fitting = (buffer.len() / asked.instant_bytes()) as u64;
+        let (engine, budget) = self.instead(engine, budget, fitting);
+        let mut ran = Archive.run(engine, state, budget, buffer);
+        if self.fault == Fault::ReachedInFirstInstantOnly && ran.number == 0 && budget > 1 {
+            return reached_once(&asked, buffer);
+        }
+        match ran.number {
+            0 => self.spoil_accepted(&asked, &mut ran, buffer),
+            _ => self.spoil_declined(&asked, &mut ran, buffer),
+        }
+        let disturbed = self.after_unsound.replace(ran.number == UNSOUND);
+        if disturbed && self.fault == Fault::DisturbedByUnsound && ran.number == 0 {
+            ran.state.run.updates = 0;
+        }
+        ran
+    }
+
+    fn position(&self, state: &RawState, integrator: usize) -> Positioned {
+        let asked = match self.fault {
+            Fault::PositionIn32Bits => integrator as u32 as usize,
+            _ => integrator,
+        };
+        let mut answer = Archive.position(state, asked);
+        let (run, n, i) = (&state.run, state.plan.n, integrator);
+        match (self.fault, answer.number) {
+            (Fault::StoredPosition, 0) => answer.value = run.x[i],
+            (Fault::PositionAtNextTick, 0) => answer.value += run.s[i],
+            (Fault::PositionIsOutput, 0) => answer.value = run.q[i],
+            (Fault::PositionOfNeighbour, 0) => {
+                answer.value = Archive.position(state, (i + 1) % n).value;
+            }
+            (Fault::PositionDeclinesLast, 0) if i + 1 == n => answer = none_such(state),
+            (Fault::PositionMovesState, 0) => answer.state = moved_to_clock(state),
+            (Fault::PositionOfN, NO_SUCH_INTEGRATOR) if i == n => answer.number = 0,
+            (Fault::PositionLeavesValue, NO_SUCH_INTEGRATOR) => answer.value = run.x[0],
+            (Fault::PositionOfUnsound, UNSOUND) => answer.number = 0,
+            (Fault::NoSuchBeforeUnsound, UNSOUND) if i >= n => answer.number = NO_SUCH_INTEGRATOR,
+            _ => (),
+        }
+        answer
+    }
+}
+
+fn none_such(state: &RawState) -> Positioned {
+    Positioned {
+        number: NO_SUCH_INTEGRATOR,
+        value: 0,
+        state: state.clone(),
+    }
+}

@@ -1,0 +1,34 @@
+//! What a campaign compares beside the plain machine.
+
+use super::Found;
+use crate::calls::Ran;
+use crate::generate::Call;
+use crate::raw::RawState;
+
+/// A call of a list that agrees with the plain machine.
+pub struct Called<'a> {
+    /// The call.
+    pub call: &'a Call,
+    /// The state handed in.
+    pub before: &'a RawState,
+    /// What was answered.
+    pub ran: &'a Ran,
+    /// The bytes answered as written.
+    pub written: &'a [u8],
+    /// The instants taken.
+    pub instants: u64,
+}
+
+/// What else is compared, or counted, after each call of a list. The list goes on from what the call
+/// returned, whatever is done here.
+pub trait Beside {
+    /// After a call.
+    fn after(&mut self, called: &Called) -> Found;
+}
+
+/// Nothing.
+impl Beside for () {
+    fn after(&mut self, _: &Called) -> Found {
+        Ok(())
+    }
+}

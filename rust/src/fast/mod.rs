@@ -1,0 +1,146 @@
+//! The lazy engine written for speed, to time the proved one against.
+//!
+//! It is made from document 01's rules and from nothing else, as someone would write it who wants
+//! it fast and stays with safe Rust: all tables have a fixed size, an integrator's figures lie side
+//! by side and so do its links, what a change of a source reaches is one word of a table, due
+//! ticks lie in a row that is scanned, values are kept by source number, and an instant touches
+//! only what it changes. All sums are in 64 bits, which the limits of document 01 leave room for.
+//!
+//! There are two forms of it:
+//!
+//! - [`Fast`] has its tables worked out once and keeps them, and its figures, over all runs;
+//! - [`run_lazy`] works like the public call: a state goes in and comes out, and the tables are
+//!   worked out anew. It does not test whether the state is sound.
+
+mod instant;
+mod tables;
+
+use crate::calls::{Ran, BUDGET_ABOVE, SHORT_RUN_BUFFER};
+use crate::limits::{BUDGET_MAX, EVENT_BYTES, INTEGRATORS_MAX, NEVER};
+use crate::raw::{RawRunning, RawState};
+use crate::status::Status;
+use tables::{Tables, Values};
+
+/// What is kept for one integrator beside its output and its due tick.
+#[derive(Clone, Copy, Debug, Default)]
+struct Cell {
+    x: i64,
+    s: i64,
+    l: u32,
+}
+
+/// A plan's tables and how far it has run, kept over runs.
+#[derive(Clone, Debug)]
+pub struct Fast {
+    tables: Tables,
+    /// By source number: outputs, inputs and nodes.
+    values: Values,
+    cells: [Cell; INTEGRATORS_MAX],
+    /// Due ticks; behind the last integrator never.
+    dues: [u32; INTEGRATORS_MAX],
+    clock: u32,
+    next: usize,
+    instants: u64,
+    updates: u64,
+}
+
+/// What a run of [`Fast`] answers.
+#[derive(Clone, Copy, Debug, PartialEq, Eq)]
+pub struct Outcome {
+    /// The status after the run.
+    pub status: Status,
+    /// Bytes written from the buffer's start.
+    pub written: usize,
+}
+
+impl Fast {
+    /// From a sound state.
+    pub fn prepared(state: &RawState) -> Fast {
+        let (plan, run) = (&state.plan, &state.run);
+        let tables = Tables::of(plan);
+        let mut fast = Fast {
+            values: tables.values(&run.q, &run.inputs),
+            cells: [Cell::default(); INTEGRATORS_MAX],
+            dues: [NEVER; INTEGRATORS_MAX],
+            clock: run.clock,
+            next: run.next,
+            instants: run.instants,
+            updates: run.updates,
+            tables,
+        };
+        for (i, cell) in fast.cells[..plan.n].iter_mut().enumerate() {
+            *cell = Cell {
+                x: run.x[i],
+                s: run.s[i],
+                l: run.l[i],
+            };
+        }
+        fast.dues[..plan.n].copy_from_slice(&run.d[..plan.n]);
+        fast
+    }
+
+    /// Takes as many instants as the budget says, or fewer if the status is first 1 or 2. The buffer
+    /// has to have room for their events.
+    pub fn run(&mut self, budget: u64, buffer: &mut [u8]) -> Outcome {
+        let mut written = 0;
+        let mut left = budget;
+        loop {
+            let (tick, due) = self.ahead();
+            let status = self.status(tick, due);
+            if left == 0 || status != Status::Paused {
+                return Outcome { status, written };
+            }
+            written = self.take(tick, due, buffer, written);
+            left -= 1;
+        }
+    }
+
+    /// The running part of the state.
+    pub fn figures(&self) -> RawRunning {
+        let (n, m) = (self.tables.n, self.tables.m);
+        let mut run = RawRunning {
+            x: self.cells.map(|cell| cell.x),
+            q: [0; INTEGRATORS_MAX],
+            s: self.cells.map(|cell| cell.s),
+            l: self.cells.map(|cell| cell.l),
+            d: [0; INTEGRATORS_MAX],
+            inputs: Default::default(),
+            clock: self.clock,
+            next: self.next,
+            instants: self.instants,
+            updates: self.updates,
+        };
+        run.q[..n].copy_from_slice(&self.values[..n]);
+        run.d[..n].copy_from_slice(&self.dues[..n]);
+        run.inputs[..m].copy_from_slice(&self.values[n..n + m]);
+        run
+    }
+}
+
+/// The lazy run of a sound state, with declines 11 and 12.
+pub fn run_lazy(mut state: RawState, budget: u64, buffer: &mut [u8]) -> Ran {
+    let declined = |number, state| Ran {
+        number,
+        status: 0,
+        integrator: 0,
+        written: 0,
+        state,
+    };
+    if budget > BUDGET_MAX {
+        return declined(BUDGET_ABOVE, state);
+    }
+    let room = budget as usize * (state.plan.n + state.plan.m) * EVENT_BYTES;
+    if buffer.len() < room {
+        return declined(SHORT_RUN_BUFFER, state);
+    }
+    let mut fast = Fast::prepared(&state);
+    let outcome = fast.run(budget, buffer);
+    state.run = fast.figures();
+    Ran {
+        number: 0,
+        status: outcome.status.number(),
+        integrator: outcome.status.integrator(),
+        written: outcome.written,
+        state,
+    }
+}

@@ -1,0 +1,208 @@
+//! What is worked out of a plan once.
+
+use crate::limits::{COMMANDS_MAX, INPUTS_MAX, INTEGRATORS_MAX, LINKS_MAX, M};
+use crate::plan::{DIFFERENCE, LIMIT, PRODUCT};
+use crate::raw::RawPlan;
+
+/// Places by source number: a plan has at most 56 sources, and a byte is always one of these.
+pub const PLACES: usize = 256;
+/// Sources of a mask.
+pub const SOURCES: usize = 64;
+/// Where the nodes begin in an entry of the table of reach.
+pub const NODES_FROM: usize = 32;
+/// Links that are summed up together.
+const TERMS: usize = 2;
+/// The most rows of links: 256, and behind those of each integrator what adds nothing to its row.
+const ROWS: usize = LINKS_MAX / TERMS + INTEGRATORS_MAX * (TERMS - 1) / TERMS;
+
+/// The value of each source.
+pub type Values = [i64; PLACES];
+
+/// One term of a rate.
+#[derive(Clone, Copy, Debug, Default)]
+pub struct Link {
+    coefficient: i32,
+    source: u8,
+}
+
+/// A static function.
+#[derive(Clone, Copy, Debug, Default)]
+pub struct Node {
+    low: i64,
+    high: i64,
+    kind: u8,
+    a: u8,
+    b: u8,
+    /// Its own source number.
+    pub source: u8,
+}
+
+/// A command, with its input's source number.
+#[derive(Clone, Copy, Debug, Default)]
+pub struct Command {
+    /// When.
+    pub tick: u32,
+    /// Which source is set.
+    pub source: u8,
+    /// To what.
+    pub value: i64,
+}
+
+/// What stays the same of an integrator.
+#[derive(Clone, Copy, Debug, Default)]
+pub struct Part {
+    /// D.
+    pub quantum: i64,
+    /// Its first row of links.
+    from: usize,
+    /// Behind its last row.
+    to: usize,
+}
+
+/// A plan as the engine reads it.
+#[derive(Clone, Debug)]
+pub struct Tables {
+    /// Integrators.
+    pub n: usize,
+    /// Inputs.
+    pub m: usize,
+    /// Nodes.
+    pub k: usize,
+    /// The last tick of an instant.
+    pub horizon: u32,
+    /// How many commands there are.
+    pub commanded: usize,
+    /// By integrator.
+    pub parts: [Part; INTEGRATORS_MAX],
+    /// By target.
+    links: [[Link; TERMS]; ROWS],
+    /// By node; a member of a mask is always a place.
+    pub nodes: [Node; NODES_FROM],
+    /// By tick, as in the plan.
+    pub commands: [Command; COMMANDS_MAX],
+    /// For each source the integrators, and from bit 32 on the nodes, that a change of it reaches.
+    pub reach: [u64; SOURCES],
+}
+
+impl Tables {
+    /// The tables of a lawful plan.
+    pub fn of(plan: &RawPlan) -> Tables {
+        let mut tables = Tables {
+            n: plan.n,
+            m: plan.m,
+            k: plan.k,
+            horizon: plan.horizon,
+            commanded: plan.commands,
+            parts: [Part::default(); INTEGRATORS_MAX],
+            links: [[Link::default(); TERMS]; ROWS],
+            nodes: [Node::default(); NODES_FROM],
+            commands: [Command::default(); COMMANDS_MAX],
+            reach: [0; SOURCES],
+        };
+        tables.fill_links(plan);
+        tables.fill_nodes(plan);
+        for (e, command) in tables.commands[..plan.commands].iter_mut().enumerate() {
+            *command = Command {
+                tick: plan.ticks[e],
+                source: (plan.n + plan.numbers[e]) as u8,
+                value: plan.values[e],
+            };
+        }
+        tables
+    }
+
+    /// The links, where each integrator's lie, and what they reach.
+    fn fill_links(&mut self, plan: &RawPlan) {
+        let (mut row, mut e) = (0, 0);
+        for (i, part) in self.parts[..plan.n].iter_mut().enumerate() {
+            part.quantum = plan.quanta[i];
+            part.from = row;
+            let own = plan.targets[e..plan.links].iter();
+            let last = e + own.take_while(|&&target| target == i).count();
+            while e < last {
+                for link in self.links[row].iter_mut().take(last - e) {
+                    *link = Link {
+                        coefficient: plan.coefficients[e] as i32,
+                        source: plan.sources[e] as u8,
+                    };
+                    self.reach[plan.sources[e]] |= 1 << i;
+                    e += 1;
+                }
+                row += 1;
+            }
+            part.to = row;
+        }
+    }
+
+    /// The nodes, and what they hand on: from the highest down, so that each has its own reach
+    /// when its operands get it.
+    fn fill_nodes(&mut self, plan: &RawPlan) {
+        for j in (0..plan.k).rev() {
+            let (kind, a, b) = (plan.kinds[j], plan.lefts[j], plan.rights[j]);
+            let reach = self.reach[plan.n + plan.m + j] | 1 << (NODES_FROM + j);
+            self.reach[plan.n + plan.m + j] = reach;
+            self.reach[a] |= reach;
+            if kind != LIMIT {
+                self.reach[b] |= reach;
+            }
+            self.nodes[j] = Node {
+                low: plan.lows[j],
+                high: plan.highs[j],
+                kind: kind as u8,
+                a: a as u8,
+                b: b as u8,
+                source: (plan.n + plan.m + j) as u8,
+            };
+        }
+    }
+
+    /// The values of all sources.
+    pub fn values(&self, q: &[i64; INTEGRATORS_MAX], inputs: &[i64; INPUTS_MAX]) -> Values {
+        let mut values = [0; PLACES];
+        values[..self.n].copy_from_slice(&q[..self.n]);
+        values[self.n..self.n + self.m].copy_from_slice(&inputs[..self.m]);
+        for node in &self.nodes[..self.k] {
+            values[usize::from(node.source)] = node.value(&values);
+        }
+        values
+    }
+
+    /// The rate of an integrator.
+    #[inline]
+    pub fn rate(&self, part: &Part, values: &Values) -> i64 {
+        let mut sum = 0;
+        for row in &self.links[part.from..part.to] {
+            for link in row {
+                sum += i64::from(link.coefficient) * values[usize::from(link.source)];
+            }
+        }
+        sum >> 16
+    }
+}
+
+impl Node {
+    /// What the node is, from the values of the sources below it.
+    #[inline]
+    pub fn value(&self, values: &Values) -> i64 {
+        let (a, b) = (values[usize::from(self.a)], values[usize::from(self.b)]);
+        match usize::from(self.kind) {
+            DIFFERENCE => limited(a - b, -M, M),
+            PRODUCT => limited((a * b) >> 16, -M, M),
+            LIMIT => limited(a, self.low, self.high),
+            _ if a >= b => self.high,
+            _ => self.low,
+        }
+    }
+}
+
+/// A value limited to low..high.
+#[inline]
+fn limited(value: i64, low: i64, high: i64) -> i64 {
+    if value < low {
+        low
+    } else if value > high {
+        high
+    } else {
+        value
+    }
+}
