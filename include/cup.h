@@ -5,7 +5,7 @@
  * They keep nothing between calls and always return. No pointer may be null, also where a length is
  * 0. The file must be readable, the buffer and the word behind the last pointer writable, and neither
  * of these two may overlap anything else that the call is given. A state is 9,808 bytes and goes by
- * value, so a call takes some tens of kilobytes of stack. */
+ * value, so a call takes up to about 100 KB of stack: give a thread that calls them 128 KB or more. */
 
 #ifndef CUP_H
 #define CUP_H

@@ -56,6 +56,12 @@ fn find(faults: &[Fault]) {
 }
 
 #[test]
+fn no_fault_is_found_where_there_is_none() {
+    let faulty = Faulty::new(Fault::Nothing);
+    assert_eq!(first_difference(&faulty, Wrong::None), None);
+}
+
+#[test]
 fn every_fault_of_a_run_is_found() {
     find(&RUNS);
 }

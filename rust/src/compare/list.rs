@@ -228,7 +228,8 @@ impl Comparison<'_> {
             buffer.changed_beside(ran.written),
             None,
         )?;
-        self.joined.extend_from_slice(&expected);
+        self.joined
+            .extend_from_slice(buffer.first(ran.written).unwrap_or_default());
         Ok(())
     }
 

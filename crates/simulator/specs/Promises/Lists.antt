@@ -22,22 +22,23 @@ use Rattle.machine.specs.declared.Engine.{Engine}
 use Rattle.machine.specs.declared.Engine.the-variants.{Lazy, Eager}
 use Rattle.simulator.specs.Calls.{loadOf, runOf, bufferOfRun, positionedOf}
 use Rattle.simulator.specs.Lists.{Call, answerOf, bufferOf, afterCalls, budgetSum, joinedBytes, engineAt, cutAt, restAt, allBy}
+use Rattle.simulator.specs.declared.Ran.{Ran}
 
--- what a call of a list answers in itself
-pub record CallPromise (p : Plan) (st : State) (c : Call) : Type 0 where
+-- what a call of a list answers in itself, and the buffer that it leaves
+pub record CallPromise (p : Plan) (st : State) (c : Call) (answer : Ran) (buffer : List ℕ) : Type 0 where
   -- "There a call is declined by 11 or 12 only", and by these exactly as they are named; never by 10
-  pub above : 1024 < c .budget → answerOf st c .number ≡ 11
-  pub short : c .budget ≤ 1024 → length (c .buffer) < c .budget * (p .n + p .m) * 12 → answerOf st c .number ≡ 12
-  pub accepted : c .budget ≤ 1024 → c .budget * (p .n + p .m) * 12 ≤ length (c .buffer) → answerOf st c .number ≡ 0
+  pub above : 1024 < c .budget → answer .number ≡ 11
+  pub short : c .budget ≤ 1024 → length (c .buffer) < c .budget * (p .n + p .m) * 12 → answer .number ≡ 12
+  pub accepted : c .budget ≤ 1024 → c .budget * (p .n + p .m) * 12 ≤ length (c .buffer) → answer .number ≡ 0
   -- "Each accepted call answers the status and integrator of the state it returns."
-  pub status : answerOf st c .number ≡ 0 → answerOf st c .status ≡ statusOf p (answerOf st c .state .run)
-  pub integrator : answerOf st c .number ≡ 0 → answerOf st c .integrator ≡ integratorOf p (answerOf st c .state .run)
+  pub status : answer .number ≡ 0 → answer .status ≡ statusOf p (answer .state .run)
+  pub integrator : answer .number ≡ 0 → answer .integrator ≡ integratorOf p (answer .state .run)
   -- "bytes written from the buffer's start; later bytes keep their value", and there are as many as before
-  pub written : answerOf st c .written ≤ length (c .buffer)
-  pub size : length (bufferOf st c) ≡ length (c .buffer)
-  pub later : drop (answerOf st c .written) (bufferOf st c) ≡ drop (answerOf st c .written) (c .buffer)
+  pub written : answer .written ≤ length (c .buffer)
+  pub size : length buffer ≡ length (c .buffer)
+  pub later : drop (answer .written) buffer ≡ drop (answer .written) (c .buffer)
   -- a refusal changes nothing that was lent
-  pub declined : (answerOf st c .number ≡ 0 → ⊥) → (answerOf st c .state ≡ st) × (bufferOf st c ≡ c .buffer)
+  pub declined : (answer .number ≡ 0 → ⊥) → (answer .state ≡ st) × (buffer ≡ c .buffer)
 
 -- "Plain machine and engines are compared on everything but l, the stored x and updates"
 pub record SameAsPlain (p : Plan) (st : State) (m : Plain) : Type 0 where
@@ -104,7 +105,8 @@ GrowthMeans = (p : Plan) (engine : ℕ → Engine) (k : ℕ) (m : Plain) (r : Ru
 
 -- the claim about a list, from the loaded state
 pub record ListPromise (p : Plan) (st : State) (calls : List Call) : Type 0 where
-  pub each : (earlier : List Call) (c : Call) (later : List Call) → calls ≡ earlier ++ (c ∷ later) → CallPromise p (afterCalls st earlier) c
+  pub each : (earlier : List Call) (c : Call) (later : List Call) → calls ≡ earlier ++ (c ∷ later)
+      → CallPromise p (afterCalls st earlier) c (answerOf (afterCalls st earlier) c) (bufferOf (afterCalls st earlier) c)
   pub state : SameAsPlain p (afterCalls st calls) (plainAfter p (budgetSum st calls))
   -- "and the bytes that accepted calls answer as written, joined in call order"
   pub bytes : joinedBytes st calls ≡ plainEvents p (budgetSum st calls)

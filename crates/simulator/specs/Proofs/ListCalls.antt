@@ -17,7 +17,7 @@ use Rattle.simulator.specs.Proofs.Calls.{every-number, every-buffer, dec
 use Rattle.simulator.specs.Proofs.Schedule.{at}
 
 module _ (p : Plan) (r : Running) (ok : SoundRunning p r) where
-  pub call-promise : (c : Call) → CallPromise p (at p r) c
+  pub call-promise : (c : Call) → CallPromise p (at p r) c (answerOf (at p r) c) (bufferOf (at p r) c)
   unfolding answerOf bufferOf runOf ranState bufferOfRun
   call-promise c =
       let numbers = every-number (at p r) (c .buffer) in

@@ -13,6 +13,8 @@ use std::cell::Cell;
 /// What is wrong.
 #[derive(Clone, Copy, Debug, PartialEq, Eq)]
 pub enum Fault {
+    /// No fault, to see that the wrapper itself adds none.
+    Nothing,
     FinishedBeforehand,
     RangeBeforehand,
     StateUntouched,

@@ -5,14 +5,10 @@ use Prim.Native.Nat.{_<_}
 use native.Mathlib.Omega.{arith}
 use borrow.Author.Needs.{needs, sfits-of}
 use borrow.Author.Tests.{not-true, not-false}
-use mir.Syntax.{w64}
-use mir.Val.{SFits}
 use mir.Facts.{toZ-ofZ}
-use Rattle.plan.specs.Lists.{int}
 use Rattle.plan.specs.Laws.Counts.{counts-of}
 use Rattle.machine.specs.SoundTest.{isSound}
 use Rattle.machine.specs.Laws.Tested.{sound-means}
-use Rattle.machine.specs.declared.State.{State}
 use Rattle.simulator.specs.Answers.{position-unsound, position-above, position-ready, position-known}
 use Rattle.simulator.proofs.positions.position.Statement.{statement}
 use Rattle.simulator.proofs.positions.position.Tie as tie
@@ -60,29 +56,22 @@ mul-position-3 c = omega (arith, in-range (c .before .before))
 element-copy-out-position-3 : tie.Need-element-copy-out-position-3
 element-copy-out-position-3 c = in-range (c .before .before)
 
--- position and slope as they are read from the arrays
-module _ (c : tie.After-position-arg3) where
-  abbrev copied : tie.After-r
-  copied = c .before .before .before
-
-  abbrev state : State
-  state = entry copied .args .state
-
-  x-fits : SFits w64 (int (state .run .x) (entry copied .args .integrator))
-  x-fits = sfits-of (c .before .before .position-arg .given)
-
-  s-fits : SFits w64 (int (state .run .s) (entry copied .args .integrator))
-  s-fits = sfits-of (c .before .position-arg2 .given)
-
 position-requires : tie.Need-position-requires
 position-requires c κs =
-    rw (toZ-ofZ (x-fits c), toZ-ofZ (s-fits c)) (position-ready _ _ (yes (copied c)) (copied c .before .if2 .left))
+    let copied = c .before .before .before in
+    rw (toZ-ofZ (sfits-of (c .before .before .position-arg .given)), toZ-ofZ (sfits-of (c .before .position-arg2 .given)))
+    (position-ready _ _ (yes copied) (copied .before .if2 .left))
 
 returns-3 : tie.Need-returns-3
 returns-3 c =
-    let a = c .before in
-    rw (toZ-ofZ (sfits-of (c .position .ok)), c .position .ensures, toZ-ofZ (x-fits a), toZ-ofZ (s-fits a))
-    (position-known _ _ (yes (copied a)) (copied a .before .if2 .left))
+    let a = c .before in let copied = a .before .before .before in
+    rw (
+      toZ-ofZ (sfits-of (c .position .ok)),
+      c .position .ensures,
+      toZ-ofZ (sfits-of (a .before .before .position-arg .given)),
+      toZ-ofZ (sfits-of (a .before .position-arg2 .given)),
+    )
+    (position-known _ _ (yes copied) (copied .before .if2 .left))
 
 pub position-spec : {M : Type 1} → statement M
 position-spec =

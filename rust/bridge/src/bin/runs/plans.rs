@@ -60,9 +60,9 @@ pub fn pairs() -> Plan {
     with_commands(plan)
 }
 
-/// A chain of cups. The order gives each link as ±900, one input of 100 ml, horizon 3,000 and quantum
-/// 1 ml. Read so: every cup starts empty and drains into the next, so each has a link of −900 to
-/// itself and one of +900 to the cup before it; the first has its +900 to the input.
+/// A chain of cups with quantum 1 ml, which starts empty: each cup drains into the next, so each has a
+/// link of −900 to itself and one of +900 to the cup before it; the first has its +900 to the one
+/// input, of 100 ml. The horizon is 3,000.
 pub fn chain(cups: usize) -> Plan {
     let mut plan = Plan::new(3_000);
     for _ in 0..cups {
