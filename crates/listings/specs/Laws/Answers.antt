@@ -23,7 +23,7 @@ use Rattle.simulator.specs.declared.Ran.{Ran}
 use Rattle.listings.specs.Listing.{eventLines, closing}
 use Rattle.listings.specs.Turns.{turnState, turnMore, turnText, turnOf, firstText, firstOf}
 use Rattle.listings.specs.Laws.Joined.{turns-end}
-use Rattle.listings.specs.Laws.Fits.{bytes-most, lines-fit, closing-fits}
+use Rattle.listings.specs.Laws.Fits.{lines-fit, closing-fits}
 use Rattle.listings.specs.declared.Turn.{Turn}
 
 -- ---- before the first turn
@@ -69,10 +69,6 @@ module _ (st : State) (ok : Sound st) (buffer : List ℕ) (room : 30720 ≤ leng
   pub ran-bytes : bytes ≡ over events buffer
   unfolding ranEvents
   ran-bytes = rw b (every-promise .accepted st buffer .run Lazy 64 accepts .4)
-
-  events-most : length events ≤ 30720
-  unfolding ranEvents
-  events-most = bytes-most (st .plan) (st .run) ok
 
   -- the lines that the code writes are those of its events
   ran-lines : linesOf bytes (ran .written / 12) ≡ eventLines events

@@ -1,4 +1,5 @@
 -- What is printed fits the program's buffer: 64 instants have at most 2,560 events of 26 characters, and the end line has 40. Assumes nothing.
+use mathlib.Core.Path.{refl}
 use mathlib.Core.Bool.{Bool, true, false, cond}
 use mathlib.Core.List.{List, [], _++_}
 use Prim.Native.Nat.{ℕ, _+_, _/_, _≤_}
@@ -16,14 +17,16 @@ use Rattle.machine.specs.Laws.Status.{status-most}
 use Rattle.machine.specs.declared.Running.{Running}
 use Rattle.machine.specs.declared.State.{State}
 use Rattle.machine.specs.declared.Engine.the-variants.{Lazy}
+use Rattle.text.specs.Decimal.{signedDecimal}
+use Rattle.text.specs.Laws.Decimals.{length-decimal, decimal-digits, decimal-first, decimal-read}
 use Rattle.text.specs.Laws.Sizes.{lines-most, end-most, refusal-most}
 use Rattle.text.specs.Lines.{refusalLine}
 use Rattle.simulator.specs.Calls.{loadOf, roomOf, ranState, ranEvents}
 use Rattle.simulator.specs.Proofs.Limits.{limits}
 use Rattle.simulator.specs.Proofs.StateLimits.{state-limits}
-use Rattle.listings.specs.Listing.{eventLines, closing}
+use Rattle.listings.specs.Listing.{eventLines, closing, listingOfInput}
 use Rattle.listings.specs.Turns.{turnState, turnMore, turnText, firstText}
-use Rattle.listings.specs.Promises.{ListingPromise, TextsFit, LongRefused}
+use Rattle.listings.specs.Promises.{NumberTexts, ListingPromise, InputPrinted, TextsFit, LongRefused}
 use Rattle.listings.specs.Laws.Joined.{event-list, listing-stops, turns-end, turns-print}
 
 module _ (p : Plan) (r : Running) (ok : SoundRunning p r) where
@@ -82,5 +85,30 @@ texts-fit = (turn-fits, first-fits)
 pub long-refused : LongRefused
 long-refused input h e = omega (arith, limits .accepted-files (take 4493 input) e .longest, length-take 4493 input)
 
+input-printed : InputPrinted
+unfolding listingOfInput
+input-printed input = turns-print (take 4493 input)
+
+number-texts : NumberTexts
+unfolding signedDecimal
+number-texts =
+    record {
+      read = decimal-read;
+      digits = decimal-digits;
+      no-zero = decimal-first;
+      from-zero = λ n. refl;
+      below-zero = λ n. refl;
+      most = λ n h. length-decimal 19 n (omega (arith, h));
+    }
+
 pub listing-promise : ListingPromise
-listing-promise = record { stops = listing-stops; turns-end = turns-end; turns-print = turns-print; texts-fit = texts-fit; long-refused = long-refused }
+listing-promise =
+    record {
+      number-texts = number-texts;
+      stops = listing-stops;
+      turns-end = turns-end;
+      turns-print = turns-print;
+      input-printed = input-printed;
+      texts-fit = texts-fit;
+      long-refused = long-refused;
+    }
