@@ -2,12 +2,15 @@
 
 use std::io::{self, Read, Write};
 use std::path::PathBuf;
-use std::process::{Child, ChildStdin, Command, Stdio};
+use std::process::{Child, ChildStdin, ChildStdout, Command, Stdio};
+use std::sync::mpsc;
 use std::thread;
 use std::time::Duration;
 
 /// What a program prints that has not ended by then is not read further.
 const MOST: u64 = 1 << 24;
+/// A program that has not ended by then is stopped.
+const LONGEST: Duration = Duration::from_secs(60);
 
 /// Anything that lists, so that the comparison serves the program and wrong ones alike.
 pub trait Lister {
@@ -30,10 +33,14 @@ impl Lister for Program {
             .spawn();
         let mut child = child.map_err(|error| format!("{}: {error}", self.path.display()))?;
         let given = child.stdin.take().expect("it is piped");
+        let output = child.stdout.take().expect("it is piped");
+        let (sender, receiver) = mpsc::channel();
         // A program that has read enough may print before all is written.
         thread::scope(|scope| {
             scope.spawn(|| feed(given, input, pieces));
-            read_all(&mut child)
+            // Nobody waits for it any more once the program is stopped.
+            scope.spawn(move || sender.send(read_all(output)).unwrap_or_default());
+            finish(&mut child, receiver.recv_timeout(LONGEST).ok().flatten())
         })
     }
 }
@@ -53,18 +60,23 @@ fn feed(mut given: ChildStdin, input: &[u8], pieces: usize) {
     }
 }
 
-fn read_all(child: &mut Child) -> Result<Vec<u8>, String> {
+/// All that is printed, unless it is too much.
+fn read_all(output: ChildStdout) -> Option<Vec<u8>> {
     let mut printed = Vec::new();
-    let output = child.stdout.take().expect("it is piped");
     let read = output.take(MOST).read_to_end(&mut printed);
-    let ended = read.is_ok() && (printed.len() as u64) < MOST;
-    if !ended {
+    (read.is_ok() && (printed.len() as u64) < MOST).then_some(printed)
+}
+
+/// Waits for the end of a program that has closed its output; stops any other.
+fn finish(child: &mut Child, printed: Option<Vec<u8>>) -> Result<Vec<u8>, String> {
+    if printed.is_none() {
         // It may have ended by itself in the meantime.
         let _ = child.kill();
     }
     let status = child.wait().map_err(|error| error.to_string())?;
-    match ended && status.success() {
-        true => Ok(printed),
-        false => Err(format!("{status} after {} bytes printed", printed.len())),
+    match printed {
+        Some(printed) if status.success() => Ok(printed),
+        Some(printed) => Err(format!("{status} after {} bytes printed", printed.len())),
+        None => Err("it did not end, or printed too much".to_string()),
     }
 }
