@@ -106,10 +106,12 @@ impl Repository {
         }
     }
 
-    /// Lists a crate of cases, without code, that sees all others.
+    /// Lists a crate of cases, without code, that sees all libraries; a program cannot be seen.
     fn add_cases(&self, root: &Path) {
         let listed = fs::read_to_string(root.join("crates.txt")).expect("crates.txt");
-        let names: Vec<&str> = listed.lines().filter_map(name_of).collect();
+        let is_library = |name: &&str| root.join("crates").join(name).join("src/lib.rt").is_file();
+        let names = listed.lines().filter_map(name_of).filter(is_library);
+        let names: Vec<&str> = names.collect();
         self.write(
             "crates.txt",
             &format!("{listed}cases: {}\n", names.join(" ")),
