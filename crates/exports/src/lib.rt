@@ -6,7 +6,7 @@ ghost use Rattle.plan.specs.Format.{part};
 ghost use Rattle.plan.specs.Refusals.{numberOf, entryOf, findingOf, sectionOf};
 ghost use Rattle.machine.specs.SoundTest.{isSound};
 ghost use Rattle.machine.specs.declared.Engine.the-variants.{Lazy, Eager};
-ghost use Rattle.simulator.specs.Calls.{loadOf, writeOf, bufferOfWrite, runOf, bufferOfRun, positionedOf};
+ghost use Rattle.calls.specs.Calls.{loadOf, writeOf, bufferOfWrite, runOf, bufferOfRun, positionedOf};
 ghost use Rattle.exports.specs.Tables.{tablesOf};
 ghost use Rattle.exports.specs.Viewing.{viewLength, viewOffset};
 ghost use Rattle.exports.specs.Rewriting.{rewriteNumber, rewriteLength, rewriteBuffer};

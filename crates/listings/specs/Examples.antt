@@ -26,7 +26,7 @@ use Rattle.machine.specs.Status.{bars, barring, statusAt, integratorAt, statusO
 use Rattle.machine.specs.Runs.{after, events}
 use Rattle.text.specs.Decimal.{digitsIn, decimal, signedDecimal}
 use Rattle.text.specs.Lines.{eventLine, endLine, refusalLine, lineAt, linesOf}
-use Rattle.simulator.specs.Calls.{loadOf, ranState, ranEvents}
+use Rattle.calls.specs.Calls.{loadOf, ranState, ranEvents}
 use Rattle.listings.specs.Listing.{eventLines, closing, listedBy, listingOf}
 use Rattle.listings.specs.Turns.{turnState, turnMore, turnText, firstText, turnsFrom, printedIn}
 

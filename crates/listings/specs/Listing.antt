@@ -12,7 +12,7 @@ use Rattle.machine.specs.Runs.{after, events}
 use Rattle.machine.specs.declared.Running.{Running}
 use Rattle.machine.specs.declared.Engine.the-variants.{Lazy}
 use Rattle.text.specs.Lines.{linesOf, endLine, refusalLine}
-use Rattle.simulator.specs.Calls.{loadOf}
+use Rattle.calls.specs.Calls.{loadOf}
 
 -- "prints each event as tick, source, value": the lines of a list of events, "12 bytes each"
 unfoldable pub eventLines : List ℕ → List ℕ

@@ -13,7 +13,7 @@ use Rattle.machine.specs.declared.State.{State}
 use Rattle.machine.specs.declared.Engine.the-variants.{Lazy}
 use Rattle.text.specs.Decimal.{decimal, signedDecimal}
 use Rattle.text.specs.Laws.Decimals.{readFrom}
-use Rattle.simulator.specs.Calls.{loadOf}
+use Rattle.calls.specs.Calls.{loadOf}
 use Rattle.listings.specs.Listing.{listingOf, listingOfInput}
 use Rattle.listings.specs.Turns.{turnState, turnMore, turnText, firstText, printedIn}
 

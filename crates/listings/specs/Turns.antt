@@ -8,7 +8,7 @@ use Rattle.machine.specs.Status.{statusOf}
 use Rattle.machine.specs.declared.State.{State}
 use Rattle.machine.specs.declared.Engine.the-variants.{Lazy}
 use Rattle.text.specs.Lines.{refusalLine}
-use Rattle.simulator.specs.Calls.{loadOf, ranState, ranEvents}
+use Rattle.calls.specs.Calls.{loadOf, ranState, ranEvents}
 use Rattle.listings.specs.Listing.{eventLines, closing}
 use Rattle.listings.specs.declared.Turn.{Turn}
 

@@ -4,7 +4,7 @@ ghost use Prim.Native.Nat.{_≤_};
 ghost use lib.ListN.{length};
 ghost use Rattle.machine.specs.Sound.{Sound};
 ghost use Rattle.machine.specs.declared.Engine.the-variants.{Lazy};
-ghost use Rattle.simulator.specs.Calls.{over, ranEvents};
+ghost use Rattle.calls.specs.Calls.{over, ranEvents};
 ghost use Rattle.listings.specs.Turns.{turnText, turnOf, firstText, firstOf};
 use machine::State;
 use simulator::load;

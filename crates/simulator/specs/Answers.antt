@@ -27,12 +27,12 @@ use Rattle.dynamics.specs.Laws.Standings.{ready-at}
 use Rattle.instant.specs.Events.{putAt}
 use Rattle.engine.specs.Running.{endedOf, RunReady}
 use Rattle.engine.specs.declared.runs.Ended.{Ended}
-use Rattle.simulator.specs.Calls.{loadOf, writeNumber, writeOf, bufferOfWrite, roomOf, declineOf, runNumber, ranState, ranEvents}
-use Rattle.simulator.specs.Calls.{runOf, bufferOfRun, positionNumber, positionedOf}
-use Rattle.simulator.specs.declared.Loaded.{Loaded}
-use Rattle.simulator.specs.declared.Written.{Written}
-use Rattle.simulator.specs.declared.Ran.{Ran}
-use Rattle.simulator.specs.declared.Positioned.{Positioned}
+use Rattle.calls.specs.Calls.{loadOf, writeNumber, writeOf, bufferOfWrite, roomOf, declineOf, runNumber, ranState, ranEvents}
+use Rattle.calls.specs.Calls.{runOf, bufferOfRun, positionNumber, positionedOf}
+use Rattle.calls.specs.declared.Loaded.{Loaded}
+use Rattle.calls.specs.declared.Written.{Written}
+use Rattle.calls.specs.declared.Ran.{Ran}
+use Rattle.calls.specs.declared.Positioned.{Positioned}
 
 -- ---- load
 module _ (file : List ℕ) where

@@ -1,9 +1,2 @@
--- What the public calls answer, lists of run calls, the promises about them, and the proofs of these.
-pub mod Calls
+-- The answers of the calls by the cases that their code tells apart.
 pub mod Answers
-pub mod Lists
-pub mod Sessions
-pub mod Limits
-pub mod Promises
-pub mod Proofs
-pub mod Examples

@@ -2,13 +2,17 @@
 mod positions;
 mod runs;
 
+pub use calls::Loaded;
+pub use calls::Positioned;
+pub use calls::Ran;
+pub use calls::Written;
 pub use positions::position;
 pub use runs::run_eager;
 pub use runs::run_lazy;
 ghost use mathlib.Core.Path.{_≡_};
 ghost use Rattle.plan.specs.Refusals.{sectionOf, sectionStart};
 ghost use Rattle.planfile.specs.Pointers.{further};
-ghost use Rattle.simulator.specs.Calls.{loadOf, writeOf, bufferOfWrite};
+ghost use Rattle.calls.specs.Calls.{loadOf, writeOf, bufferOfWrite};
 use dynamics::start;
 use machine::State;
 use plan::Finding;
@@ -19,38 +23,6 @@ use planrules::entry_of;
 use planrules::number_of;
 use planwriter::write_plan;
 use soundness::is_sound;
-
-// Number 0 is acceptance; else it is one of document 01's refusals. A refused load gives the lowest faulty entry, and the idle state. Every
-// other refused call gives 0 for its other figures, and the state that was handed in.
-#[repr(C)]
-pub struct Loaded {
-    pub number: usize,
-    pub entry: usize,
-    pub state: State,
-}
-
-#[repr(C)]
-pub struct Written {
-    pub number: usize,
-    pub length: usize,
-    pub state: State,
-}
-
-#[repr(C)]
-pub struct Ran {
-    pub number: usize,
-    pub status: usize,
-    pub integrator: usize,
-    pub written: usize,
-    pub state: State,
-}
-
-#[repr(C)]
-pub struct Positioned {
-    pub number: usize,
-    pub value: i64,
-    pub state: State,
-}
 
 // The section view: "hands back that part of the caller's own file, or an empty part if the file would be refused or the number is above 4". The first
 // clause says what the part holds, the second where it lies, so that it is the caller's own.

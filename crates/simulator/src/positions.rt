@@ -1,7 +1,7 @@
 // The position call: 10, then 14, else where the integrator is at the clock.
 ghost use mathlib.Core.Path.{_≡_};
-ghost use Rattle.simulator.specs.Calls.{positionedOf};
-use crate::Positioned;
+ghost use Rattle.calls.specs.Calls.{positionedOf};
+use calls::Positioned;
 use machine::State;
 use soundness::is_sound;
 

@@ -2,8 +2,8 @@
 ghost use mathlib.Core.Path.{_≡_};
 ghost use Rattle.machine.specs.declared.Engine.the-variants.{Lazy, Eager};
 ghost use Rattle.simulator.specs.Answers.{declinedWith};
-ghost use Rattle.simulator.specs.Calls.{runOf, bufferOfRun};
-use crate::Ran;
+ghost use Rattle.calls.specs.Calls.{runOf, bufferOfRun};
+use calls::Ran;
 use engine::run;
 use machine::Engine;
 use machine::State;

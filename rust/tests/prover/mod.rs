@@ -10,7 +10,7 @@ use std::process::Command;
 
 /// Where the table of the calls' worked examples stands. The cases use what it uses and open what
 /// it opens.
-const TABLE: &str = "crates/simulator/specs/Examples.antt";
+const TABLE: &str = "crates/calls/specs/Examples.antt";
 
 /// A declaration of the module of cases.
 #[derive(Clone, Debug)]
@@ -172,9 +172,9 @@ fn name_of(line: &str) -> Option<&str> {
 /// short name.
 fn uses_of(table: &str) -> String {
     let lines = table.lines().filter(|line| line.starts_with("use "));
-    let own = "Rattle.simulator.specs.";
+    let own = "Rattle.calls.specs.";
     lines
-        .map(|line| line.replace(own, "Rattle.simulator.specs.") + "\n")
+        .map(|line| line.replace(own, "Rattle.calls.specs.") + "\n")
         .collect()
 }
 

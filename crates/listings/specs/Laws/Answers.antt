@@ -15,11 +15,11 @@ use Rattle.text.specs.Lines.{linesOf, endLine, refusalLine}
 use Rattle.text.specs.Printed.{Printed}
 use Rattle.text.specs.Laws.Lines.{lines-before}
 use Rattle.text.specs.Laws.Printing.{length-printed, then-text, in-part}
-use Rattle.simulator.specs.Calls.{over, loadOf, roomOf, ranState, ranEvents, runOf, bufferOfRun}
-use Rattle.simulator.specs.Proofs.All.{every-promise}
-use Rattle.simulator.specs.Proofs.StateLimits.{state-limits}
-use Rattle.simulator.specs.declared.Loaded.{Loaded}
-use Rattle.simulator.specs.declared.Ran.{Ran}
+use Rattle.calls.specs.Calls.{over, loadOf, roomOf, ranState, ranEvents, runOf, bufferOfRun}
+use Rattle.calls.specs.Proofs.All.{every-promise}
+use Rattle.calls.specs.Proofs.StateLimits.{state-limits}
+use Rattle.calls.specs.declared.Loaded.{Loaded}
+use Rattle.calls.specs.declared.Ran.{Ran}
 use Rattle.listings.specs.Listing.{eventLines, closing}
 use Rattle.listings.specs.Turns.{turnState, turnMore, turnText, turnOf, firstText, firstOf}
 use Rattle.listings.specs.Laws.Joined.{turns-end}

@@ -21,9 +21,9 @@ use Rattle.text.specs.Decimal.{signedDecimal}
 use Rattle.text.specs.Laws.Decimals.{length-decimal, decimal-digits, decimal-first, decimal-read}
 use Rattle.text.specs.Laws.Sizes.{lines-most, end-most, refusal-most}
 use Rattle.text.specs.Lines.{refusalLine}
-use Rattle.simulator.specs.Calls.{loadOf, roomOf, ranState, ranEvents}
-use Rattle.simulator.specs.Proofs.Limits.{limits}
-use Rattle.simulator.specs.Proofs.StateLimits.{state-limits}
+use Rattle.calls.specs.Calls.{loadOf, roomOf, ranState, ranEvents}
+use Rattle.calls.specs.Proofs.Limits.{limits}
+use Rattle.calls.specs.Proofs.StateLimits.{state-limits}
 use Rattle.listings.specs.Listing.{eventLines, closing, listingOfInput}
 use Rattle.listings.specs.Turns.{turnState, turnMore, turnText, firstText}
 use Rattle.listings.specs.Promises.{NumberTexts, ListingPromise, InputPrinted, TextsFit, LongRefused}

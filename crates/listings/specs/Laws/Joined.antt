@@ -21,8 +21,8 @@ use Rattle.machine.specs.declared.State.{State}
 use Rattle.machine.specs.declared.Engine.the-variants.{Lazy}
 use Rattle.text.specs.Lines.{linesOf, refusalLine}
 use Rattle.text.specs.Laws.Lines.{lines-append}
-use Rattle.simulator.specs.Calls.{loadOf, ranState, ranEvents}
-use Rattle.simulator.specs.Proofs.Sound.{load-sound}
+use Rattle.calls.specs.Calls.{loadOf, ranState, ranEvents}
+use Rattle.calls.specs.Proofs.Sound.{load-sound}
 use Rattle.listings.specs.Listing.{eventLines, closing, listedBy, listingOf}
 use Rattle.listings.specs.Turns.{turnState, turnMore, turnText, firstText, turnsFrom, printedIn}
 use Rattle.listings.specs.Promises.{ListingStops, TurnsEnd, TurnsPrint}

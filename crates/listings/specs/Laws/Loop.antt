@@ -7,8 +7,8 @@ use native.Mathlib.Omega.{arith}
 use lib.ListN.{length, drop, length-append}
 use Rattle.machine.specs.Sound.{Sound}
 use Rattle.machine.specs.declared.State.{State}
-use Rattle.simulator.specs.Calls.{over}
-use Rattle.simulator.specs.Proofs.Sound.{load-sound}
+use Rattle.calls.specs.Calls.{over}
+use Rattle.calls.specs.Proofs.Sound.{load-sound}
 use Rattle.listings.specs.Turns.{turnState, turnMore, turnText, turnOf, firstText, firstOf}
 use Rattle.listings.specs.Laws.Joined.{turns-end}
 use Rattle.listings.specs.declared.Turn.{Turn}

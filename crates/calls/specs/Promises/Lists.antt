@@ -1,0 +1,126 @@
+-- Demand 3, "a single claim about the list": for every accepted file and every list of run calls, lazy and eager in any mix, declined ones
+-- included, the outcome is that of the plain machine for the sum of the accepted budgets, and the update count is exact. A statement; the proof
+-- stands in Proofs.
+use mathlib.Core.Path.{_≡_}
+use mathlib.Core.List.{List, [], _∷_, _++_}
+use Prim.Native.Nat.{ℕ, _+_, _-_, _*_, _≤_, _<_}
+use lib.IntN.{pos}
+use lib.ListN.{length, take, drop}
+use lib.Dec.{eqb}
+use Rattle.bitset.specs.Mask.{countOf}
+use Rattle.plan.specs.Lists.{nat, int}
+use Rattle.plan.specs.Format.{planIn}
+use Rattle.plan.specs.declared.Plan.{Plan}
+use Rattle.machine.specs.Next.{nextTick}
+use Rattle.machine.specs.Instant.{moves, eventsOf}
+use Rattle.machine.specs.Status.{statusOf, integratorOf}
+use Rattle.machine.specs.Plain.{Plain, plainAfter, plainEvents, plainStatus, plainIntegrator}
+use Rattle.machine.specs.Updates.{growth, growthUpTo, movedNow}
+use Rattle.machine.specs.declared.Running.{Running}
+use Rattle.machine.specs.declared.State.{State}
+use Rattle.machine.specs.declared.Engine.{Engine}
+use Rattle.machine.specs.declared.Engine.the-variants.{Lazy, Eager}
+use Rattle.calls.specs.Calls.{loadOf, runOf, bufferOfRun, positionedOf}
+use Rattle.calls.specs.Lists.{Call, answerOf, bufferOf, afterCalls, budgetSum, joinedBytes, engineAt, cutAt, restAt, allBy}
+use Rattle.calls.specs.declared.Ran.{Ran}
+
+-- what a call of a list answers in itself, and the buffer that it leaves
+pub record CallPromise (p : Plan) (st : State) (c : Call) (answer : Ran) (buffer : List ℕ) : Type 0 where
+  -- "There a call is declined by 11 or 12 only", and by these exactly as they are named; never by 10
+  pub above : 1024 < c .budget → answer .number ≡ 11
+  pub short : c .budget ≤ 1024 → length (c .buffer) < c .budget * (p .n + p .m) * 12 → answer .number ≡ 12
+  pub accepted : c .budget ≤ 1024 → c .budget * (p .n + p .m) * 12 ≤ length (c .buffer) → answer .number ≡ 0
+  -- "Each accepted call answers the status and integrator of the state it returns."
+  pub status : answer .number ≡ 0 → answer .status ≡ statusOf p (answer .state .run)
+  pub integrator : answer .number ≡ 0 → answer .integrator ≡ integratorOf p (answer .state .run)
+  -- "bytes written from the buffer's start; later bytes keep their value", and there are as many as before
+  pub written : answer .written ≤ length (c .buffer)
+  pub size : length buffer ≡ length (c .buffer)
+  pub later : drop (answer .written) buffer ≡ drop (answer .written) (c .buffer)
+  -- a refusal changes nothing that was lent
+  pub declined : (answer .number ≡ 0 → ⊥) → (answer .state ≡ st) × (buffer ≡ c .buffer)
+
+-- "Plain machine and engines are compared on everything but l, the stored x and updates"
+pub record SameAsPlain (p : Plan) (st : State) (m : Plain) : Type 0 where
+  pub plan : st .plan ≡ p
+  pub q : st .run .q ≡ m .q
+  pub s : st .run .s ≡ m .s
+  pub d : st .run .d ≡ m .d
+  pub inputs : st .run .inputs ≡ m .inputs
+  pub clock : st .run .clock ≡ m .clock
+  pub next : st .run .next ≡ m .next
+  pub instants : st .run .instants ≡ m .instants
+  -- "that takes in status and its integrator by the rule above, the position call for every integrator"
+  pub status : statusOf p (st .run) ≡ plainStatus p m
+  pub integrator : integratorOf p (st .run) ≡ plainIntegrator p m
+  pub position : (i : ℕ) → i < p .n → positionedOf st i ≡ record { number = 0; value = int (m .x) i; state = st }
+  pub no-position : (i : ℕ) → p .n ≤ i → positionedOf st i ≡ record { number = 14; value = pos 0; state = st }
+
+-- instant i of a list, by the list cut behind it: the state after it is that list's end, and the rest of the list goes on from there
+pub record InstantPromise (p : Plan) (st : State) (calls : List Call) (i : ℕ) : Type 0 where
+  pub sum : budgetSum st (cutAt st calls i) ≡ i
+  pub taken : afterCalls st (cutAt st calls i) .run .instants ≡ i
+  pub resumed : afterCalls (afterCalls st (cutAt st calls i)) (restAt st calls i) ≡ afterCalls st calls
+  -- its bytes are the events of the state before it
+  pub bytes : joinedBytes st (cutAt st calls i)
+      ≡ joinedBytes st (cutAt st calls (i - 1)) ++ eventsOf p (afterCalls st (cutAt st calls (i - 1)) .run)
+  -- "this is the number of integrators with l = c after it"
+  pub moved : movedNow p (afterCalls st (cutAt st calls i) .run) ≡ growth p (engineAt st calls i) (plainAfter p (i - 1))
+  pub grown : afterCalls st (cutAt st calls i) .run .updates ≡ growthUpTo p (engineAt st calls) i
+
+-- what a list of calls is: the run's own answers, one after the other, and what is joined and added up of them
+pub record FoldPromise (st : State) (c : Call) (calls : List Call) : Type 0 where
+  pub answer : answerOf st c ≡ runOf (c .engine) st (c .budget) (c .buffer)
+  pub buffer : bufferOf st c ≡ bufferOfRun (c .engine) st (c .budget) (c .buffer)
+  pub no-state : afterCalls st [] ≡ st
+  pub state : afterCalls st (c ∷ calls) ≡ afterCalls (answerOf st c .state) calls
+  pub no-bytes : joinedBytes st [] ≡ []
+  pub bytes : joinedBytes st (c ∷ calls) ≡ take (answerOf st c .written) (bufferOf st c) ++ joinedBytes (answerOf st c .state) calls
+  -- "the budgets of a list's accepted run calls added up; a declined call feeds it nothing"
+  pub no-sum : budgetSum st [] ≡ 0
+  pub accepted-sum : answerOf st c .number ≡ 0 → budgetSum st (c ∷ calls) ≡ c .budget + budgetSum (answerOf st c .state) calls
+  pub declined-sum : (answerOf st c .number ≡ 0 → ⊥) → budgetSum st (c ∷ calls) ≡ budgetSum (answerOf st c .state) calls
+  -- "Instant i .. belongs to the first accepted call at which the accepted budgets, its own included, add up to i or more"
+  pub own : (i : ℕ) → answerOf st c .number ≡ 0 → 1 ≤ i → i ≤ c .budget → engineAt st (c ∷ calls) i ≡ c .engine
+  pub later : (i : ℕ) → answerOf st c .number ≡ 0 → c .budget < i
+      → engineAt st (c ∷ calls) i ≡ engineAt (answerOf st c .state) calls (i - c .budget)
+  pub declined : (i : ℕ) → (answerOf st c .number ≡ 0 → ⊥) → 1 ≤ i → engineAt st (c ∷ calls) i ≡ engineAt (answerOf st c .state) calls i
+  pub none-by : (engine : Engine) → allBy engine [] ≡ []
+  pub all-by : (engine : Engine) → allBy engine (c ∷ calls) ≡ record { engine = engine; budget = c .budget; buffer = c .buffer } ∷ allBy engine calls
+
+abbrev pub ListsMean : Type 0
+ListsMean = (st : State) (c : Call) (calls : List Call) → FoldPromise st c calls
+
+-- by how much updates grow: "by n if that call is eager, else by the number that step 5 moves for the lazy engine, with the plain machine's due
+-- ticks", added up over the instants; and "the number of integrators with l = c"
+pub record GrowthPromise (p : Plan) (engine : ℕ → Engine) (k : ℕ) (m : Plain) (r : Running) : Type 0 where
+  pub eager : growth p Eager m ≡ p .n
+  pub lazy : growth p Lazy m ≡ countOf (moves p Lazy (m .d) (nextTick p (m .d) (m .next))) (p .n)
+  pub none : growthUpTo p engine 0 ≡ 0
+  pub more : growthUpTo p engine (k + 1) ≡ growthUpTo p engine k + growth p (engine (k + 1)) (plainAfter p k)
+  pub now : movedNow p r ≡ countOf (λ i. eqb (nat (r .l) i) (r .clock)) (p .n)
+
+abbrev pub GrowthMeans : Type 0
+GrowthMeans = (p : Plan) (engine : ℕ → Engine) (k : ℕ) (m : Plain) (r : Running) → GrowthPromise p engine k m r
+
+-- the claim about a list, from the loaded state
+pub record ListPromise (p : Plan) (st : State) (calls : List Call) : Type 0 where
+  pub each : (earlier : List Call) (c : Call) (later : List Call) → calls ≡ earlier ++ (c ∷ later)
+      → CallPromise p (afterCalls st earlier) c (answerOf (afterCalls st earlier) c) (bufferOf (afterCalls st earlier) c)
+  pub state : SameAsPlain p (afterCalls st calls) (plainAfter p (budgetSum st calls))
+  -- "and the bytes that accepted calls answer as written, joined in call order"
+  pub bytes : joinedBytes st calls ≡ plainEvents p (budgetSum st calls)
+  pub instants : (i : ℕ) → 1 ≤ i → i ≤ plainAfter p (budgetSum st calls) .instants → InstantPromise p st calls i
+  pub updates : afterCalls st calls .run .updates ≡ growthUpTo p (engineAt st calls) (plainAfter p (budgetSum st calls) .instants)
+  -- lists with an equal sum end alike: as the same plain machine, by the same bytes
+  pub alike : (others : List Call) → budgetSum st others ≡ budgetSum st calls
+      → SameAsPlain p (afterCalls st others) (plainAfter p (budgetSum st calls)) × (joinedBytes st others ≡ joinedBytes st calls)
+  -- the same list made all lazy, or all eager, has the same sum, and bounds the updates
+  pub same-sum : (engine : Engine) → budgetSum st (allBy engine calls) ≡ budgetSum st calls
+  pub fewest : afterCalls st (allBy Lazy calls) .run .updates ≤ afterCalls st calls .run .updates
+  pub most : afterCalls st calls .run .updates ≤ afterCalls st (allBy Eager calls) .run .updates
+  pub all-lazy : afterCalls st (allBy Lazy calls) .run .updates ≡ growthUpTo p (λ i. Lazy) (plainAfter p (budgetSum st calls) .instants)
+  pub all-eager : afterCalls st (allBy Eager calls) .run .updates ≡ p .n * plainAfter p (budgetSum st calls) .instants
+
+abbrev pub Demand3 : Type 0
+Demand3 = (file : List ℕ) → loadOf file .number ≡ 0 → (calls : List Call) → ListPromise (planIn file) (loadOf file .state) calls

@@ -1,0 +1,57 @@
+-- Every promise holds. Assumes nothing.
+use Rattle.calls.specs.Promises.{EveryPromise}
+use Rattle.calls.specs.Proofs.Numbers.{numbers-mean}
+use Rattle.calls.specs.Proofs.Machine.{next-means, status-means, reach-means, frame, due-least, due-between, plain-takes}
+use Rattle.calls.specs.Proofs.Steps.{values-mean, start-means, steps-mean, run-takes}
+use Rattle.calls.specs.Proofs.Calls.{every-number, accepted, every-buffer, declined}
+use Rattle.calls.specs.Proofs.Files.{every-file, every-view, load-shaped}
+use Rattle.calls.specs.Proofs.Places.{every-header, every-place}
+use Rattle.calls.specs.Proofs.Limits.{limits}
+use Rattle.calls.specs.Proofs.Sound.{sound-means, load-sound, idle-loaded, next-determined}
+use Rattle.calls.specs.Proofs.RoundTrips.{load-then-write, write-then-load}
+use Rattle.calls.specs.Proofs.Events.{events-read}
+use Rattle.calls.specs.Proofs.Runs.{run-sound, run-moves, run-shaped}
+use Rattle.calls.specs.Proofs.Folds.{lists-mean, growth-means}
+use Rattle.calls.specs.Proofs.Demand3.{demand-3}
+use Rattle.calls.specs.Proofs.Sessions.{every-session}
+
+pub every-promise : EveryPromise
+every-promise =
+    record {
+      numbers-mean = numbers-mean;
+      every-file = every-file;
+      every-header = every-header;
+      every-place = every-place;
+      every-view = every-view;
+      load-then-write = load-then-write;
+      write-then-load = write-then-load;
+      load-shaped = load-shaped;
+      values-mean = values-mean;
+      due-least = due-least;
+      due-between = due-between;
+      start-means = start-means;
+      next-means = next-means;
+      steps-mean = steps-mean;
+      reach-means = reach-means;
+      frame = frame;
+      events-read = events-read;
+      status-means = status-means;
+      run-takes = run-takes;
+      plain-takes = plain-takes;
+      lists-mean = lists-mean;
+      growth-means = growth-means;
+      demand-3 = demand-3;
+      every-session = every-session;
+      sound-means = sound-means;
+      load-sound = load-sound;
+      run-sound = run-sound;
+      idle-loaded = idle-loaded;
+      next-determined = next-determined;
+      run-moves = run-moves;
+      run-shaped = run-shaped;
+      every-number = every-number;
+      accepted = accepted;
+      declined = declined;
+      every-buffer = every-buffer;
+      limits = limits;
+    }

@@ -1,0 +1,33 @@
+-- The promises about the numbers that all others speak in. Assumes nothing.
+use mathlib.Core.Path.{_≡_, refl}
+use Prim.Native.Nat.{suc, _+_}
+use native.Mathlib.Omega.{arith}
+use Rattle.integers.specs.Division.{floor-law}
+use Rattle.integers.specs.Range.{limited-same, limited-low, limited-high}
+use Rattle.bitset.specs.Mask.{countOf}
+use Rattle.words.specs.Word.{word}
+use Rattle.words.specs.Reading.{word-bytes}
+use Rattle.words.specs.Signs.{signed-low, signed-high}
+use Rattle.calls.specs.Promises.Numbers.{NumbersMean}
+
+pub numbers-mean : NumbersMean
+unfolding countOf
+numbers-mean =
+    record {
+      little-endian = word-bytes;
+      not-negative = λ s at h. signed-low 4 (word s at) h;
+      negative = λ s at h. signed-high 4 (word s at) h;
+      largest = refl;
+      no-tick = refl;
+      floor-below = λ v. floor-law v 65536 (omega arith) .0;
+      floor-above = λ v. floor-law v 65536 (omega arith) .1;
+      limited-inside = limited-same;
+      limited-below = limited-low;
+      limited-above = limited-high;
+      sizes = refl;
+      least = refl;
+      most = refl;
+      count-none = λ test. refl;
+      count-one = λ test n e. let next : n + 1 ≡ suc n = omega arith in rw (next, e) (omega arith);
+      count-other = λ test n e. let next : n + 1 ≡ suc n = omega arith in rw (next, e);
+    }

@@ -1,0 +1,52 @@
+-- Runs leave sound states, and an accepted run that is paused has moved the clock on. Assumes nothing.
+use mathlib.Core.Path.{_≡_, sym, _∙_}
+use Prim.Native.Nat.{ℕ, zero, suc, _≤_, _<_}
+use native.Mathlib.Omega.{arith}
+use lib.ListN.{length, replicate}
+use Rattle.calls.specs.Calls.{runOf}
+use Rattle.calls.specs.Proofs.CallNumbers.{run-zero}
+use borrow.Author.Tests.{eq-eqb}
+use Rattle.plan.specs.declared.Plan.{Plan}
+use Rattle.machine.specs.Status.{statusOf}
+use Rattle.machine.specs.Sound.{RunningShaped, SoundRunning}
+use Rattle.machine.specs.Laws.Shapes.{after-shaped}
+use Rattle.machine.specs.Laws.Status.{is-paused}
+use Rattle.machine.specs.Laws.Runs.{afterBy, clock-moves}
+use Rattle.machine.specs.declared.Running.{Running}
+use Rattle.machine.specs.declared.State.{State}
+use Rattle.calls.specs.Calls.{runNumber, ranState, runOf}
+use Rattle.calls.specs.Lists.{Call, answerOf, fedBy}
+use Rattle.calls.specs.Promises.States.{RunSound, RunMoves, RunShaped}
+use Rattle.calls.specs.Proofs.CallNumbers.{accept-cases}
+use Rattle.calls.specs.Proofs.Schedule.{at, fed, fed-by, call-after, next-sound}
+use Rattle.calls.specs.Proofs.ListCalls.{call-promise}
+
+pub run-sound : RunSound
+unfolding answerOf
+run-sound engine st budget buffer ok =
+    let c : Call = record { engine = engine; budget = budget; buffer = buffer } in
+    rw (call-after (st .plan) (st .run) c ok) (next-sound (st .plan) (st .run) c ok)
+
+pub run-shaped : RunShaped
+unfolding runOf ranState
+run-shaped engine st budget buffer h =
+    accept-cases (λ (s : State). RunningShaped (s .run)) (runNumber st budget (length buffer))
+    (λ e. after-shaped (st .plan) engine budget (st .run) h) h
+
+module _ (p : Plan) (r : Running) (ok : SoundRunning p r) (c : Call) where
+  clock-then : answerOf (at p r) c .number ≡ 0 → 1 ≤ c .budget → answerOf (at p r) c .status ≡ 0 → r .clock < answerOf (at p r) c .state .run .clock
+  unfolding fedBy
+  clock-then accepts some paused =
+      rw (call-after p r c ok) (by (fed p c) fed-is (rw (call-after p r c ok) at (sym (call-promise p r ok c .status accepts) ∙ paused)))
+    where
+      fed-is : c .budget ≡ fed p c
+      fed-is = rw (eq-eqb (answerOf (at p r) c .number) 0 accepts) at (fed-by p r c ok)
+
+      by : (k : ℕ) → c .budget ≡ k → statusOf p (afterBy p (replicate k (c .engine)) r) ≡ 0 → r .clock < afterBy p (replicate k (c .engine)) r .clock
+      by zero e s = absurd (omega arith)
+      by (suc k) e s = clock-moves p (c .engine) (replicate k (c .engine)) r ok (is-paused p (afterBy p (replicate (suc k) (c .engine)) r) s)
+
+pub run-moves : RunMoves
+unfolding answerOf runOf
+run-moves engine st budget buffer accepts some paused =
+    clock-then (st .plan) (st .run) (run-zero st budget (length buffer) accepts .0) (record { engine = engine; budget = budget; buffer = buffer }) accepts some paused

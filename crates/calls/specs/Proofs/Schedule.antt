@@ -1,0 +1,123 @@
+-- A list of run calls from a sound state, instant by instant: which engine takes each. The calls answer what the run by that list of
+-- engines gives. Assumes nothing.
+use mathlib.Core.Path.{_≡_, refl, ap, _∙_}
+use mathlib.Core.Bool.{Bool, true, false, cond}
+use mathlib.Core.List.{List, [], _∷_, _++_}
+use Prim.Native.Nat.{ℕ, _+_, _*_, _≤_}
+use native.Mathlib.Omega.{arith}
+use lib.Dec.{leb, eqb}
+use lib.ListN.{length, take, drop, replicate, length-append, length-replicate}
+use lib.Seq.{take-append-seam}
+use borrow.Author.Tests.{leb-true, le-leb}
+use Rattle.plan.specs.declared.Plan.{Plan}
+use Rattle.machine.specs.Runs.{after, events}
+use Rattle.machine.specs.Sound.{SoundRunning, Sound}
+use Rattle.machine.specs.Laws.Tested.{sound-means}
+use Rattle.machine.specs.Laws.Runs.{afterBy, eventsBy, after-by, events-by, after-append, events-append, run-sound}
+use Rattle.machine.specs.declared.Running.{Running}
+use Rattle.machine.specs.declared.State.{State}
+use Rattle.machine.specs.declared.Engine.{Engine}
+use Rattle.calls.specs.Calls.{over, roomOf, declineOf, runNumber, ranState, ranEvents, runOf, bufferOfRun}
+use Rattle.calls.specs.Lists.{Call, answerOf, bufferOf, fedBy, afterCalls, budgetSum, joinedBytes}
+
+-- a state of plan p
+abbrev pub at : Plan → Running → State
+at p r = record { plan = p; run = r }
+
+-- ---- one call, on any state: it runs for what it feeds the plain machine
+module _ (p : Plan) (r : Running) (c : Call) where
+  pub call-state : answerOf (at p r) c .state ≡ at p (after p (c .engine) (fedBy (at p r) c) r)
+  unfolding answerOf fedBy runOf ranState after
+  call-state = go (eqb (runNumber (at p r) (c .budget) (length (c .buffer))) 0)
+    where
+      go : (b : Bool) → cond b (at p (after p (c .engine) (c .budget) r)) (at p r) ≡ at p (after p (c .engine) (cond b (c .budget) 0) r)
+      go true = refl
+      go false = refl
+
+  pub call-bytes : take (answerOf (at p r) c .written) (bufferOf (at p r) c) ≡ events p (c .engine) (fedBy (at p r) c) r
+  unfolding answerOf bufferOf fedBy runOf bufferOfRun ranEvents events
+  call-bytes = go (eqb (runNumber (at p r) (c .budget) (length (c .buffer))) 0)
+    where
+      bytes : List ℕ
+      bytes = events p (c .engine) (c .budget) r
+
+      go : (b : Bool) → take (cond b (length bytes) 0) (cond b (over bytes (c .buffer)) (c .buffer)) ≡ events p (c .engine) (cond b (c .budget) 0) r
+      go true = take-append-seam bytes (drop (length bytes) (c .buffer))
+      go false = refl
+
+-- ---- on a sound state the plan and the call alone settle what is accepted
+unfoldable pub fed : Plan → Call → ℕ
+fed p c = cond (eqb (declineOf p (c .budget) (length (c .buffer))) 0) (c .budget) 0
+
+unfoldable pub schedule : Plan → List Call → List Engine
+schedule p [] = []
+schedule p (c ∷ calls) = replicate (fed p c) (c .engine) ++ schedule p calls
+
+pub run-number : (st : State) (c : Call) → Sound st → answerOf st c .number ≡ declineOf (st .plan) (c .budget) (length (c .buffer))
+unfolding answerOf runOf runNumber
+run-number st c ok = rw (sound-means st .1 ok)
+
+-- a smaller budget is accepted where a larger one is
+pub fed-less : (p : Plan) (c : Call) (b : ℕ) → b ≤ fed p c → fed p (record { engine = c .engine; budget = b; buffer = c .buffer }) ≡ b
+unfolding fed declineOf roomOf
+fed-less p c b = go (leb (c .budget) 1024) (leb (c .budget * (p .n + p .m) * 12) (length (c .buffer))) refl refl
+  where
+    zero-fed : b ≤ 0 → cond (eqb (cond (leb b 1024) (cond (leb (b * (p .n + p .m) * 12) (length (c .buffer))) 0 12) 11) 0) b 0 ≡ b
+    zero-fed h =
+        let none : b ≡ 0 = omega arith in
+        rw (none, le-leb (0 * (p .n + p .m) * 12) (length (c .buffer)) (omega arith))
+
+    go : (s t : Bool) → leb (c .budget) 1024 ≡ s → leb (c .budget * (p .n + p .m) * 12) (length (c .buffer)) ≡ t
+        → b ≤ cond (eqb (cond s (cond t 0 12) 11) 0) (c .budget) 0
+        → cond (eqb (cond (leb b 1024) (cond (leb (b * (p .n + p .m) * 12) (length (c .buffer))) 0 12) 11) 0) b 0 ≡ b
+    go true true e f h =
+        let small = leb-true (c .budget) 1024 e in
+        let room = leb-true (c .budget * (p .n + p .m) * 12) (length (c .buffer)) f in
+        rw (le-leb b 1024 (omega arith), le-leb (b * (p .n + p .m) * 12) (length (c .buffer)) (less room))
+      where
+        less : c .budget * (p .n + p .m) * 12 ≤ length (c .buffer) → b * (p .n + p .m) * 12 ≤ length (c .buffer)
+        less room = omega (arith, native.Mathlib.Nat.mul-le-mul-right (p .n + p .m) h)
+    go true false e f h = zero-fed h
+    go false t e f h = zero-fed h
+
+module _ (p : Plan) where
+  -- one call from a sound state
+  module _ (r : Running) (c : Call) (ok : SoundRunning p r) where
+    pub fed-by : fedBy (at p r) c ≡ fed p c
+    unfolding fedBy fed
+    fed-by = rw (run-number (at p r) c ok)
+
+    pub call-after : answerOf (at p r) c .state ≡ at p (afterBy p (replicate (fed p c) (c .engine)) r)
+    call-after = call-state p r c ∙ rw (fed-by, after-by p (c .engine) (fed p c) r)
+
+    pub call-events : take (answerOf (at p r) c .written) (bufferOf (at p r) c) ≡ eventsBy p (replicate (fed p c) (c .engine)) r
+    call-events = call-bytes p r c ∙ rw (fed-by, events-by p (c .engine) (fed p c) r)
+
+    -- where the list goes on
+    abbrev pub next : Running
+    next = afterBy p (replicate (fed p c) (c .engine)) r
+
+    pub next-sound : SoundRunning p next
+    next-sound = run-sound p (replicate (fed p c) (c .engine)) r ok
+
+  -- ---- a list of calls
+  pub calls-state : (calls : List Call) (r : Running) → SoundRunning p r → afterCalls (at p r) calls ≡ at p (afterBy p (schedule p calls) r)
+  unfolding afterCalls schedule afterBy
+  calls-state [] r ok = refl
+  calls-state (c ∷ calls) r ok =
+      rw (call-after r c ok, after-append p (replicate (fed p c) (c .engine)) (schedule p calls) r)
+      (calls-state calls (next r c ok) (next-sound r c ok))
+
+  pub calls-sum : (calls : List Call) (r : Running) → SoundRunning p r → budgetSum (at p r) calls ≡ length (schedule p calls)
+  unfolding budgetSum schedule
+  calls-sum [] r ok = refl
+  calls-sum (c ∷ calls) r ok =
+      rw (fed-by r c ok, call-after r c ok, length-append (replicate (fed p c) (c .engine)) (schedule p calls), length-replicate (fed p c) (c .engine))
+      (ap (λ (k : ℕ). fed p c + k) (calls-sum calls (next r c ok) (next-sound r c ok)))
+
+  pub calls-bytes : (calls : List Call) (r : Running) → SoundRunning p r → joinedBytes (at p r) calls ≡ eventsBy p (schedule p calls) r
+  unfolding joinedBytes schedule eventsBy
+  calls-bytes [] r ok = refl
+  calls-bytes (c ∷ calls) r ok =
+      rw (call-events r c ok, call-after r c ok, events-append p (replicate (fed p c) (c .engine)) (schedule p calls) r)
+      (ap (λ (ys : List ℕ). eventsBy p (replicate (fed p c) (c .engine)) r ++ ys) (calls-bytes calls (next r c ok) (next-sound r c ok)))

@@ -1,0 +1,85 @@
+-- The answers of calls that keep their contracts are those of the list. Assumes nothing.
+use mathlib.Core.Path.{_≡_, refl, ap, _∙_}
+use mathlib.Core.List.{List, [], _∷_, _++_}
+use Rattle.plan.specs.Format.{planIn}
+use Rattle.plan.specs.declared.Plan.{Plan}
+use Rattle.machine.specs.declared.State.{State}
+use Rattle.calls.specs.Calls.{loadOf}
+use Rattle.calls.specs.Lists.{answerOf, bufferOf, fedBy, afterCalls, budgetSum, joinedBytes}
+use Rattle.calls.specs.Sessions.{Made, KeptBy, Session, lastState, acceptedSum, writtenBytes, callsOf}
+use Rattle.calls.specs.Promises.Lists.{CallPromise, ListPromise}
+use Rattle.calls.specs.Promises.Sessions.{SessionPromise, EverySession}
+use Rattle.calls.specs.Proofs.Demand3.{demand-3}
+
+-- what was answered, and the buffer, by the definitions of Lists.antt
+module _ (st : State) (made : Made) (kept : KeptBy st made) where
+  answered : made .answer ≡ answerOf st (made .call)
+  unfolding answerOf
+  answered = kept .answer
+
+  left : made .buffer ≡ bufferOf st (made .call)
+  unfolding bufferOf
+  left = kept .buffer
+
+same-state : (st : State) (made : List Made) → Session st made → lastState st made ≡ afterCalls st (callsOf made)
+unfolding lastState afterCalls callsOf
+same-state st [] kept = refl
+same-state st (m ∷ later) kept = same-state (m .answer .state) later (kept .1) ∙ rw (answered st m (kept .0))
+
+same-sum : (st : State) (made : List Made) → Session st made → acceptedSum made ≡ budgetSum st (callsOf made)
+unfolding acceptedSum budgetSum callsOf fedBy
+same-sum st [] kept = refl
+same-sum st (m ∷ later) kept = rw (same-sum (m .answer .state) later (kept .1), answered st m (kept .0))
+
+same-bytes : (st : State) (made : List Made) → Session st made → writtenBytes made ≡ joinedBytes st (callsOf made)
+unfolding writtenBytes joinedBytes callsOf
+same-bytes st [] kept = refl
+same-bytes st (m ∷ later) kept = rw (same-bytes (m .answer .state) later (kept .1), left st m (kept .0), answered st m (kept .0))
+
+-- ---- a call of the session: those before it, its own contract, and its place in the list
+front : (st : State) (earlier rest : List Made) → Session st (earlier ++ rest) → Session st earlier
+front st [] rest kept = tt
+front st (m ∷ earlier) rest kept = (kept .0, front (m .answer .state) earlier rest (kept .1))
+
+kept-at : (st : State) (earlier : List Made) (m : Made) (later : List Made) → Session st (earlier ++ (m ∷ later)) → KeptBy (lastState st earlier) m
+unfolding lastState
+kept-at st [] m later kept = kept .0
+kept-at st (e ∷ earlier) m later kept = kept-at (e .answer .state) earlier m later (kept .1)
+
+calls-append : (earlier rest : List Made) → callsOf (earlier ++ rest) ≡ callsOf earlier ++ callsOf rest
+unfolding callsOf
+calls-append [] rest = refl
+calls-append (m ∷ earlier) rest = ap (λ calls. m .call ∷ calls) (calls-append earlier rest)
+
+module _ (p : Plan) (st : State) (earlier : List Made) (m : Made) (later : List Made) (kept : Session st (earlier ++ (m ∷ later)))
+    (list : ListPromise p st (callsOf (earlier ++ (m ∷ later)))) where
+  own : KeptBy (lastState st earlier) m
+  own = kept-at st earlier m later kept
+
+  call-at : CallPromise p (lastState st earlier) (m .call) (m .answer) (m .buffer)
+  unfolding callsOf
+  call-at =
+      rw (answered (lastState st earlier) m own, left (lastState st earlier) m own, same-state st earlier (front st earlier (m ∷ later) kept))
+      (list .each (callsOf earlier) (m .call) (callsOf later) (calls-append earlier (m ∷ later)))
+
+pub every-session : EverySession
+every-session file loaded e accepted made kept = rw e (go (rw e at accepted) (rw e at kept))
+  where
+    go : loadOf file .number ≡ 0 → Session (loadOf file .state) made → SessionPromise (planIn file) (loadOf file .state) made
+    go ok kept =
+        let st = loadOf file .state in
+        let list = demand-3 file ok (callsOf made) in
+        let state = same-state st made kept in let sum = same-sum st made kept in let bytes = same-bytes st made kept in
+        record {
+          state = rw (state, sum) (list .state);
+          bytes = rw (bytes, sum) (list .bytes);
+          updates = rw (state, sum) (list .updates);
+          each = λ earlier m later is. call-at (planIn file) st earlier m later (rw is at kept) (rw is at list);
+          position =
+              λ i answer is known. let at = list .state .position i known in (rw (is, state, at), rw (is, state, sum, at));
+          no-position = λ i answer is above. let at = list .state .no-position i above in (rw (is, state, at), rw (is, state, at));
+          same-state = state;
+          same-sum = sum;
+          same-bytes = bytes;
+          list = list;
+        }

@@ -1,0 +1,73 @@
+-- The promises about values, Start, the steps of one instant, and runs. Assumes nothing.
+use mathlib.Core.Path.{refl, sym, _∙_}
+use Rattle.plan.specs.Laws.Counts.{counts-of}
+use Rattle.machine.specs.Start.{startOf, startState}
+use Rattle.machine.specs.Instant.{positionAt, takenAt, tickOf, instant}
+use Rattle.machine.specs.Runs.{after, events}
+use Rattle.machine.specs.Laws.Runs.{run-stopped, run-taken}
+use Rattle.machine.specs.Laws.Began.{start-slope, start-last, start-due}
+use Rattle.machine.specs.Laws.Steps.{moves-means, due-moves, step-due, step-not-due, step-set, step-not-set, step-x, step-l, step-s, step-d}
+use Rattle.machine.specs.Laws.Steps.{step-not-moved}
+use Rattle.machine.specs.Laws.Values.{integrator-value, setting-value, difference-node, product-node, limit-node, high-node, low-node}
+use Rattle.machine.specs.Laws.Values.{sum-none, sum-own, sum-other, rate-floor}
+use Rattle.calls.specs.Promises.Machine.{ValuesMean, RunTakes, StartMeans, StepsMean}
+
+pub values-mean : ValuesMean
+values-mean p q u rules =
+    record {
+      integrators = integrator-value p q u;
+      inputs = setting-value p q u;
+      differences = difference-node p q u rules;
+      products = product-node p q u rules;
+      limited-values = limit-node p q u rules;
+      high = high-node p q u rules;
+      low = low-node p q u rules;
+      no-link = sum-none p q u;
+      own-link = sum-own p q u;
+      other-link = sum-other p q u;
+      rate-below = λ i. rate-floor p q u i .0;
+      rate-above = λ i. rate-floor p q u i .1;
+    }
+
+pub run-takes : RunTakes
+unfolding after events
+run-takes p engine r =
+    record { none = (refl, refl); stopped = λ b. run-stopped p engine b r; taken = λ b. run-taken p engine b r }
+
+pub start-means : StartMeans
+unfolding startState startOf
+start-means p rules =
+    let limits = counts-of p (rules .counts) in
+    record {
+      x = λ i h. refl;
+      q = λ i h. refl;
+      l = start-last p limits;
+      s = start-slope p limits;
+      d = start-due p limits;
+      inputs = λ j h. refl;
+      clock = refl;
+      instants = refl;
+      updates = refl;
+    }
+
+pub steps-mean : StepsMean
+unfolding instant takenAt positionAt
+steps-mean p engine r rules =
+    let t = tickOf p r in
+    record {
+      position = λ i. refl;
+      due = step-due p rules engine r;
+      not-due = step-not-due p rules engine r;
+      set = step-set p rules engine r;
+      not-set = step-not-set p rules engine r;
+      x = step-x p rules engine r;
+      l = step-l p rules engine r;
+      s = step-s p rules engine r;
+      d = step-d p rules engine r;
+      due-x = λ i h e. step-x p rules engine r i h (due-moves p engine (r .d) t i e) ∙ sym (step-due p rules engine r i h e);
+      not-moved = step-not-moved p rules engine r;
+      clock = refl;
+      instants = refl;
+      updates = refl;
+      moving = λ i. moves-means p rules engine (r .d) t i;
+    }

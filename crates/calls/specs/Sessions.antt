@@ -1,0 +1,49 @@
+-- A list of run calls as a program makes it: what each call was handed, what it answered, and what its buffer then held. Where the contracts of `run_lazy`
+-- and `run_eager` hold of these, and the states go from call to call, they are the list of Lists.antt.
+use mathlib.Core.Path.{_≡_}
+use mathlib.Core.Bool.{cond}
+use mathlib.Core.List.{List, [], _∷_, _++_}
+use Prim.Native.Nat.{ℕ, _+_}
+use lib.Dec.{eqb}
+use lib.ListN.{take}
+use Rattle.machine.specs.declared.State.{State}
+use Rattle.calls.specs.Calls.{runOf, bufferOfRun}
+use Rattle.calls.specs.Lists.{Call}
+use Rattle.calls.specs.declared.Ran.{Ran}
+
+pub record Made : Type 0 where
+  -- engine, budget, and the buffer as it was lent
+  pub call : Call
+  pub answer : Ran
+  -- the buffer afterwards
+  pub buffer : List ℕ
+
+-- the contract of the call's run, of the state st that it was handed
+pub record KeptBy (st : State) (made : Made) : Type 0 where
+  pub answer : made .answer ≡ runOf (made .call .engine) st (made .call .budget) (made .call .buffer)
+  pub buffer : made .buffer ≡ bufferOfRun (made .call .engine) st (made .call .budget) (made .call .buffer)
+
+-- "the state is the loaded one, then what the last call returned, and nothing else writes it"
+abbrev pub Session : State → List Made → Type 0
+Session st [] = Unit {0}
+Session st (made ∷ later) = KeptBy st made × Session (made .answer .state) later
+
+-- the state that the last call returned
+unfoldable pub lastState : State → List Made → State
+lastState st [] = st
+lastState st (made ∷ later) = lastState (made .answer .state) later
+
+-- "the budgets of a list's accepted run calls added up"
+unfoldable pub acceptedSum : List Made → ℕ
+acceptedSum [] = 0
+acceptedSum (made ∷ later) = cond (eqb (made .answer .number) 0) (made .call .budget) 0 + acceptedSum later
+
+-- "the bytes that accepted calls answer as written, joined in call order"
+unfoldable pub writtenBytes : List Made → List ℕ
+writtenBytes [] = []
+writtenBytes (made ∷ later) = take (made .answer .written) (made .buffer) ++ writtenBytes later
+
+-- what was handed in
+unfoldable pub callsOf : List Made → List Call
+callsOf [] = []
+callsOf (made ∷ later) = made .call ∷ callsOf later
