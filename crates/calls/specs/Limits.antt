@@ -11,6 +11,7 @@ use Rattle.integers.specs.Parts.{∣_∣}
 use Rattle.bitset.specs.Mask.{countOf}
 use Rattle.plan.specs.Format.{M, offsetIn, lengthIn}
 use Rattle.plan.specs.Lists.{nat, int}
+use Rattle.plan.specs.Refusals.{sectionOf, sectionStart}
 use Rattle.plan.specs.declared.Plan.{Plan}
 use Rattle.machine.specs.Values.{valueOf, sumOver, rateOf}
 use Rattle.machine.specs.Due.{never, upperLevel, lowerLevel, distance, ticksTo}
@@ -34,6 +35,9 @@ pub record RunLimits (answer : Ran) : Type 0 where
 pub record AcceptedLimits (file : List ℕ) : Type 0 where
   pub shortest : 52 ≤ length file
   pub longest : length file ≤ 4492
+  -- of a section view: how long it is, and that it ends inside the file
+  pub view : (number : ℕ) → number ≤ 4 → length (sectionOf file number) ≤ 3072
+  pub view-end : (number : ℕ) → number ≤ 4 → sectionStart file number + length (sectionOf file number) ≤ length file
 
 -- of any file: its directory, whatever it says, and its answer
 pub record FileLimits (file : List ℕ) : Type 0 where
@@ -46,6 +50,7 @@ pub record FileLimits (file : List ℕ) : Type 0 where
 -- of what the other calls answer on any state
 pub record AnswerLimits (st : State) : Type 0 where
   pub write : (buffer : List ℕ) → (writeOf st buffer .number ≤ 14) × (writeOf st buffer .length ≤ 4492)
+  pub written : (buffer : List ℕ) → writeOf st buffer .number ≡ 0 → 52 ≤ writeOf st buffer .length
   pub position : (i : ℕ) → (positionedOf st i .number ≤ 14) × (∣ positionedOf st i .value ∣ < 2 ^ 31)
   pub run : (engine : Engine) (budget : ℕ) (buffer : List ℕ) → RunLimits (runOf engine st budget buffer)
 

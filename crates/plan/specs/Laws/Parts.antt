@@ -59,6 +59,12 @@ module _ (file : List ℕ) where
         let c = z .count k h in
         rw (length-entries k h) (mul-le-mul-left (nat entrySizes k) (c .0), mul-le-mul-left (nat entrySizes k) (c .1))
 
+    -- the longest section has 256 links of 12 bytes
+    pub length-most : (k : ℕ) → k < sections → lengthIn file k ≤ 3072
+    length-most =
+        each-section (λ k. lengthIn file k ≤ 3072) (omega (arith, length-limit 0 (omega arith))) (omega (arith, length-limit 1 (omega arith)))
+        (omega (arith, length-limit 2 (omega arith))) (omega (arith, length-limit 3 (omega arith))) (omega (arith, length-limit 4 (omega arith)))
+
     pub file-limits : OffsetRule file → (52 ≤ length file) × (length file ≤ 4492)
     file-limits o =
         omega (
