@@ -40,7 +40,7 @@ use Rattle.machine.specs.declared.Engine.the-variants.{Lazy, Eager}
 use Rattle.calls.specs.Calls.{loadOf, writeNumber, writeOf, bufferOfWrite, roomOf, declineOf, runNumber, ranState, ranEvents}
 use Rattle.calls.specs.Calls.{runOf, bufferOfRun, positionNumber, positionedOf}
 use Rattle.calls.specs.Lists.{Call, answerOf, bufferOf, fedBy, afterCalls, budgetSum, joinedBytes, engineAt, cutAt, restAt, allBy}
-use Rattle.machine.specs.Updates.{growth, growthUpTo, movedNow}
+use Rattle.machine.specs.Updates.{growth, growthUpTo, isEager, eagerInstants, lazyMoves, movedNow}
 
 -- the cup as it is loaded, its plan number for number
 abbrev loaded : State
@@ -156,6 +156,8 @@ examples =
     ∷ case Engine (engineAt loaded mixed 3) Lazy
     ∷ case ℕ (growthUpTo cupPlan (engineAt loaded mixed) 2) 4
     ∷ case ℕ (growthUpTo cupPlan (engineAt loaded (allBy Lazy mixed)) 2) 3
+    ∷ case ℕ (eagerInstants (engineAt loaded mixed) 2) 1
+    ∷ case ℕ (lazyMoves cupPlan (engineAt loaded mixed) 2) 2
     ∷ case ℕ (afterCalls loaded (cutAt loaded mixed 1) .run .instants) 1
     ∷ case ℕ (afterCalls loaded (cutAt loaded mixed 2) .run .instants) 2
     ∷ case ℕ (movedNow cupPlan (afterCalls loaded (cutAt loaded mixed 2) .run)) 2
@@ -187,9 +189,9 @@ unfolding examples ceilDiv limited within countOf numberAt bytesOf signedOf unsi
     lazyCount plainFrom plainEventsFrom plainAfter plainEvents unusedNat unusedInt planUnused planSound runningUnused
     integratorSound runningSound isSound loadOf writeNumber writeOf bufferOfWrite roomOf declineOf runNumber ranState ranEvents
     runOf bufferOfRun positionNumber positionedOf answerOf bufferOf fedBy afterCalls budgetSum joinedBytes engineAt cutAt restAt allBy
-    growth growthUpTo movedNow
+    growth growthUpTo isEager eagerInstants lazyMoves movedNow
 examples-right =
     refl & refl & refl & refl & refl & refl & refl & refl & refl & refl & refl & refl & refl & refl & refl & refl & refl & refl & refl & refl &
     refl & refl & refl & refl & refl & refl & refl & refl & refl & refl & refl & refl & refl & refl & refl & refl & refl & refl & refl & refl &
     refl & refl & refl & refl & refl & refl & refl & refl & refl & refl & refl & refl & refl & refl & refl & refl & refl & refl & refl & refl &
-    refl & refl & refl & refl & refl & refl & refl & refl & refl & refl & refl & refl & refl & end
+    refl & refl & refl & refl & refl & refl & refl & refl & refl & refl & refl & refl & refl & refl & refl & end

@@ -1,5 +1,6 @@
 -- "Lists of run calls: the state is the loaded one, then what the last call returned, and nothing else writes it." A list is the fold of the
 -- run's own answer, which the contracts of the runs cite.
+use mathlib.Core.Path.{_≡_}
 use mathlib.Core.Bool.{cond}
 use mathlib.Core.List.{List, [], _∷_, _++_}
 use Prim.Native.Nat.{ℕ, _+_, _-_}
@@ -62,6 +63,11 @@ restAt st [] i = []
 restAt st (c ∷ cs) i =
     cond (leb i (fedBy st c)) (record { engine = c .engine; budget = fedBy st c - i; buffer = c .buffer } ∷ cs)
     (restAt (answerOf st c .state) cs (i - fedBy st c))
+
+-- every call of a list is made by one engine
+abbrev pub AllBy : Engine → List Call → Type 0
+AllBy engine [] = Unit {0}
+AllBy engine (c ∷ cs) = (c .engine ≡ engine) × AllBy engine cs
 
 -- the same list with every call made by one engine
 unfoldable pub allBy : Engine → List Call → List Call

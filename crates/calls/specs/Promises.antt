@@ -13,7 +13,7 @@ use Rattle.calls.specs.Promises.Files.{EveryFile, EveryHeader, EveryPlac
 use Rattle.calls.specs.Promises.Machine.{ValuesMean, DueLeast, DueBetween, StartMeans, NextMeans, StepsMean, ReachMeans, Frame}
 use Rattle.calls.specs.Promises.Machine.{EventsRead, StatusMeans, RunTakes, PlainTakes}
 use Rattle.calls.specs.Promises.Lists.{ListsMean, GrowthMeans, Demand3}
-use Rattle.calls.specs.Promises.Sessions.{EverySession}
+use Rattle.calls.specs.Promises.Sessions.{EverySession, SessionsExist}
 use Rattle.calls.specs.Promises.States.{SoundMeans, LoadSound, RunSound, IdleLoaded, NextDetermined, RunMoves, RunShaped}
 use Rattle.calls.specs.Promises.Calls.{EveryNumber, Accepted, Declined, EveryBuffer}
 use Rattle.calls.specs.Promises.Limits.{LimitPromise}
@@ -44,6 +44,7 @@ pub record EveryPromise : Type 0 where
   pub growth-means : GrowthMeans
   pub demand-3 : Demand3
   pub every-session : EverySession
+  pub sessions-exist : SessionsExist
   pub sound-means : SoundMeans
   pub load-sound : LoadSound
   pub run-sound : RunSound

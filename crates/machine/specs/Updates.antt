@@ -1,4 +1,5 @@
 -- The update count that demand 3 asks for: by how much it grows at each instant, from the plain machine's due ticks alone.
+use mathlib.Core.Bool.{Bool, true, false, cond}
 use Prim.Native.Nat.{ℕ, zero, suc, _+_}
 use lib.Dec.{eqb}
 use Rattle.bitset.specs.Mask.{countOf}
@@ -19,6 +20,20 @@ growth p Eager m = p .n
 unfoldable pub growthUpTo : Plan → (ℕ → Engine) → ℕ → ℕ
 growthUpTo p engine zero = 0
 growthUpTo p engine (suc k) = growthUpTo p engine k + growth p (engine (k + 1)) (plainAfter p k)
+
+-- ---- the same by calls: n for each instant that an eager call took, and the number due or reached for each that a lazy call took
+unfoldable pub isEager : Engine → Bool
+isEager Lazy = false
+isEager Eager = true
+
+-- how many of the instants 1 to k an eager call took
+unfoldable pub eagerInstants : (ℕ → Engine) → ℕ → ℕ
+eagerInstants engine k = countOf (λ i. isEager (engine (i + 1))) k
+
+-- over those of the instants 1 to k that a lazy call took: the number due or reached, added up
+unfoldable pub lazyMoves : Plan → (ℕ → Engine) → ℕ → ℕ
+lazyMoves p engine zero = 0
+lazyMoves p engine (suc k) = lazyMoves p engine k + cond (isEager (engine (k + 1))) 0 (lazyCount p (plainAfter p k))
 
 -- "the number of integrators with l = c"
 unfoldable pub movedNow : Plan → Running → ℕ

@@ -2,26 +2,24 @@
 -- included, the outcome is that of the plain machine for the sum of the accepted budgets, and the update count is exact. A statement; the proof
 -- stands in Proofs.
 use mathlib.Core.Path.{_≡_}
-use mathlib.Core.List.{List, [], _∷_, _++_}
+use mathlib.Core.List.{List, _∷_, _++_}
 use Prim.Native.Nat.{ℕ, _+_, _-_, _*_, _≤_, _<_}
 use lib.IntN.{pos}
-use lib.ListN.{length, take, drop}
-use lib.Dec.{eqb}
+use lib.ListN.{length, drop}
 use Rattle.bitset.specs.Mask.{countOf}
-use Rattle.plan.specs.Lists.{nat, int}
+use Rattle.plan.specs.Lists.{int}
 use Rattle.plan.specs.Format.{planIn}
 use Rattle.plan.specs.declared.Plan.{Plan}
 use Rattle.machine.specs.Next.{nextTick}
 use Rattle.machine.specs.Instant.{moves, eventsOf}
 use Rattle.machine.specs.Status.{statusOf, integratorOf}
 use Rattle.machine.specs.Plain.{Plain, plainAfter, plainEvents, plainStatus, plainIntegrator}
-use Rattle.machine.specs.Updates.{growth, growthUpTo, movedNow}
-use Rattle.machine.specs.declared.Running.{Running}
+use Rattle.machine.specs.Updates.{growth, growthUpTo, eagerInstants, lazyMoves, movedNow}
 use Rattle.machine.specs.declared.State.{State}
 use Rattle.machine.specs.declared.Engine.{Engine}
 use Rattle.machine.specs.declared.Engine.the-variants.{Lazy, Eager}
-use Rattle.calls.specs.Calls.{loadOf, runOf, bufferOfRun, positionedOf}
-use Rattle.calls.specs.Lists.{Call, answerOf, bufferOf, afterCalls, budgetSum, joinedBytes, engineAt, cutAt, restAt, allBy}
+use Rattle.calls.specs.Calls.{loadOf, positionedOf}
+use Rattle.calls.specs.Lists.{Call, answerOf, bufferOf, afterCalls, budgetSum, joinedBytes, engineAt, cutAt, restAt, AllBy, allBy}
 use Rattle.calls.specs.declared.Ran.{Ran}
 
 -- what a call of a list answers in itself, and the buffer that it leaves
@@ -56,6 +54,24 @@ pub record SameAsPlain (p : Plan) (st : State) (m : Plain) : Type 0 where
   pub position : (i : ℕ) → i < p .n → positionedOf st i ≡ record { number = 0; value = int (m .x) i; state = st }
   pub no-position : (i : ℕ) → p .n ≤ i → positionedOf st i ≡ record { number = 14; value = pos 0; state = st }
 
+-- "any two lists with an equal sum end alike in all of these": the states in which two lists end, and the bytes that they joined, in everything
+-- that is compared with the plain machine
+pub record EndAlike (one other : State) (bytes-of-one bytes-of-other : List ℕ) : Type 0 where
+  pub plan : one .plan ≡ other .plan
+  pub bytes : bytes-of-one ≡ bytes-of-other
+  pub q : one .run .q ≡ other .run .q
+  pub s : one .run .s ≡ other .run .s
+  pub d : one .run .d ≡ other .run .d
+  pub inputs : one .run .inputs ≡ other .run .inputs
+  pub clock : one .run .clock ≡ other .run .clock
+  pub next : one .run .next ≡ other .run .next
+  pub instants : one .run .instants ≡ other .run .instants
+  pub status : statusOf (one .plan) (one .run) ≡ statusOf (other .plan) (other .run)
+  pub integrator : integratorOf (one .plan) (one .run) ≡ integratorOf (other .plan) (other .run)
+  -- the position call, for every number
+  pub position-number : (i : ℕ) → positionedOf one i .number ≡ positionedOf other i .number
+  pub position : (i : ℕ) → positionedOf one i .value ≡ positionedOf other i .value
+
 -- instant i of a list, by the list cut behind it: the state after it is that list's end, and the rest of the list goes on from there
 pub record InstantPromise (p : Plan) (st : State) (calls : List Call) (i : ℕ) : Type 0 where
   pub sum : budgetSum st (cutAt st calls i) ≡ i
@@ -68,16 +84,9 @@ pub record InstantPromise (p : Plan) (st : State) (calls : List Call) (i : ℕ) 
   pub moved : movedNow p (afterCalls st (cutAt st calls i) .run) ≡ growth p (engineAt st calls i) (plainAfter p (i - 1))
   pub grown : afterCalls st (cutAt st calls i) .run .updates ≡ growthUpTo p (engineAt st calls) i
 
--- what a list of calls is: the run's own answers, one after the other, and what is joined and added up of them
+-- what the accepted budgets of a list add up to, and the call that an instant belongs to
 pub record FoldPromise (st : State) (c : Call) (calls : List Call) : Type 0 where
-  pub answer : answerOf st c ≡ runOf (c .engine) st (c .budget) (c .buffer)
-  pub buffer : bufferOf st c ≡ bufferOfRun (c .engine) st (c .budget) (c .buffer)
-  pub no-state : afterCalls st [] ≡ st
-  pub state : afterCalls st (c ∷ calls) ≡ afterCalls (answerOf st c .state) calls
-  pub no-bytes : joinedBytes st [] ≡ []
-  pub bytes : joinedBytes st (c ∷ calls) ≡ take (answerOf st c .written) (bufferOf st c) ++ joinedBytes (answerOf st c .state) calls
   -- "the budgets of a list's accepted run calls added up; a declined call feeds it nothing"
-  pub no-sum : budgetSum st [] ≡ 0
   pub accepted-sum : answerOf st c .number ≡ 0 → budgetSum st (c ∷ calls) ≡ c .budget + budgetSum (answerOf st c .state) calls
   pub declined-sum : (answerOf st c .number ≡ 0 → ⊥) → budgetSum st (c ∷ calls) ≡ budgetSum (answerOf st c .state) calls
   -- "Instant i .. belongs to the first accepted call at which the accepted budgets, its own included, add up to i or more"
@@ -85,23 +94,18 @@ pub record FoldPromise (st : State) (c : Call) (calls : List Call) : Type 0 wher
   pub later : (i : ℕ) → answerOf st c .number ≡ 0 → c .budget < i
       → engineAt st (c ∷ calls) i ≡ engineAt (answerOf st c .state) calls (i - c .budget)
   pub declined : (i : ℕ) → (answerOf st c .number ≡ 0 → ⊥) → 1 ≤ i → engineAt st (c ∷ calls) i ≡ engineAt (answerOf st c .state) calls i
-  pub none-by : (engine : Engine) → allBy engine [] ≡ []
-  pub all-by : (engine : Engine) → allBy engine (c ∷ calls) ≡ record { engine = engine; budget = c .budget; buffer = c .buffer } ∷ allBy engine calls
 
 abbrev pub ListsMean : Type 0
 ListsMean = (st : State) (c : Call) (calls : List Call) → FoldPromise st c calls
 
 -- by how much updates grow: "by n if that call is eager, else by the number that step 5 moves for the lazy engine, with the plain machine's due
--- ticks", added up over the instants; and "the number of integrators with l = c"
-pub record GrowthPromise (p : Plan) (engine : ℕ → Engine) (k : ℕ) (m : Plain) (r : Running) : Type 0 where
-  pub eager : growth p Eager m ≡ p .n
+-- ticks"; over the instants 1 to k, n times those that eager calls took, and the number due or reached over those that lazy calls took
+pub record GrowthPromise (p : Plan) (engine : ℕ → Engine) (k : ℕ) (m : Plain) : Type 0 where
   pub lazy : growth p Lazy m ≡ countOf (moves p Lazy (m .d) (nextTick p (m .d) (m .next))) (p .n)
-  pub none : growthUpTo p engine 0 ≡ 0
-  pub more : growthUpTo p engine (k + 1) ≡ growthUpTo p engine k + growth p (engine (k + 1)) (plainAfter p k)
-  pub now : movedNow p r ≡ countOf (λ i. eqb (nat (r .l) i) (r .clock)) (p .n)
+  pub parts : growthUpTo p engine k ≡ p .n * eagerInstants engine k + lazyMoves p engine k
 
 abbrev pub GrowthMeans : Type 0
-GrowthMeans = (p : Plan) (engine : ℕ → Engine) (k : ℕ) (m : Plain) (r : Running) → GrowthPromise p engine k m r
+GrowthMeans = (p : Plan) (engine : ℕ → Engine) (k : ℕ) (m : Plain) → GrowthPromise p engine k m
 
 -- the claim about a list, from the loaded state
 pub record ListPromise (p : Plan) (st : State) (calls : List Call) : Type 0 where
@@ -112,13 +116,20 @@ pub record ListPromise (p : Plan) (st : State) (calls : List Call) : Type 0 wher
   pub bytes : joinedBytes st calls ≡ plainEvents p (budgetSum st calls)
   pub instants : (i : ℕ) → 1 ≤ i → i ≤ plainAfter p (budgetSum st calls) .instants → InstantPromise p st calls i
   pub updates : afterCalls st calls .run .updates ≡ growthUpTo p (engineAt st calls) (plainAfter p (budgetSum st calls) .instants)
-  -- lists with an equal sum end alike: as the same plain machine, by the same bytes
+  -- n times the instants that eager calls took, and over those that lazy calls took the number due or reached
+  pub counted : let k = plainAfter p (budgetSum st calls) .instants in
+      afterCalls st calls .run .updates ≡ p .n * eagerInstants (engineAt st calls) k + lazyMoves p (engineAt st calls) k
+  -- "any two lists with an equal sum end alike in all of these"
   pub alike : (others : List Call) → budgetSum st others ≡ budgetSum st calls
-      → SameAsPlain p (afterCalls st others) (plainAfter p (budgetSum st calls)) × (joinedBytes st others ≡ joinedBytes st calls)
-  -- the same list made all lazy, or all eager, has the same sum, and bounds the updates
+      → EndAlike (afterCalls st others) (afterCalls st calls) (joinedBytes st others) (joinedBytes st calls)
+  -- "Among lists with an equal sum, none has fewer updates than an all-lazy one or more than an all-eager one."
+  pub fewest : (others : List Call) → AllBy Lazy others → budgetSum st others ≡ budgetSum st calls
+      → afterCalls st others .run .updates ≤ afterCalls st calls .run .updates
+  pub most : (others : List Call) → AllBy Eager others → budgetSum st others ≡ budgetSum st calls
+      → afterCalls st calls .run .updates ≤ afterCalls st others .run .updates
+  -- such lists there are: this one, made all lazy or all eager
+  pub one-engine : (engine : Engine) → AllBy engine (allBy engine calls)
   pub same-sum : (engine : Engine) → budgetSum st (allBy engine calls) ≡ budgetSum st calls
-  pub fewest : afterCalls st (allBy Lazy calls) .run .updates ≤ afterCalls st calls .run .updates
-  pub most : afterCalls st calls .run .updates ≤ afterCalls st (allBy Eager calls) .run .updates
   pub all-lazy : afterCalls st (allBy Lazy calls) .run .updates ≡ growthUpTo p (λ i. Lazy) (plainAfter p (budgetSum st calls) .instants)
   pub all-eager : afterCalls st (allBy Eager calls) .run .updates ≡ p .n * plainAfter p (budgetSum st calls) .instants
 

@@ -2,18 +2,19 @@
 -- behind them, of all of which the contracts hold. A statement; the proof stands in Proofs.
 use mathlib.Core.Path.{_≡_}
 use mathlib.Core.List.{List, _∷_, _++_}
-use Prim.Native.Nat.{ℕ, _≤_, _<_}
+use Prim.Native.Nat.{ℕ, _+_, _*_, _≤_, _<_}
 use lib.IntN.{pos}
 use Rattle.plan.specs.Lists.{int}
 use Rattle.plan.specs.Format.{planIn}
 use Rattle.plan.specs.declared.Plan.{Plan}
 use Rattle.machine.specs.Plain.{plainAfter, plainEvents}
-use Rattle.machine.specs.Updates.{growthUpTo}
+use Rattle.machine.specs.Updates.{growthUpTo, eagerInstants, lazyMoves}
 use Rattle.machine.specs.declared.State.{State}
+use Rattle.machine.specs.declared.Engine.the-variants.{Lazy, Eager}
 use Rattle.calls.specs.Calls.{loadOf, positionedOf}
-use Rattle.calls.specs.Lists.{afterCalls, budgetSum, joinedBytes, engineAt}
-use Rattle.calls.specs.Sessions.{Made, Session, lastState, acceptedSum, writtenBytes, callsOf}
-use Rattle.calls.specs.Promises.Lists.{CallPromise, SameAsPlain, ListPromise}
+use Rattle.calls.specs.Lists.{Call, afterCalls, budgetSum, joinedBytes, engineAt}
+use Rattle.calls.specs.Sessions.{Made, Session, lastState, acceptedSum, writtenBytes, callsOf, AllMadeBy, madeBy}
+use Rattle.calls.specs.Promises.Lists.{CallPromise, SameAsPlain, EndAlike, ListPromise}
 use Rattle.calls.specs.declared.Loaded.{Loaded}
 use Rattle.calls.specs.declared.Positioned.{Positioned}
 
@@ -22,6 +23,17 @@ pub record SessionPromise (p : Plan) (st : State) (made : List Made) : Type 0 wh
   pub state : SameAsPlain p (lastState st made) (plainAfter p (acceptedSum made))
   pub bytes : writtenBytes made ≡ plainEvents p (acceptedSum made)
   pub updates : lastState st made .run .updates ≡ growthUpTo p (engineAt st (callsOf made)) (plainAfter p (acceptedSum made) .instants)
+  -- n times the instants that eager calls took, and over those that lazy calls took the number due or reached
+  pub counted : let engine = engineAt st (callsOf made) in let k = plainAfter p (acceptedSum made) .instants in
+      lastState st made .run .updates ≡ p .n * eagerInstants engine k + lazyMoves p engine k
+  -- "any two lists with an equal sum end alike in all of these"
+  pub alike : (others : List Made) → Session st others → acceptedSum others ≡ acceptedSum made
+      → EndAlike (lastState st others) (lastState st made) (writtenBytes others) (writtenBytes made)
+  -- "Among lists with an equal sum, none has fewer updates than an all-lazy one or more than an all-eager one."
+  pub fewest : (others : List Made) → Session st others → AllMadeBy Lazy others → acceptedSum others ≡ acceptedSum made
+      → lastState st others .run .updates ≤ lastState st made .run .updates
+  pub most : (others : List Made) → Session st others → AllMadeBy Eager others → acceptedSum others ≡ acceptedSum made
+      → lastState st made .run .updates ≤ lastState st others .run .updates
   -- each call's own answer and buffer
   pub each : (earlier : List Made) (m : Made) (later : List Made) → made ≡ earlier ++ (m ∷ later)
       → CallPromise p (lastState st earlier) (m .call) (m .answer) (m .buffer)
@@ -30,7 +42,7 @@ pub record SessionPromise (p : Plan) (st : State) (made : List Made) : Type 0 wh
       → (answer .number ≡ 0) × (answer .value ≡ int (plainAfter p (acceptedSum made) .x) i)
   pub no-position : (i : ℕ) (answer : Positioned) → answer ≡ positionedOf (lastState st made) i → p .n ≤ i
       → (answer .number ≡ 14) × (answer .value ≡ pos 0)
-  -- last state, sum and bytes are those of the list of these calls, of which demand 3 says the rest: instants inside a call, lists of one engine
+  -- last state, sum and bytes are those of the list of these calls, of which demand 3 says the rest: instants inside a call, the same list by one engine
   pub same-state : lastState st made ≡ afterCalls st (callsOf made)
   pub same-sum : acceptedSum made ≡ budgetSum st (callsOf made)
   pub same-bytes : writtenBytes made ≡ joinedBytes st (callsOf made)
@@ -40,3 +52,11 @@ abbrev pub EverySession : Type 0
 EverySession =
     (file : List ℕ) (loaded : Loaded) → loaded ≡ loadOf file → loaded .number ≡ 0 → (made : List Made) → Session (loaded .state) made
     → SessionPromise (planIn file) (loaded .state) made
+
+-- every list of calls is made so: its session, whose calls are the list
+pub record MadePromise (st : State) (calls : List Call) : Type 0 where
+  pub session : Session st (madeBy st calls)
+  pub same-calls : callsOf (madeBy st calls) ≡ calls
+
+abbrev pub SessionsExist : Type 0
+SessionsExist = (st : State) (calls : List Call) → MadePromise st calls

@@ -13,7 +13,7 @@ use Rattle.calls.specs.Proofs.Events.{events-read}
 use Rattle.calls.specs.Proofs.Runs.{run-sound, run-moves, run-shaped}
 use Rattle.calls.specs.Proofs.Folds.{lists-mean, growth-means}
 use Rattle.calls.specs.Proofs.Demand3.{demand-3}
-use Rattle.calls.specs.Proofs.Sessions.{every-session}
+use Rattle.calls.specs.Proofs.Sessions.{every-session, sessions-exist}
 
 pub every-promise : EveryPromise
 every-promise =
@@ -42,6 +42,7 @@ every-promise =
       growth-means = growth-means;
       demand-3 = demand-3;
       every-session = every-session;
+      sessions-exist = sessions-exist;
       sound-means = sound-means;
       load-sound = load-sound;
       run-sound = run-sound;

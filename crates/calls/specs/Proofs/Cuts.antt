@@ -1,4 +1,4 @@
--- A list of run calls cut behind an instant, the rest of it, the engine of an instant, and the list made by one engine: each by the list of
+-- A list of run calls cut behind an instant, the rest of it, the engine of an instant, and lists made by one engine: each by the list of
 -- engines of its instants. Assumes nothing.
 use mathlib.Core.Path.{_≡_, refl, sym, ap, _∙_}
 use mathlib.Core.Bool.{Bool, true, false}
@@ -7,7 +7,7 @@ use Prim.Native.Nat.{ℕ, zero, suc, _+_, _-_, _≤_, _<_}
 use native.Mathlib.Omega.{arith}
 use native.Mathlib.Nat.{le-of-suc-le-suc, suc-sub-suc}
 use lib.Dec.{leb}
-use lib.ListN.{length, getD, take, drop, replicate, length-append, length-replicate, getD-replicate, replicate-append-replicate}
+use lib.ListN.{length, getD, take, drop, replicate, length-replicate, getD-replicate, replicate-append-replicate}
 use lib.ListN.{List·getD-append}
 use lib.Seq.{take-append-add, drop-append-add, getD-append-add, take-nil, drop-nil}
 use borrow.Author.Tests.{leb-true, leb-false, le-leb, lt-leb}
@@ -17,8 +17,8 @@ use Rattle.machine.specs.Laws.Instants.{engineOf}
 use Rattle.machine.specs.declared.Running.{Running}
 use Rattle.machine.specs.declared.Engine.{Engine}
 use Rattle.machine.specs.declared.Engine.the-variants.{Lazy}
-use Rattle.calls.specs.Lists.{Call, engineAt, cutAt, restAt, allBy}
-use Rattle.calls.specs.Proofs.Schedule.{at, fed, schedule, fed-less, fed-by, call-after, next, next-sound}
+use Rattle.calls.specs.Lists.{Call, engineAt, cutAt, restAt, AllBy, allBy}
+use Rattle.calls.specs.Proofs.Schedule.{at, fed, schedule, schedule-length, fed-less, fed-by, call-after, next, next-sound}
 
 -- ---- b times one engine, then others: cut among the first, or behind them
 module _ (engine : Engine) (later : List Engine) where
@@ -109,10 +109,23 @@ module _ (p : Plan) where
       rw (fed-by p r c ok, lt-leb i (fed p c) h, call-after p r c ok)
       (ih (omega arith) ∙ sym (engine-behind (c .engine) (schedule p calls) i (fed p c) h)))
 
-  -- the same list by one engine
-  pub schedule-all : (engine : Engine) (calls : List Call) → schedule p (allBy engine calls) ≡ replicate (length (schedule p calls)) engine
+  -- a list by one engine, and the same list made so, which feeds as much
+  pub schedule-by : (engine : Engine) (calls : List Call) → AllBy engine calls → schedule p calls ≡ replicate (length (schedule p calls)) engine
+  unfolding schedule fed
+  schedule-by engine [] all = refl
+  schedule-by engine (c ∷ calls) all =
+      rw (schedule-length p c calls, all .0)
+      (ap (λ es. replicate (fed p c) engine ++ es) (schedule-by engine calls (all .1))
+      ∙ replicate-append-replicate (fed p c) (length (schedule p calls)) engine)
+
+  pub length-all : (engine : Engine) (calls : List Call) → length (schedule p (allBy engine calls)) ≡ length (schedule p calls)
   unfolding schedule allBy fed
-  schedule-all engine [] = refl
-  schedule-all engine (c ∷ calls) =
-      rw (schedule-all engine calls, length-append (replicate (fed p c) (c .engine)) (schedule p calls), length-replicate (fed p c) (c .engine))
-      (replicate-append-replicate (fed p c) (length (schedule p calls)) engine)
+  length-all engine [] = refl
+  length-all engine (c ∷ calls) =
+      let made : Call = record { engine = engine; budget = c .budget; buffer = c .buffer } in
+      schedule-length p made (allBy engine calls) ∙ rw (length-all engine calls) (sym (schedule-length p c calls))
+
+pub all-by : (engine : Engine) (calls : List Call) → AllBy engine (allBy engine calls)
+unfolding allBy
+all-by engine [] = tt
+all-by engine (c ∷ calls) = (refl, all-by engine calls)

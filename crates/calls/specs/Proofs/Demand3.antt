@@ -3,7 +3,7 @@ use mathlib.Core.Path.{_≡_, sym, ap, _∙_}
 use mathlib.Core.List.{List}
 use Prim.Native.Nat.{ℕ, zero, suc, _+_, _-_, _≤_, _<_}
 use native.Mathlib.Omega.{arith}
-use lib.ListN.{length, take, drop, length-replicate, getD-replicate, take-append-drop}
+use lib.ListN.{length, take, drop, getD-replicate, take-append-drop}
 use lib.Seq.{length-take-le}
 use Rattle.plan.specs.Format.{planIn}
 use Rattle.plan.specs.Laws.Answers.{accepted-rules}
@@ -15,19 +15,19 @@ use Rattle.machine.specs.Updates.{growthUpTo}
 use Rattle.machine.specs.Sound.{SoundRunning}
 use Rattle.machine.specs.Laws.Began.{start-sound}
 use Rattle.machine.specs.Laws.Growth.{growth-least, growth-most}
-use Rattle.machine.specs.Laws.Instants.{engineOf, stateAt, growth-mono, growth-ext, growth-eager, run-together, events-next, moved-next, instants-at, updates-at, updates-end}
+use Rattle.machine.specs.Laws.Instants.{engineOf, stateAt, growth-mono, growth-ext, growth-eager, growth-parts, run-together, events-next, moved-next, instants-at, updates-at, updates-end}
 use Rattle.machine.specs.Laws.PlainRuns.{takes-most}
 use Rattle.machine.specs.Laws.Runs.{afterBy, eventsBy, after-append, run-sound}
 use Rattle.machine.specs.declared.State.{State}
 use Rattle.machine.specs.declared.Engine.{Engine}
 use Rattle.machine.specs.declared.Engine.the-variants.{Lazy, Eager}
-use Rattle.calls.specs.Lists.{Call, afterCalls, budgetSum, joinedBytes, engineAt, cutAt, restAt, allBy}
-use Rattle.calls.specs.Promises.Lists.{SameAsPlain, InstantPromise, ListPromise, Demand3}
+use Rattle.calls.specs.Lists.{Call, afterCalls, budgetSum, joinedBytes, engineAt, cutAt, restAt, AllBy, allBy}
+use Rattle.calls.specs.Promises.Lists.{SameAsPlain, EndAlike, InstantPromise, ListPromise, Demand3}
 use Rattle.calls.specs.Proofs.Files.{load-accepted, every-file}
 use Rattle.calls.specs.Proofs.Schedule.{at, schedule, calls-state, calls-sum, calls-bytes}
-use Rattle.calls.specs.Proofs.Cuts.{schedule-cut, schedule-rest, engine-at, schedule-all}
+use Rattle.calls.specs.Proofs.Cuts.{schedule-cut, schedule-rest, engine-at, schedule-by, length-all, all-by}
 use Rattle.calls.specs.Proofs.ListCalls.{call-promise}
-use Rattle.calls.specs.Proofs.Plain.{same-as-plain}
+use Rattle.calls.specs.Proofs.Plain.{same-as-plain, end-alike}
 
 -- from the start of a plan whose start is sound
 module _ (p : Plan) (ok : SoundRunning p (startOf p)) where
@@ -60,6 +60,9 @@ module _ (p : Plan) (ok : SoundRunning p (startOf p)) where
 
     updates-then : afterCalls start calls .run .updates ≡ growthUpTo p (engineOf engines) (plainAfter p (length engines) .instants)
     updates-then = rw end (updates-end p ok engines)
+
+    updates : afterCalls start calls .run .updates ≡ growthUpTo p (engineAt start calls) (plainAfter p (budgetSum start calls) .instants)
+    updates = rw sum (updates-then ∙ grown (plainAfter p (length engines) .instants))
 
     -- ---- cut behind instant i
     cut-state : (i : ℕ) → afterCalls start (cutAt start calls i) ≡ at p (stateAt p engines i)
@@ -104,34 +107,36 @@ module _ (p : Plan) (ok : SoundRunning p (startOf p)) where
 
   -- ---- lists with the same sum
   alike : (calls others : List Call) → budgetSum start others ≡ budgetSum start calls
-      → SameAsPlain p (afterCalls start others) (plainAfter p (budgetSum start calls)) × (joinedBytes start others ≡ joinedBytes start calls)
-  alike calls others e = (rw (← e) (same-end others), same-bytes others ∙ rw e (sym (same-bytes calls)))
+      → EndAlike (afterCalls start others) (afterCalls start calls) (joinedBytes start others) (joinedBytes start calls)
+  alike calls others e =
+      end-alike p (plainAfter p (budgetSum start calls)) (afterCalls start others) (afterCalls start calls) (rw (← e) (same-end others)) (same-end calls)
+      (joinedBytes start others) (joinedBytes start calls) (same-bytes others ∙ rw e (sym (same-bytes calls)))
 
-  -- the same list by one engine feeds as much, and takes as many instants
-  all-length : (engine : Engine) (calls : List Call) → length (schedule p (allBy engine calls)) ≡ length (schedule p calls)
-  all-length engine calls = rw (schedule-all p engine calls) (length-replicate (length (schedule p calls)) engine)
+  -- ---- a list by one engine: its updates grow at each instant as that engine's do
+  module _ (engine : Engine) (calls : List Call) (all : AllBy engine calls) where
+    one-engine : (i : ℕ) → i < length (schedule p calls) → engineOf (schedule p calls) (i + 1) ≡ engine
+    unfolding engineOf
+    one-engine i h =
+        let back : i + 1 - 1 ≡ i = omega arith in
+        rw (back, schedule-by p engine calls all) (getD-replicate (length (schedule p calls)) i engine Lazy h)
 
-  all-engine : (engine : Engine) (calls : List Call) (i : ℕ) → i < length (schedule p calls) → engineOf (schedule p (allBy engine calls)) (i + 1) ≡ engine
-  unfolding engineOf
-  all-engine engine calls i h =
-      let back : i + 1 - 1 ≡ i = omega arith in
-      rw (back, schedule-all p engine calls) (getD-replicate (length (schedule p calls)) i engine Lazy h)
+    updates-by : afterCalls start calls .run .updates ≡ growthUpTo p (λ i. engine) (plainAfter p (budgetSum start calls) .instants)
+    updates-by =
+        rw (sum calls)
+        (updates-then calls
+        ∙ growth-ext p (engineOf (schedule p calls)) (λ i. engine) (plainAfter p (length (schedule p calls)) .instants)
+        (λ i h. one-engine i (omega (arith, takes-most p (length (schedule p calls))))))
+
+  same-sum : (engine : Engine) (calls : List Call) → budgetSum start (allBy engine calls) ≡ budgetSum start calls
+  same-sum engine calls = sum (allBy engine calls) ∙ length-all p engine calls ∙ sym (sum calls)
 
   all-updates : (engine : Engine) (calls : List Call) → afterCalls start (allBy engine calls) .run .updates
-      ≡ growthUpTo p (engineOf (schedule p (allBy engine calls))) (plainAfter p (length (schedule p calls)) .instants)
-  all-updates engine calls = updates-then (allBy engine calls) ∙ rw (all-length engine calls)
-
-  all-grown : (engine : Engine) (calls : List Call) → afterCalls start (allBy engine calls) .run .updates
-      ≡ growthUpTo p (λ i. engine) (plainAfter p (length (schedule p calls)) .instants)
-  all-grown engine calls =
-      all-updates engine calls
-      ∙ growth-ext p (engineOf (schedule p (allBy engine calls))) (λ i. engine) (plainAfter p (length (schedule p calls)) .instants)
-      (λ i h. all-engine engine calls i (omega (arith, takes-most p (length (schedule p calls)))))
+      ≡ growthUpTo p (λ i. engine) (plainAfter p (budgetSum start calls) .instants)
+  all-updates engine calls = updates-by engine (allBy engine calls) (all-by engine calls) ∙ rw (same-sum engine calls)
 
   pub list-promise : (calls : List Call) → ListPromise p start calls
   list-promise calls =
-      let es = schedule p calls in
-      let k = plainAfter p (length es) .instants in
+      let k = plainAfter p (budgetSum start calls) .instants in
       record {
         each = λ earlier c later e.
             rw (calls-state p earlier (startOf p) ok)
@@ -139,19 +144,19 @@ module _ (p : Plan) (ok : SoundRunning p (startOf p)) where
         state = same-end calls;
         bytes = same-bytes calls;
         instants = λ i l h. instant-promise calls i l (rw (sum calls) at h);
-        updates = rw (sum calls) (updates-then calls ∙ grown calls k);
+        updates = updates calls;
+        counted = updates calls ∙ growth-parts p (engineAt start calls) k;
         alike = alike calls;
-        same-sum = λ engine. sum (allBy engine calls) ∙ all-length engine calls ∙ sym (sum calls);
-        fewest =
-            rw (all-updates Lazy calls, updates-then calls)
-            (growth-mono p (engineOf (schedule p (allBy Lazy calls))) (engineOf es) k
-            (λ i h m. rw (all-engine Lazy calls i (omega (arith, takes-most p (length es)))) (growth-least p (engineOf es (i + 1)) m)));
-        most =
-            rw (all-updates Eager calls, updates-then calls)
-            (growth-mono p (engineOf es) (engineOf (schedule p (allBy Eager calls))) k
-            (λ i h m. rw (all-engine Eager calls i (omega (arith, takes-most p (length es)))) (growth-most p (engineOf es (i + 1)) m)));
-        all-lazy = rw (sum calls) (all-grown Lazy calls);
-        all-eager = rw (sum calls) (all-grown Eager calls ∙ growth-eager p k);
+        fewest = λ others all e.
+            rw (updates-by Lazy others all, e, updates calls)
+            (growth-mono p (λ i. Lazy) (engineAt start calls) k (λ i h m. growth-least p (engineAt start calls (i + 1)) m));
+        most = λ others all e.
+            rw (updates-by Eager others all, e, updates calls)
+            (growth-mono p (engineAt start calls) (λ i. Eager) k (λ i h m. growth-most p (engineAt start calls (i + 1)) m));
+        one-engine = λ engine. all-by engine calls;
+        same-sum = λ engine. same-sum engine calls;
+        all-lazy = all-updates Lazy calls;
+        all-eager = all-updates Eager calls ∙ growth-eager p k;
       }
 
 pub demand-3 : Demand3

@@ -1,14 +1,21 @@
--- A state which agrees with the plain machine is the same as it in everything that is compared. Assumes nothing.
-use mathlib.Core.Path.{refl}
-use borrow.Author.Tests.{lt-ltb, le-ltb}
+-- A state which agrees with the plain machine is the same as it in everything that is compared, and two such states are alike. Assumes nothing.
+use mathlib.Core.Path.{_≡_, refl, sym, _∙_}
+use mathlib.Core.Bool.{Bool, true, false, cond}
+use mathlib.Core.List.{List}
+use Prim.Native.Nat.{ℕ}
+use lib.IntN.{pos}
+use lib.Dec.{ltb}
+use borrow.Author.Tests.{ltb-true, ltb-false, lt-ltb, le-ltb}
+use Rattle.plan.specs.Lists.{int}
 use Rattle.plan.specs.declared.Plan.{Plan}
 use Rattle.machine.specs.Plain.{Plain}
 use Rattle.machine.specs.Sound.{SoundRunning}
 use Rattle.machine.specs.Laws.Agreement.{Agrees, same-status, same-integrator}
 use Rattle.machine.specs.Laws.Tested.{sound-means}
 use Rattle.machine.specs.declared.Running.{Running}
+use Rattle.machine.specs.declared.State.{State}
 use Rattle.calls.specs.Calls.{positionNumber, positionedOf}
-use Rattle.calls.specs.Promises.Lists.{SameAsPlain}
+use Rattle.calls.specs.Promises.Lists.{SameAsPlain, EndAlike}
 use Rattle.calls.specs.Proofs.Schedule.{at}
 
 module _ (p : Plan) (r : Running) (ok : SoundRunning p r) where
@@ -28,4 +35,32 @@ module _ (p : Plan) (r : Running) (ok : SoundRunning p r) where
         integrator = same-integrator p r ok m a;
         position = λ i h. rw (sound-means (at p r) .1 ok, lt-ltb i (p .n) h, a .place i h);
         no-position = λ i h. rw (sound-means (at p r) .1 ok, le-ltb i (p .n) h);
+      }
+
+-- what the position call answers is settled by the plain machine
+module _ (p : Plan) (st : State) (m : Plain) (same : SameAsPlain p st m) (i : ℕ) where
+  position-settled : (positionedOf st i .number ≡ cond (ltb i (p .n)) 0 14) × (positionedOf st i .value ≡ cond (ltb i (p .n)) (int (m .x) i) (pos 0))
+  position-settled = go (ltb i (p .n)) refl
+    where
+      go : (b : Bool) → ltb i (p .n) ≡ b → (positionedOf st i .number ≡ cond b 0 14) × (positionedOf st i .value ≡ cond b (int (m .x) i) (pos 0))
+      go true e = let at = same .position i (ltb-true i (p .n) e) in (rw at, rw at)
+      go false e = let at = same .no-position i (ltb-false i (p .n) e) in (rw at, rw at)
+
+module _ (p : Plan) (m : Plain) (one other : State) (a : SameAsPlain p one m) (b : SameAsPlain p other m) where
+  pub end-alike : (bytes-of-one bytes-of-other : List ℕ) → bytes-of-one ≡ bytes-of-other → EndAlike one other bytes-of-one bytes-of-other
+  end-alike bytes-of-one bytes-of-other e =
+      record {
+        plan = a .plan ∙ sym (b .plan);
+        bytes = e;
+        q = a .q ∙ sym (b .q);
+        s = a .s ∙ sym (b .s);
+        d = a .d ∙ sym (b .d);
+        inputs = a .inputs ∙ sym (b .inputs);
+        clock = a .clock ∙ sym (b .clock);
+        next = a .next ∙ sym (b .next);
+        instants = a .instants ∙ sym (b .instants);
+        status = rw (a .plan, b .plan) (a .status ∙ sym (b .status));
+        integrator = rw (a .plan, b .plan) (a .integrator ∙ sym (b .integrator));
+        position-number = λ i. position-settled p one m a i .0 ∙ sym (position-settled p other m b i .0);
+        position = λ i. position-settled p one m a i .1 ∙ sym (position-settled p other m b i .1);
       }

@@ -53,6 +53,12 @@ unfoldable pub schedule : Plan → List Call → List Engine
 schedule p [] = []
 schedule p (c ∷ calls) = replicate (fed p c) (c .engine) ++ schedule p calls
 
+-- the first call's instants, and those of the later ones
+pub schedule-length : (p : Plan) (c : Call) (calls : List Call) → length (schedule p (c ∷ calls)) ≡ fed p c + length (schedule p calls)
+unfolding schedule
+schedule-length p c calls =
+    length-append (replicate (fed p c) (c .engine)) (schedule p calls) ∙ rw (length-replicate (fed p c) (c .engine))
+
 pub run-number : (st : State) (c : Call) → Sound st → answerOf st c .number ≡ declineOf (st .plan) (c .budget) (length (c .buffer))
 unfolding answerOf runOf runNumber
 run-number st c ok = rw (sound-means st .1 ok)
@@ -112,7 +118,7 @@ module _ (p : Plan) where
   unfolding budgetSum schedule
   calls-sum [] r ok = refl
   calls-sum (c ∷ calls) r ok =
-      rw (fed-by r c ok, call-after r c ok, length-append (replicate (fed p c) (c .engine)) (schedule p calls), length-replicate (fed p c) (c .engine))
+      rw (schedule-length p c calls, fed-by r c ok, call-after r c ok)
       (ap (λ (k : ℕ). fed p c + k) (calls-sum calls (next r c ok) (next-sound r c ok)))
 
   pub calls-bytes : (calls : List Call) (r : Running) → SoundRunning p r → joinedBytes (at p r) calls ≡ eventsBy p (schedule p calls) r

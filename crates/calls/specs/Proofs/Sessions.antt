@@ -1,14 +1,14 @@
 -- The answers of calls that keep their contracts are those of the list. Assumes nothing.
-use mathlib.Core.Path.{_≡_, refl, ap, _∙_}
+use mathlib.Core.Path.{_≡_, refl, sym, ap, _∙_}
 use mathlib.Core.List.{List, [], _∷_, _++_}
 use Rattle.plan.specs.Format.{planIn}
 use Rattle.plan.specs.declared.Plan.{Plan}
 use Rattle.machine.specs.declared.State.{State}
 use Rattle.calls.specs.Calls.{loadOf}
-use Rattle.calls.specs.Lists.{answerOf, bufferOf, fedBy, afterCalls, budgetSum, joinedBytes}
-use Rattle.calls.specs.Sessions.{Made, KeptBy, Session, lastState, acceptedSum, writtenBytes, callsOf}
+use Rattle.calls.specs.Lists.{Call, answerOf, bufferOf, fedBy, afterCalls, budgetSum, joinedBytes}
+use Rattle.calls.specs.Sessions.{Made, KeptBy, Session, lastState, acceptedSum, writtenBytes, callsOf, madeBy}
 use Rattle.calls.specs.Promises.Lists.{CallPromise, ListPromise}
-use Rattle.calls.specs.Promises.Sessions.{SessionPromise, EverySession}
+use Rattle.calls.specs.Promises.Sessions.{SessionPromise, EverySession, SessionsExist}
 use Rattle.calls.specs.Proofs.Demand3.{demand-3}
 
 -- what was answered, and the buffer, by the definitions of Lists.antt
@@ -35,6 +35,11 @@ same-bytes : (st : State) (made : List Made) → Session st made → writtenByte
 unfolding writtenBytes joinedBytes callsOf
 same-bytes st [] kept = refl
 same-bytes st (m ∷ later) kept = rw (same-bytes (m .answer .state) later (kept .1), left st m (kept .0), answered st m (kept .0))
+
+-- two sessions with an equal sum are lists with an equal sum
+equal-sums : (st : State) (made : List Made) → Session st made → (others : List Made) → Session st others → acceptedSum others ≡ acceptedSum made
+    → budgetSum st (callsOf others) ≡ budgetSum st (callsOf made)
+equal-sums st made ours others theirs e = sym (same-sum st others theirs) ∙ e ∙ same-sum st made ours
 
 -- ---- a call of the session: those before it, its own contract, and its place in the list
 front : (st : State) (earlier rest : List Made) → Session st (earlier ++ rest) → Session st earlier
@@ -70,10 +75,16 @@ every-session file loaded e accepted made kept = rw e (go (rw e at accepted) (rw
         let st = loadOf file .state in
         let list = demand-3 file ok (callsOf made) in
         let state = same-state st made kept in let sum = same-sum st made kept in let bytes = same-bytes st made kept in
+        let equal = equal-sums st made kept in
         record {
           state = rw (state, sum) (list .state);
           bytes = rw (bytes, sum) (list .bytes);
           updates = rw (state, sum) (list .updates);
+          counted = rw (state, sum) (list .counted);
+          alike = λ others theirs e.
+              rw (same-state st others theirs, state, same-bytes st others theirs, bytes) (list .alike (callsOf others) (equal others theirs e));
+          fewest = λ others theirs lazy e. rw (same-state st others theirs, state) (list .fewest (callsOf others) lazy (equal others theirs e));
+          most = λ others theirs eager e. rw (same-state st others theirs, state) (list .most (callsOf others) eager (equal others theirs e));
           each = λ earlier m later is. call-at (planIn file) st earlier m later (rw is at kept) (rw is at list);
           position =
               λ i answer is known. let at = list .state .position i known in (rw (is, state, at), rw (is, state, sum, at));
@@ -83,3 +94,17 @@ every-session file loaded e accepted made kept = rw e (go (rw e at accepted) (rw
           same-bytes = bytes;
           list = list;
         }
+
+-- ---- every list has its session
+made-session : (st : State) (calls : List Call) → Session st (madeBy st calls)
+unfolding madeBy answerOf bufferOf
+made-session st [] = tt
+made-session st (c ∷ calls) = (record { answer = refl; buffer = refl }, made-session (answerOf st c .state) calls)
+
+made-calls : (st : State) (calls : List Call) → callsOf (madeBy st calls) ≡ calls
+unfolding madeBy callsOf
+made-calls st [] = refl
+made-calls st (c ∷ calls) = ap (λ cs. c ∷ cs) (made-calls (answerOf st c .state) calls)
+
+pub sessions-exist : SessionsExist
+sessions-exist st calls = record { session = made-session st calls; same-calls = made-calls st calls }

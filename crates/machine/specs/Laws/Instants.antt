@@ -1,7 +1,7 @@
 -- Each instant of a run from Start whose instants are taken by the engines of a list: the state after it, its bytes, how many it moves,
 -- and the update count. Assumes nothing.
 use mathlib.Core.Path.{_≡_, refl, sym, ap, _∙_}
-use mathlib.Core.Bool.{Bool, true, false}
+use mathlib.Core.Bool.{Bool, true, false, cond}
 use mathlib.Core.List.{List, [], _∷_, _++_, append-nil}
 use Prim.Native.Nat.{ℕ, zero, suc, _+_, _-_, _*_, _≤_, _<_}
 use native.Mathlib.Omega.{arith}
@@ -9,12 +9,13 @@ use lib.Dec.{ltb, eqb}
 use lib.ListN.{length, getD, take, drop, take-append-drop}
 use lib.Seq.{length-take-le, take-suc, take-all}
 use borrow.Author.Tests.{ltb-true, ltb-false, eq-eqb}
+use Rattle.bitset.specs.Mask.{countOf}
 use Rattle.plan.specs.declared.Plan.{Plan}
 use Rattle.machine.specs.Start.{startOf}
 use Rattle.machine.specs.Instant.{instant, eventsOf}
 use Rattle.machine.specs.Status.{isPaused}
-use Rattle.machine.specs.Plain.{Plain, plainStart, plainStatus, plainAfter}
-use Rattle.machine.specs.Updates.{growth, growthUpTo, movedNow}
+use Rattle.machine.specs.Plain.{Plain, plainStart, plainStatus, plainAfter, lazyCount}
+use Rattle.machine.specs.Updates.{growth, growthUpTo, isEager, eagerInstants, lazyMoves, movedNow}
 use Rattle.machine.specs.Sound.{SoundRunning}
 use Rattle.machine.specs.Laws.Agreement.{Agrees, same-status, start-agrees}
 use Rattle.machine.specs.Laws.Growth.{instant-updates, instant-moved}
@@ -42,6 +43,18 @@ pub growth-eager : (p : Plan) (k : ℕ) → growthUpTo p (λ i. Eager) k ≡ p .
 unfolding growthUpTo growth
 growth-eager p zero = omega arith
 growth-eager p (suc k) = omega (arith, growth-eager p k)
+
+-- n times the instants that eager calls took, and the number due or reached over those that lazy calls took
+pub growth-parts : (p : Plan) (engine : ℕ → Engine) (k : ℕ) → growthUpTo p engine k ≡ p .n * eagerInstants engine k + lazyMoves p engine k
+unfolding growthUpTo growth eagerInstants lazyMoves isEager countOf
+growth-parts p engine zero = omega arith
+growth-parts p engine (suc k) = go (engine (k + 1)) (eagerInstants engine k) (lazyMoves p engine k) (growth-parts p engine k)
+  where
+    go : (e : Engine) (eager moves : ℕ) → growthUpTo p engine k ≡ p .n * eager + moves
+        → growthUpTo p engine k + growth p e (plainAfter p k)
+        ≡ p .n * cond (isEager e) (suc eager) eager + (moves + cond (isEager e) 0 (lazyCount p (plainAfter p k)))
+    go Lazy eager moves ih = omega arith
+    go Eager eager moves ih = omega arith
 
 -- the engine of instant i, counted from 1, and the running figures after k instants
 unfoldable pub engineOf : List Engine → ℕ → Engine
