@@ -10,8 +10,8 @@ pub mod Calls
 pub mod Limits
 use Rattle.calls.specs.Promises.Numbers.{NumbersMean}
 use Rattle.calls.specs.Promises.Files.{EveryFile, EveryHeader, EveryPlace, EveryView, LoadThenWrite, WriteThenLoad, LoadShaped}
-use Rattle.calls.specs.Promises.Machine.{ValuesMean, DueLeast, DueBetween, StartMeans, NextMeans, StepsMean, ReachMeans, Frame}
-use Rattle.calls.specs.Promises.Machine.{EventsRead, StatusMeans, RunTakes, PlainTakes}
+use Rattle.calls.specs.Promises.Machine.{ValuesMean, DueLeast, DueBetween, CommandMeans, StartMeans, NextMeans, StepsMean, ReachMeans}
+use Rattle.calls.specs.Promises.Machine.{Frame, EventsRead, StatusMeans, RunTakes, PlainStarts, PlainMeans, PlainTakes}
 use Rattle.calls.specs.Promises.Lists.{ListsMean, GrowthMeans, Demand3}
 use Rattle.calls.specs.Promises.Sessions.{EverySession, SessionsExist}
 use Rattle.calls.specs.Promises.States.{SoundMeans, LoadSound, RunSound, IdleLoaded, NextDetermined, RunMoves, RunShaped}
@@ -31,6 +31,7 @@ pub record EveryPromise : Type 0 where
   pub values-mean : ValuesMean
   pub due-least : DueLeast
   pub due-between : DueBetween
+  pub command-means : CommandMeans
   pub start-means : StartMeans
   pub next-means : NextMeans
   pub steps-mean : StepsMean
@@ -39,6 +40,8 @@ pub record EveryPromise : Type 0 where
   pub events-read : EventsRead
   pub status-means : StatusMeans
   pub run-takes : RunTakes
+  pub plain-starts : PlainStarts
+  pub plain-means : PlainMeans
   pub plain-takes : PlainTakes
   pub lists-mean : ListsMean
   pub growth-means : GrowthMeans

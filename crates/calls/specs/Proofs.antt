@@ -11,6 +11,7 @@ pub mod Limits
 pub mod Sound
 pub mod RoundTrips
 pub mod Events
+pub mod PlainMachine
 pub mod Folds
 pub mod Schedule
 pub mod Cuts

@@ -19,6 +19,7 @@ pub mod Moved
 pub mod Soundness
 pub mod Agreement
 pub mod Growth
+pub mod PlainSteps
 pub mod PlainRuns
 pub mod Runs
 pub mod Instants

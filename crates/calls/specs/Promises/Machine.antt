@@ -25,7 +25,8 @@ use Rattle.machine.specs.Reach.{changes, Changed, reached, Reached}
 use Rattle.machine.specs.Instant.{positionAt, moves, Moves, tickOf, instant, eventsOf}
 use Rattle.machine.specs.Status.{statusOf, integratorOf}
 use Rattle.machine.specs.Runs.{after, events}
-use Rattle.machine.specs.Plain.{plainAfter, plainStatus}
+use Rattle.machine.specs.Plain.{Plain, plainStart, plainTick, plainPosition, plainInstant, plainEventsOf, plainStatus, plainIntegrator}
+use Rattle.machine.specs.Plain.{plainAfter, plainEvents}
 use Rattle.machine.specs.declared.Running.{Running}
 use Rattle.machine.specs.declared.Engine.{Engine}
 
@@ -77,6 +78,15 @@ pub record BetweenPromise (x upper lower s : ℤ) : Type 0 where
 abbrev pub DueBetween : Type 0
 DueBetween = (x upper lower s : ℤ) → (s ≡ pos 0 → ⊥) → lower <ℤ x → x <ℤ upper → BetweenPromise x upper lower s
 
+-- "the next command is the first with tick above c, or the command count if none"
+pub record CommandPromise (p : Plan) (c next : ℕ) : Type 0 where
+  pub earlier : (e : ℕ) → e < next → nat (p .ticks) e ≤ c
+  pub first : next < p .commands → c < nat (p .ticks) next
+  pub most : next ≤ p .commands
+
+abbrev pub CommandMeans : Type 0
+CommandMeans = (p : Plan) (c : ℕ) → CommandPromise p c (nextCommand p c)
+
 -- "Start: x = q = start, l = c = 0, slopes and dues by rule, counts 0"
 pub record StartPromise (p : Plan) (r : Running) : Type 0 where
   pub x : (i : ℕ) → i < p .n → int (r .x) i ≡ int (p .starts) i
@@ -86,37 +96,37 @@ pub record StartPromise (p : Plan) (r : Running) : Type 0 where
   pub d : (i : ℕ) → i < p .n → nat (r .d) i ≡ dueOf p (r .q) i 0 (int (r .x) i) (int (r .s) i)
   pub inputs : (j : ℕ) → j < p .m → int (r .inputs) j ≡ int (p .firsts) j
   pub clock : r .clock ≡ 0
+  pub next : CommandPromise p 0 (r .next)
   pub instants : r .instants ≡ 0
   pub updates : r .updates ≡ 0
 
 abbrev pub StartMeans : Type 0
-StartMeans = (p : Plan) → PlanRules p → StartPromise p (startState p .run)
+StartMeans = (p : Plan) → PlanRules p → (startState p .plan ≡ p) × StartPromise p (startState p .run)
 
--- "Next instant t: the least of all d and the next command's tick", and "the next command is the first with tick above c"
-pub record NextPromise (p : Plan) (r : Running) (c : ℕ) : Type 0 where
-  pub due : (i : ℕ) → i < p .n → tickOf p r ≤ nat (r .d) i
-  pub command : r .next < p .commands → tickOf p r ≤ nat (p .ticks) (r .next)
-  pub no-instant : ((i : ℕ) → i < p .n → never ≤ nat (r .d) i) → p .commands ≤ r .next → tickOf p r ≡ never
-  pub one : tickOf p r < never
-      → ((i : ℕ) × (i < p .n) × (nat (r .d) i ≡ tickOf p r)) ⊎ ((r .next < p .commands) × (nat (p .ticks) (r .next) ≡ tickOf p r))
-  pub earlier : (e : ℕ) → e < nextCommand p c → nat (p .ticks) e ≤ c
-  pub first : nextCommand p c < p .commands → c < nat (p .ticks) (nextCommand p c)
-  pub none : nextCommand p c ≤ p .commands
+-- "Next instant t: the least of all d and the next command's tick", and never where none of them is below
+pub record NextPromise (p : Plan) (d : List ℕ) (next t : ℕ) : Type 0 where
+  pub due : (i : ℕ) → i < p .n → t ≤ nat d i
+  pub command : next < p .commands → t ≤ nat (p .ticks) next
+  pub one : t < never → ((i : ℕ) × (i < p .n) × (nat d i ≡ t)) ⊎ ((next < p .commands) × (nat (p .ticks) next ≡ t))
+  pub no-instant : ((i : ℕ) → i < p .n → never ≤ nat d i) → (next < p .commands → never ≤ nat (p .ticks) next) → t ≡ never
 
 abbrev pub NextMeans : Type 0
-NextMeans = (p : Plan) (r : Running) (c : ℕ) → NextPromise p r c
+NextMeans = (p : Plan) (r : Running) → NextPromise p (r .d) (r .next) (tickOf p r)
+
+-- Steps 1 and 2 at tick t: with the due ticks d and the positions at t, outputs q and input values u become q′ and u′
+pub record SourcesPromise (p : Plan) (d : List ℕ) (t : ℕ) (position : ℕ → ℤ) (q u q′ u′ : List ℤ) : Type 0 where
+  -- 1. "The due integrators (d = t) take q = x+s×(t−l)." The others keep theirs
+  pub due : (i : ℕ) → i < p .n → nat d i ≡ t → int q′ i ≡ position i
+  pub not-due : (i : ℕ) → i < p .n → (nat d i ≡ t → ⊥) → int q′ i ≡ int q i
+  -- 2. "Commands of tick t set their inputs." The others keep theirs
+  pub set : (j e : ℕ) → j < p .m → e < p .commands → nat (p .ticks) e ≡ t → nat (p .numbers) e ≡ j → int u′ j ≡ int (p .values) e
+  pub not-set : (j : ℕ) → j < p .m → ((e : ℕ) → e < p .commands → nat (p .ticks) e ≡ t → nat (p .numbers) e ≡ j → ⊥) → int u′ j ≡ int u j
 
 -- "One instant", at tick t, from the figures r to the figures r′
 pub record StepPromise (p : Plan) (engine : Engine) (t : ℕ) (r r′ : Running) : Type 0 where
   -- "x+s×(t−l)", where integrator i is at t
   pub position : (i : ℕ) → positionAt r t i ≡ int (r .x) i +ℤ int (r .s) i *ℤ pos (t - nat (r .l) i)
-  -- 1. "The due integrators (d = t) take q = x+s×(t−l)." The others keep theirs
-  pub due : (i : ℕ) → i < p .n → nat (r .d) i ≡ t → int (r′ .q) i ≡ positionAt r t i
-  pub not-due : (i : ℕ) → i < p .n → (nat (r .d) i ≡ t → ⊥) → int (r′ .q) i ≡ int (r .q) i
-  -- 2. "Commands of tick t set their inputs." The others keep theirs
-  pub set : (j e : ℕ) → j < p .m → e < p .commands → nat (p .ticks) e ≡ t → nat (p .numbers) e ≡ j → int (r′ .inputs) j ≡ int (p .values) e
-  pub not-set : (j : ℕ) → j < p .m → ((e : ℕ) → e < p .commands → nat (p .ticks) e ≡ t → nat (p .numbers) e ≡ j → ⊥)
-      → int (r′ .inputs) j ≡ int (r .inputs) j
+  pub sources : SourcesPromise p (r .d) t (positionAt r t) (r .q) (r .inputs) (r′ .q) (r′ .inputs)
   -- 5. "x becomes x+s×(t−l), l = t, then the new slope and due tick", by the new outputs and inputs. "A due integrator gets x = q."
   pub x : (i : ℕ) → i < p .n → Moves p engine (r .d) t i → int (r′ .x) i ≡ positionAt r t i
   pub l : (i : ℕ) → i < p .n → Moves p engine (r .d) t i → nat (r′ .l) i ≡ t
@@ -128,6 +138,7 @@ pub record StepPromise (p : Plan) (engine : Engine) (t : ℕ) (r r′ : Running)
       → (int (r′ .x) i ≡ int (r .x) i) × (nat (r′ .l) i ≡ nat (r .l) i) × (int (r′ .s) i ≡ int (r .s) i) × (nat (r′ .d) i ≡ nat (r .d) i)
   -- 6. "c = t; instants grows by 1; updates grows by the number of integrators moved, each counted once"
   pub clock : r′ .clock ≡ t
+  pub next : CommandPromise p t (r′ .next)
   pub instants : r′ .instants ≡ r .instants + 1
   pub updates : r′ .updates ≡ r .updates + countOf (moves p engine (r .d) t) (p .n)
   pub moving : (i : ℕ) → (moves p engine (r .d) t i ≡ true → Moves p engine (r .d) t i) × (Moves p engine (r .d) t i → moves p engine (r .d) t i ≡ true)
@@ -157,30 +168,29 @@ pub record EventAt (bytes : List ℕ) (at t source : ℕ) (value : ℤ) : Type 0
 
 -- "Events of an instant: due integrators and commanded inputs by ascending source number, 12 bytes each: tick, source, signed value": an
 -- event stands behind those of the lower sources that have one, and there are no others
-pub record EventsPromise (p : Plan) (r : Running) : Type 0 where
-  pub due : (i : ℕ) → i < p .n → nat (r .d) i ≡ tickOf p r
-      → EventAt (eventsOf p r) (12 * countOf (changes p (r .d) (tickOf p r)) i) (tickOf p r) i (positionAt r (tickOf p r) i)
-  pub commanded : (j e : ℕ) → j < p .m → e < p .commands → nat (p .ticks) e ≡ tickOf p r → nat (p .numbers) e ≡ j
-      → EventAt (eventsOf p r) (12 * countOf (changes p (r .d) (tickOf p r)) (p .n + j)) (tickOf p r) (p .n + j) (int (p .values) e)
-  pub no-other : length (eventsOf p r) ≡ 12 * countOf (changes p (r .d) (tickOf p r)) (p .n + p .m)
+pub record EventsPromise (p : Plan) (d : List ℕ) (t : ℕ) (position : ℕ → ℤ) (bytes : List ℕ) : Type 0 where
+  pub due : (i : ℕ) → i < p .n → nat d i ≡ t → EventAt bytes (12 * countOf (changes p d t) i) t i (position i)
+  pub commanded : (j e : ℕ) → j < p .m → e < p .commands → nat (p .ticks) e ≡ t → nat (p .numbers) e ≡ j
+      → EventAt bytes (12 * countOf (changes p d t) (p .n + j)) t (p .n + j) (int (p .values) e)
+  pub no-other : length bytes ≡ 12 * countOf (changes p d t) (p .n + p .m)
 
 abbrev pub EventsRead : Type 0
-EventsRead = (p : Plan) (r : Running) → PlanRules p → statusOf p r ≡ 0 → EventsPromise p r
+EventsRead =
+    (p : Plan) (r : Running) → PlanRules p → statusOf p r ≡ 0
+    → EventsPromise p (r .d) (tickOf p r) (positionAt r (tickOf p r)) (eventsOf p r)
 
 -- "1 finished if t is never or above the horizon; else 2 range if step 1 bars the instant (with the lowest such integrator); else 0 paused"
-pub record StatusPromise (p : Plan) (r : Running) : Type 0 where
-  pub finished : (tickOf p r ≡ never) ⊎ (p .horizon < tickOf p r) → statusOf p r ≡ 1
-  pub range : (tickOf p r ≡ never → ⊥) → tickOf p r ≤ p .horizon → (i : ℕ) → i < p .n → nat (r .d) i ≡ tickOf p r
-      → M < ∣ positionAt r (tickOf p r) i ∣
-      → ((j : ℕ) → j < i → nat (r .d) j ≡ tickOf p r → ∣ positionAt r (tickOf p r) j ∣ ≤ M)
-      → (statusOf p r ≡ 2) × (integratorOf p r ≡ i)
-  pub paused : (tickOf p r ≡ never → ⊥) → tickOf p r ≤ p .horizon
-      → ((i : ℕ) → i < p .n → nat (r .d) i ≡ tickOf p r → ∣ positionAt r (tickOf p r) i ∣ ≤ M)
-      → statusOf p r ≡ 0
-  pub no-integrator : (statusOf p r ≡ 2 → ⊥) → integratorOf p r ≡ 0
+pub record StatusPromise (p : Plan) (d : List ℕ) (t : ℕ) (position : ℕ → ℤ) (status integrator : ℕ) : Type 0 where
+  pub finished : (t ≡ never) ⊎ (p .horizon < t) → status ≡ 1
+  pub range : (t ≡ never → ⊥) → t ≤ p .horizon → (i : ℕ) → i < p .n → nat d i ≡ t → M < ∣ position i ∣
+      → ((j : ℕ) → j < i → nat d j ≡ t → ∣ position j ∣ ≤ M)
+      → (status ≡ 2) × (integrator ≡ i)
+  pub paused : (t ≡ never → ⊥) → t ≤ p .horizon → ((i : ℕ) → i < p .n → nat d i ≡ t → ∣ position i ∣ ≤ M) → status ≡ 0
+  pub no-integrator : (status ≡ 2 → ⊥) → integrator ≡ 0
 
 abbrev pub StatusMeans : Type 0
-StatusMeans = (p : Plan) (r : Running) → StatusPromise p r
+StatusMeans =
+    (p : Plan) (r : Running) → StatusPromise p (r .d) (tickOf p r) (positionAt r (tickOf p r)) (statusOf p r) (integratorOf p r)
 
 -- "A run with budget b takes b instants, or fewer if the status is first 1 or 2", from any figures
 pub record RunPromise (p : Plan) (engine : Engine) (r : Running) : Type 0 where
@@ -193,7 +203,57 @@ pub record RunPromise (p : Plan) (engine : Engine) (r : Running) : Type 0 where
 abbrev pub RunTakes : Type 0
 RunTakes = (p : Plan) (engine : Engine) (r : Running) → RunPromise p engine r
 
--- "it takes B instants, or fewer if its status is first 1 or 2"
+-- ════ The plain machine: "these rules with every integrator moved at each instant and no update count"
+
+-- Start
+pub record PlainStartPromise (p : Plan) (m : Plain) : Type 0 where
+  pub x : (i : ℕ) → i < p .n → int (m .x) i ≡ int (p .starts) i
+  pub q : (i : ℕ) → i < p .n → int (m .q) i ≡ int (p .starts) i
+  pub s : (i : ℕ) → i < p .n → int (m .s) i ≡ rateOf p (m .q) (m .inputs) i
+  pub d : (i : ℕ) → i < p .n → nat (m .d) i ≡ dueOf p (m .q) i 0 (int (m .x) i) (int (m .s) i)
+  pub inputs : (j : ℕ) → j < p .m → int (m .inputs) j ≡ int (p .firsts) j
+  pub clock : m .clock ≡ 0
+  pub next : CommandPromise p 0 (m .next)
+  pub instants : m .instants ≡ 0
+
+-- one instant, at tick t, from the figures m to the figures m′
+pub record PlainStepPromise (p : Plan) (t : ℕ) (m m′ : Plain) : Type 0 where
+  -- where integrator i is at t: it was last moved at the clock
+  pub position : (i : ℕ) → plainPosition p m i ≡ int (m .x) i +ℤ int (m .s) i *ℤ pos (t - m .clock)
+  pub sources : SourcesPromise p (m .d) t (plainPosition p m) (m .q) (m .inputs) (m′ .q) (m′ .inputs)
+  -- "every integrator moved", with the slope and the due tick by the new outputs and inputs
+  pub x : (i : ℕ) → i < p .n → int (m′ .x) i ≡ plainPosition p m i
+  pub s : (i : ℕ) → i < p .n → int (m′ .s) i ≡ rateOf p (m′ .q) (m′ .inputs) i
+  pub d : (i : ℕ) → i < p .n → nat (m′ .d) i ≡ dueOf p (m′ .q) i t (int (m′ .x) i) (int (m′ .s) i)
+  pub clock : m′ .clock ≡ t
+  pub next : CommandPromise p t (m′ .next)
+  pub instants : m′ .instants ≡ m .instants + 1
+
+-- what is read from any figures: the next instant's tick, the status, the instant itself and its events
+pub record PlainPromise (p : Plan) (m : Plain) : Type 0 where
+  pub tick : NextPromise p (m .d) (m .next) (plainTick p m)
+  pub status : StatusPromise p (m .d) (plainTick p m) (plainPosition p m) (plainStatus p m) (plainIntegrator p m)
+  pub step : PlanRules p → PlainStepPromise p (plainTick p m) m (plainInstant p m)
+  pub events : PlanRules p → plainStatus p m ≡ 0 → EventsPromise p (m .d) (plainTick p m) (plainPosition p m) (plainEventsOf p m)
+
+abbrev pub PlainStarts : Type 0
+PlainStarts = (p : Plan) → PlanRules p → PlainStartPromise p (plainStart p)
+
+abbrev pub PlainMeans : Type 0
+PlainMeans = (p : Plan) (m : Plain) → PlainPromise p m
+
+-- "From Start it takes B instants, or fewer if its status is first 1 or 2": with b for B, and with one more
+pub record PlainRunPromise (p : Plan) (b : ℕ) : Type 0 where
+  pub none : (plainAfter p 0 ≡ plainStart p) × (plainEvents p 0 ≡ [])
+  pub taken : plainStatus p (plainAfter p b) ≡ 0
+      → (plainAfter p (b + 1) ≡ plainInstant p (plainAfter p b)) × (plainEvents p (b + 1) ≡ plainEvents p b ++ plainEventsOf p (plainAfter p b))
+  pub stopped : (plainStatus p (plainAfter p b) ≡ 0 → ⊥)
+      → (plainAfter p (b + 1) ≡ plainAfter p b) × (plainEvents p (b + 1) ≡ plainEvents p b)
+  -- so it takes b, all of them where it is paused then, or fewer where its status is 1 or 2; and before each that it takes it is paused
+  pub most : plainAfter p b .instants ≤ b
+  pub all : plainStatus p (plainAfter p b) ≡ 0 → plainAfter p b .instants ≡ b
+  pub fewer : plainAfter p b .instants < b → (plainStatus p (plainAfter p b) ≡ 1) ⊎ (plainStatus p (plainAfter p b) ≡ 2)
+  pub paused : (i : ℕ) → i < plainAfter p b .instants → plainStatus p (plainAfter p i) ≡ 0
+
 abbrev pub PlainTakes : Type 0
-PlainTakes =
-    (p : Plan) (b : ℕ) → (plainAfter p b .instants ≤ b) × (plainStatus p (plainAfter p b) ≡ 0 → plainAfter p b .instants ≡ b)
+PlainTakes = (p : Plan) (b : ℕ) → PlainRunPromise p b

@@ -1,7 +1,7 @@
 -- Every promise holds. Assumes nothing.
 use Rattle.calls.specs.Promises.{EveryPromise}
 use Rattle.calls.specs.Proofs.Numbers.{numbers-mean}
-use Rattle.calls.specs.Proofs.Machine.{next-means, status-means, reach-means, frame, due-least, due-between, plain-takes}
+use Rattle.calls.specs.Proofs.Machine.{command-means, next-means, status-means, reach-means, frame, due-least, due-between}
 use Rattle.calls.specs.Proofs.Steps.{values-mean, start-means, steps-mean, run-takes}
 use Rattle.calls.specs.Proofs.Calls.{every-number, accepted, every-buffer, declined}
 use Rattle.calls.specs.Proofs.Files.{every-file, every-view, load-shaped}
@@ -10,6 +10,7 @@ use Rattle.calls.specs.Proofs.Limits.{limits}
 use Rattle.calls.specs.Proofs.Sound.{sound-means, load-sound, idle-loaded, next-determined}
 use Rattle.calls.specs.Proofs.RoundTrips.{load-then-write, write-then-load}
 use Rattle.calls.specs.Proofs.Events.{events-read}
+use Rattle.calls.specs.Proofs.PlainMachine.{plain-starts, plain-means, plain-takes}
 use Rattle.calls.specs.Proofs.Runs.{run-sound, run-moves, run-shaped}
 use Rattle.calls.specs.Proofs.Folds.{lists-mean, growth-means}
 use Rattle.calls.specs.Proofs.Demand3.{demand-3}
@@ -29,6 +30,7 @@ every-promise =
       values-mean = values-mean;
       due-least = due-least;
       due-between = due-between;
+      command-means = command-means;
       start-means = start-means;
       next-means = next-means;
       steps-mean = steps-mean;
@@ -37,6 +39,8 @@ every-promise =
       events-read = events-read;
       status-means = status-means;
       run-takes = run-takes;
+      plain-starts = plain-starts;
+      plain-means = plain-means;
       plain-takes = plain-takes;
       lists-mean = lists-mean;
       growth-means = growth-means;

@@ -1,40 +1,48 @@
--- The promises about the machine's rules: next instant, status, reach, due ticks and the plain machine's instants. Assumes nothing.
+-- The promises about the machine's rules: next instant, status, reach and due ticks. Assumes nothing.
 use mathlib.Core.Path.{_≡_}
-use Prim.Native.Nat.{_-_}
+use mathlib.Core.List.{List}
+use Prim.Native.Nat.{ℕ, _-_}
 use native.Mathlib.Omega.{arith}
+use lib.IntN.{ℤ}
 use Rattle.plan.specs.Laws.Counts.{counts-of}
+use Rattle.plan.specs.declared.Plan.{Plan}
 use Rattle.machine.specs.Due.{upperLevel, lowerLevel, ticksTo, dueOf}
+use Rattle.machine.specs.Next.{nextTick}
 use Rattle.machine.specs.Instant.{positionAt, slopeThen, takenAt, tickOf, instant}
-use Rattle.machine.specs.Status.{statusOf, integratorOf}
+use Rattle.machine.specs.Status.{statusAt, integratorAt, statusOf, integratorOf}
 use Rattle.machine.specs.Laws.Due.{due-still, due-moving, ticks-least, ticks-rounded, stays-above, stays-below, countdown}
 use Rattle.machine.specs.Laws.Frame.{slope-frame}
-use Rattle.machine.specs.Laws.Next.{tick-due, tick-command, tick-never, tick-one, command-earlier, command-first, command-most}
+use Rattle.machine.specs.Laws.Next.{next-due, next-command, next-never, next-one, command-earlier, command-first, command-most}
 use Rattle.machine.specs.Laws.Status.{status-finished, status-range, status-paused, no-integrator}
 use Rattle.machine.specs.Laws.Reach.{changes-means, reached-false}
-use Rattle.machine.specs.Laws.PlainRuns.{takes-most, takes-all}
-use Rattle.calls.specs.Promises.Machine.{NextMeans, StatusMeans, ReachMeans, Frame, DueLeast, DueBetween, PlainTakes}
+use Rattle.calls.specs.Promises.Machine.{CommandMeans, NextPromise, NextMeans, StatusPromise, StatusMeans, ReachMeans, Frame}
+use Rattle.calls.specs.Promises.Machine.{DueLeast, DueBetween}
+
+pub command-means : CommandMeans
+command-means p c = record { earlier = command-earlier p c; first = command-first p c; most = command-most p c }
+
+-- the next instant's tick and the status, by whatever figures
+pub next-promise : (p : Plan) (d : List ℕ) (next : ℕ) → NextPromise p d next (nextTick p d next)
+next-promise p d next =
+    record { due = next-due p d next; command = next-command p d next; one = next-one p d next; no-instant = next-never p d next }
+
+pub status-promise : (p : Plan) (d : List ℕ) (t : ℕ) (position : ℕ → ℤ)
+    → StatusPromise p d t position (statusAt p d t position) (integratorAt p d t position)
+status-promise p d t position =
+    record {
+      finished = status-finished p d t position;
+      range = status-range p d t position;
+      paused = status-paused p d t position;
+      no-integrator = no-integrator p d t position;
+    }
 
 pub next-means : NextMeans
-next-means p r c =
-    record {
-      due = tick-due p r;
-      command = tick-command p r;
-      no-instant = tick-never p r;
-      one = tick-one p r;
-      earlier = command-earlier p c;
-      first = command-first p c;
-      none = command-most p c;
-    }
+unfolding tickOf
+next-means p r = next-promise p (r .d) (r .next)
 
 pub status-means : StatusMeans
 unfolding statusOf integratorOf
-status-means p r =
-    let t = tickOf p r in record {
-      finished = status-finished p (r .d) t (positionAt r t);
-      range = status-range p (r .d) t (positionAt r t);
-      paused = status-paused p (r .d) t (positionAt r t);
-      no-integrator = no-integrator p (r .d) t (positionAt r t);
-    }
+status-means p r = status-promise p (r .d) (tickOf p r) (positionAt r (tickOf p r))
 
 pub reach-means : ReachMeans
 reach-means p d t i rules =
@@ -61,6 +69,3 @@ due-between x upper lower s moves above below =
       above = stays-above x upper lower s above below moves;
       below = stays-below x upper lower s above below moves;
     }
-
-pub plain-takes : PlainTakes
-plain-takes p b = (takes-most p b, takes-all p b)

@@ -11,6 +11,7 @@ use Rattle.machine.specs.Laws.Steps.{step-not-moved}
 use Rattle.machine.specs.Laws.Values.{integrator-value, setting-value, difference-node, product-node, limit-node, high-node, low-node}
 use Rattle.machine.specs.Laws.Values.{sum-none, sum-own, sum-other, rate-floor}
 use Rattle.calls.specs.Promises.Machine.{ValuesMean, RunTakes, StartMeans, StepsMean}
+use Rattle.calls.specs.Proofs.Machine.{command-means}
 
 pub values-mean : ValuesMean
 values-mean p q u rules =
@@ -37,18 +38,21 @@ run-takes p engine r =
 pub start-means : StartMeans
 unfolding startState startOf
 start-means p rules =
-    let limits = counts-of p (rules .counts) in
-    record {
-      x = λ i h. refl;
-      q = λ i h. refl;
-      l = start-last p limits;
-      s = start-slope p limits;
-      d = start-due p limits;
-      inputs = λ j h. refl;
-      clock = refl;
-      instants = refl;
-      updates = refl;
-    }
+    let limits = counts-of p (rules .counts) in (
+      refl,
+      record {
+        x = λ i h. refl;
+        q = λ i h. refl;
+        l = start-last p limits;
+        s = start-slope p limits;
+        d = start-due p limits;
+        inputs = λ j h. refl;
+        clock = refl;
+        next = command-means p 0;
+        instants = refl;
+        updates = refl;
+      },
+    )
 
 pub steps-mean : StepsMean
 unfolding instant takenAt positionAt
@@ -56,10 +60,13 @@ steps-mean p engine r rules =
     let t = tickOf p r in
     record {
       position = λ i. refl;
-      due = step-due p rules engine r;
-      not-due = step-not-due p rules engine r;
-      set = step-set p rules engine r;
-      not-set = step-not-set p rules engine r;
+      sources =
+          record {
+            due = step-due p rules engine r;
+            not-due = step-not-due p rules engine r;
+            set = step-set p rules engine r;
+            not-set = step-not-set p rules engine r;
+          };
       x = step-x p rules engine r;
       l = step-l p rules engine r;
       s = step-s p rules engine r;
@@ -67,6 +74,7 @@ steps-mean p engine r rules =
       due-x = λ i h e. step-x p rules engine r i h (due-moves p engine (r .d) t i e) ∙ sym (step-due p rules engine r i h e);
       not-moved = step-not-moved p rules engine r;
       clock = refl;
+      next = command-means p t;
       instants = refl;
       updates = refl;
       moving = λ i. moves-means p rules engine (r .d) t i;

@@ -12,13 +12,14 @@ use Rattle.plan.specs.Lists.{nat, int}
 use Rattle.plan.specs.Rules.{PlanRules}
 use Rattle.plan.specs.Laws.Rows.{row-at}
 use Rattle.plan.specs.Laws.Counts.{counts-of}
-use Rattle.plan.specs.Laws.Means.{Means, within-size}
+use Rattle.plan.specs.Laws.Means.{Means, means-false, within-size}
 use Rattle.plan.specs.declared.Plan.{Plan}
 use Rattle.machine.specs.Values.{valueWith}
 use Rattle.machine.specs.Reach.{setsInput}
 use Rattle.machine.specs.Instant.{settingOf, settings}
 use Rattle.machine.specs.Laws.Ascending.{entry-unique}
-use Rattle.machine.specs.Laws.Reach.{sets-means}
+use Rattle.machine.specs.Laws.Frame.{setting-kept}
+use Rattle.machine.specs.Laws.Reach.{sets-means, commanded-means}
 
 pub command-unique : (p : Plan) → PlanRules p → (d e : ℕ) → d < p .commands → e < p .commands → nat (p .ticks) d ≡ nat (p .ticks) e
     → nat (p .numbers) d ≡ nat (p .numbers) e → d ≡ e
@@ -50,6 +51,11 @@ module _ (p : Plan) (rules : PlanRules p) (u : List ℤ) (t : ℕ) where
               → cond s (int (p .values) k) (settingOf p u t j k) ≡ int (p .values) e
           go true m ih = ap (int (p .values)) (m .0 refl)
           go false m ih = let other : k ≡ e → ⊥ = λ q. false≢true (m .1 q) in ih (omega arith)
+
+  pub setting-not-set : (j : ℕ) → j < p .m → ((e : ℕ) → e < p .commands → nat (p .ticks) e ≡ t → nat (p .numbers) e ≡ j → ⊥)
+      → int (settings p u t) j ≡ int u j
+  setting-not-set j h none =
+      setting-kept p u t j (counts-of p (rules .counts) .m) h (means-false (commanded-means p t j .0) (λ f. none (f .0) (f .1) (f .2) (f .3)))
 
   pub settings-size : ((j : ℕ) → j < p .m → ∣ int u j ∣ ≤ M) → (j : ℕ) → j < p .m → ∣ int (settings p u t) j ∣ ≤ M
   unfolding settingOf

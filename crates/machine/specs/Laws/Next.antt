@@ -69,52 +69,66 @@ module _ (p : Plan) (c : ℕ) where
         passes = λ l. lt-ltb c (nat (p .ticks) next) (this (omega arith));
       })
 
--- ---- the tick of the next instant
-module _ (p : Plan) (r : Running) where
-  tick-most : tickOf p r ≤ never
-  unfolding tickOf nextTick
-  tick-most = omega (arith, least-most (r .d) (p .n))
+-- ---- the tick of the next instant, by any due ticks and any next command
+module _ (p : Plan) (d : List ℕ) (next : ℕ) where
+  next-most : nextTick p d next ≤ never
+  unfolding nextTick
+  next-most = omega (arith, least-most d (p .n))
 
-  pub tick-due : (i : ℕ) → i < p .n → tickOf p r ≤ nat (r .d) i
-  unfolding tickOf nextTick
-  tick-due i h = omega (arith, least-below (r .d) (p .n) i h)
+  pub next-due : (i : ℕ) → i < p .n → nextTick p d next ≤ nat d i
+  unfolding nextTick
+  next-due i h = omega (arith, least-below d (p .n) i h)
 
-  pub tick-command : r .next < p .commands → tickOf p r ≤ nat (p .ticks) (r .next)
-  unfolding tickOf nextTick commandTick
-  tick-command h = rw (lt-ltb (r .next) (p .commands) h) (omega arith)
+  pub next-command : next < p .commands → nextTick p d next ≤ nat (p .ticks) next
+  unfolding nextTick commandTick
+  next-command h = rw (lt-ltb next (p .commands) h) (omega arith)
 
   -- what stands at or below all of them
-  pub tick-above : (c : ℕ) → c ≤ never → ((i : ℕ) → i < p .n → c ≤ nat (r .d) i) → (r .next < p .commands → c ≤ nat (p .ticks) (r .next))
-      → c ≤ tickOf p r
-  unfolding tickOf nextTick commandTick
-  tick-above c h f g = go (ltb (r .next) (p .commands)) refl
+  pub next-above : (c : ℕ) → c ≤ never → ((i : ℕ) → i < p .n → c ≤ nat d i) → (next < p .commands → c ≤ nat (p .ticks) next) → c ≤ nextTick p d next
+  unfolding nextTick commandTick
+  next-above c h f g = go (ltb next (p .commands)) refl
     where
-      go : (b : Bool) → ltb (r .next) (p .commands) ≡ b → c ≤ min (leastDue (r .d) (p .n)) (cond b (nat (p .ticks) (r .next)) never)
-      go true e = omega (arith, least-above (r .d) (p .n) c h f, g (ltb-true (r .next) (p .commands) e))
-      go false e = omega (arith, least-above (r .d) (p .n) c h f)
+      go : (b : Bool) → ltb next (p .commands) ≡ b → c ≤ min (leastDue d (p .n)) (cond b (nat (p .ticks) next) never)
+      go true e = omega (arith, least-above d (p .n) c h f, g (ltb-true next (p .commands) e))
+      go false e = omega (arith, least-above d (p .n) c h f)
 
-  pub tick-never : ((i : ℕ) → i < p .n → never ≤ nat (r .d) i) → p .commands ≤ r .next → tickOf p r ≡ never
-  tick-never f h = omega (arith, tick-most, tick-above never (omega arith) f (λ l. absurd (omega arith)))
+  pub next-never : ((i : ℕ) → i < p .n → never ≤ nat d i) → (next < p .commands → never ≤ nat (p .ticks) next) → nextTick p d next ≡ never
+  next-never f g = omega (arith, next-most, next-above never (omega arith) f g)
 
   -- it is one of them
-  pub tick-one : tickOf p r < never
-      → ((i : ℕ) × (i < p .n) × (nat (r .d) i ≡ tickOf p r)) ⊎ ((r .next < p .commands) × (nat (p .ticks) (r .next) ≡ tickOf p r))
-  unfolding tickOf nextTick commandTick
-  tick-one h =
-      min-cases least command (One (min least command)) (λ l e. let f = least-one (r .d) (p .n) (omega arith) in inl (f .0, f .1, f .2 ∙ sym e))
-      (λ l e. inr (own (ltb (r .next) (p .commands)) refl (omega arith) (sym e)))
+  pub next-one : nextTick p d next < never
+      → ((i : ℕ) × (i < p .n) × (nat d i ≡ nextTick p d next)) ⊎ ((next < p .commands) × (nat (p .ticks) next ≡ nextTick p d next))
+  unfolding nextTick commandTick
+  next-one h =
+      min-cases least command (One (min least command)) (λ l e. let f = least-one d (p .n) (omega arith) in inl (f .0, f .1, f .2 ∙ sym e))
+      (λ l e. inr (own (ltb next (p .commands)) refl (omega arith) (sym e)))
     where
       least : ℕ
-      least = leastDue (r .d) (p .n)
+      least = leastDue d (p .n)
 
       command : ℕ
-      command = commandTick p (r .next)
+      command = commandTick p next
 
       One : ℕ → Type 0
-      One t = ((i : ℕ) × (i < p .n) × (nat (r .d) i ≡ t)) ⊎ ((r .next < p .commands) × (nat (p .ticks) (r .next) ≡ t))
+      One t = ((i : ℕ) × (i < p .n) × (nat d i ≡ t)) ⊎ ((next < p .commands) × (nat (p .ticks) next ≡ t))
 
       -- a command's tick below never is one of a command
-      own : {t : ℕ} (b : Bool) → ltb (r .next) (p .commands) ≡ b → cond b (nat (p .ticks) (r .next)) never < never
-          → cond b (nat (p .ticks) (r .next)) never ≡ t → (r .next < p .commands) × (nat (p .ticks) (r .next) ≡ t)
-      own true e l k = (ltb-true (r .next) (p .commands) e, k)
+      own : {t : ℕ} (b : Bool) → ltb next (p .commands) ≡ b → cond b (nat (p .ticks) next) never < never → cond b (nat (p .ticks) next) never ≡ t
+          → (next < p .commands) × (nat (p .ticks) next ≡ t)
+      own true e l k = (ltb-true next (p .commands) e, k)
       own false e l k = absurd (omega arith)
+
+-- ---- by an engine's
+module _ (p : Plan) (r : Running) where
+  pub tick-due : (i : ℕ) → i < p .n → tickOf p r ≤ nat (r .d) i
+  unfolding tickOf
+  tick-due = next-due p (r .d) (r .next)
+
+  pub tick-command : r .next < p .commands → tickOf p r ≤ nat (p .ticks) (r .next)
+  unfolding tickOf
+  tick-command = next-command p (r .d) (r .next)
+
+  pub tick-above : (c : ℕ) → c ≤ never → ((i : ℕ) → i < p .n → c ≤ nat (r .d) i) → (r .next < p .commands → c ≤ nat (p .ticks) (r .next))
+      → c ≤ tickOf p r
+  unfolding tickOf
+  tick-above = next-above p (r .d) (r .next)

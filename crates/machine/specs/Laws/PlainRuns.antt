@@ -1,14 +1,18 @@
--- Runs of the plain machine: it takes its budget or fewer instants, all of it where it is still paused, and a run goes on where one ended.
--- Assumes nothing.
+-- Runs of the plain machine: it takes its budget or fewer instants, all of it where it is still paused, and a run goes on where one ended,
+-- with its events behind. Assumes nothing.
 use mathlib.Core.Path.{_≡_, refl, sym, ap, _∙_}
 use mathlib.Core.Bool.{Bool, true, false, cond, false≢true}
+use mathlib.Core.Logic.{_⊎_, inl, inr}
+use mathlib.Core.List.{[], _++_, append-assoc, append-nil}
 use Prim.Native.Nat.{ℕ, zero, suc, _+_, _-_, _≤_, _<_}
 use native.Mathlib.Omega.{arith}
 use native.Mathlib.Nat.{zero-add, suc-add}
 use lib.Dec.{eqb}
-use borrow.Author.Tests.{eqb-true, eq-eqb}
+use borrow.Author.Tests.{eqb-true, eq-eqb, ne-eqb}
 use Rattle.plan.specs.declared.Plan.{Plan}
-use Rattle.machine.specs.Plain.{Plain, settled, plainStart, plainInstant, plainStatus, plainFrom, plainAfter}
+use Rattle.machine.specs.Plain.{Plain, settled, plainStart, plainTick, plainPosition, plainInstant, plainEventsOf, plainStatus}
+use Rattle.machine.specs.Plain.{plainFrom, plainEventsFrom, plainAfter, plainEvents}
+use Rattle.machine.specs.Laws.Status.{status-most}
 
 module _ (p : Plan) where
   instant-counts : (m : Plain) → plainInstant p m .instants ≡ m .instants + 1
@@ -30,6 +34,27 @@ module _ (p : Plan) where
           → cond c (plainFrom p (a + b) (plainInstant p m)) m ≡ plainFrom p b (cond c (plainFrom p a (plainInstant p m)) m)
       go true e ih = ih
       go false e ih = sym (plain-stopped b m e)
+
+  events-stopped : (b : ℕ) (m : Plain) → eqb (plainStatus p m) 0 ≡ false → plainEventsFrom p b m ≡ []
+  unfolding plainEventsFrom
+  events-stopped zero m e = refl
+  events-stopped (suc b) m e = rw e
+
+  -- and its events stand behind those before them
+  events-append : (a b : ℕ) (m : Plain) → plainEventsFrom p (a + b) m ≡ plainEventsFrom p a m ++ plainEventsFrom p b (plainFrom p a m)
+  unfolding plainFrom plainEventsFrom
+  events-append zero b m = rw (zero-add b)
+  events-append (suc a) b m = rw (suc-add a b) (go (eqb (plainStatus p m) 0) refl (events-append a b (plainInstant p m)))
+    where
+      next : Plain
+      next = plainInstant p m
+
+      go : (c : Bool) → eqb (plainStatus p m) 0 ≡ c
+          → plainEventsFrom p (a + b) next ≡ plainEventsFrom p a next ++ plainEventsFrom p b (plainFrom p a next)
+          → cond c (plainEventsOf p m ++ plainEventsFrom p (a + b) next) []
+          ≡ cond c (plainEventsOf p m ++ plainEventsFrom p a next) [] ++ plainEventsFrom p b (cond c (plainFrom p a next) m)
+      go true e ih = rw ih (sym (append-assoc (plainEventsOf p m) (plainEventsFrom p a next) (plainEventsFrom p b (plainFrom p a next))))
+      go false e ih = sym (events-stopped b m e)
 
   -- it takes no instant back, and no more than its budget
   plain-range : (b : ℕ) (m : Plain) → (m .instants ≤ plainFrom p b m .instants) × (plainFrom p b m .instants ≤ m .instants + b)
@@ -68,6 +93,20 @@ module _ (p : Plan) where
   unfolding plainAfter
   takes-all b e = omega (arith, plain-all b (plainStart p) e, start-counts)
 
+  status-two : (m : Plain) → plainStatus p m ≤ 2
+  unfolding plainStatus
+  status-two m = status-most p (m .d) (plainTick p m) (plainPosition p m)
+
+  -- fewer "if its status is first 1 or 2"
+  pub takes-fewer : (b : ℕ) → plainAfter p b .instants < b → (plainStatus p (plainAfter p b) ≡ 1) ⊎ (plainStatus p (plainAfter p b) ≡ 2)
+  takes-fewer b h = go (plainStatus p (plainAfter p b)) (status-two (plainAfter p b)) (λ e. omega (arith, takes-all b e))
+    where
+      go : (status : ℕ) → status ≤ 2 → (status ≡ 0 → ⊥) → (status ≡ 1) ⊎ (status ≡ 2)
+      go zero l n = absurd (n refl)
+      go (suc zero) l n = inl refl
+      go (suc (suc zero)) l n = inr refl
+      go (suc (suc (suc status))) l n = absurd (omega arith)
+
   after-more : (a b : ℕ) → plainAfter p (a + b) ≡ plainFrom p b (plainAfter p a)
   unfolding plainAfter
   after-more a b = plain-append a b (plainStart p)
@@ -89,6 +128,22 @@ module _ (p : Plan) where
   pub after-next : (i : ℕ) → plainStatus p (plainAfter p i) ≡ 0 → plainAfter p (i + 1) ≡ plainInstant p (plainAfter p i)
   unfolding plainFrom
   after-next i e = after-more i 1 ∙ rw e
+
+  events-more : (a b : ℕ) → plainEvents p (a + b) ≡ plainEvents p a ++ plainEventsFrom p b (plainAfter p a)
+  unfolding plainEvents plainAfter
+  events-more a b = events-append a b (plainStart p)
+
+  -- with its events behind those before it
+  pub events-next : (i : ℕ) → plainStatus p (plainAfter p i) ≡ 0 → plainEvents p (i + 1) ≡ plainEvents p i ++ plainEventsOf p (plainAfter p i)
+  unfolding plainEventsFrom
+  events-next i e = events-more i 1 ∙ rw (e, append-nil (plainEventsOf p (plainAfter p i)))
+
+  -- where it is not paused, nothing follows
+  pub after-same : (i : ℕ) → (plainStatus p (plainAfter p i) ≡ 0 → ⊥)
+      → (plainAfter p (i + 1) ≡ plainAfter p i) × (plainEvents p (i + 1) ≡ plainEvents p i)
+  after-same i h =
+      let e = ne-eqb (plainStatus p (plainAfter p i)) 0 h in
+      (after-more i 1 ∙ plain-stopped 1 (plainAfter p i) e, events-more i 1 ∙ rw (events-stopped 1 (plainAfter p i) e, append-nil (plainEvents p i)))
 
   -- so that many have been taken
   pub taken-so-far : (i b : ℕ) → i ≤ plainAfter p b .instants → plainAfter p i .instants ≡ i

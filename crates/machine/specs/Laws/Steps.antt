@@ -4,7 +4,6 @@ use mathlib.Core.Bool.{true}
 use mathlib.Core.Logic.{inl}
 use mathlib.Core.List.{List}
 use Prim.Native.Nat.{ℕ, _<_}
-use borrow.Author.Tests.{eq-eqb, ne-eqb}
 use Rattle.plan.specs.Lists.{nat, int}
 use Rattle.plan.specs.Rules.{PlanRules}
 use Rattle.plan.specs.Laws.Counts.{Counts, counts-of}
@@ -13,11 +12,10 @@ use Rattle.plan.specs.declared.Plan.{Plan}
 use Rattle.machine.specs.Values.{rateOf}
 use Rattle.machine.specs.Due.{dueOf}
 use Rattle.machine.specs.Reach.{isDue}
-use Rattle.machine.specs.Instant.{positionAt, moves, Moves, slopeThen, dueThen, takenAt, tickOf, instant}
-use Rattle.machine.specs.Laws.Frame.{setting-kept}
-use Rattle.machine.specs.Laws.Inputs.{setting-of}
-use Rattle.machine.specs.Laws.Reach.{commanded-means, reach-means}
-use Rattle.machine.specs.Laws.Taken.{outputs-at, x-then, x-at, l-at, s-at, d-at}
+use Rattle.machine.specs.Instant.{positionAt, moves, Moves, outputs, slopeThen, dueThen, takenAt, tickOf, instant}
+use Rattle.machine.specs.Laws.Inputs.{setting-of, setting-not-set}
+use Rattle.machine.specs.Laws.Reach.{reach-means}
+use Rattle.machine.specs.Laws.Taken.{output-due, output-not-due, x-then, x-at, l-at, s-at, d-at}
 use Rattle.machine.specs.declared.Running.{Running}
 use Rattle.machine.specs.declared.Engine.{Engine}
 use Rattle.machine.specs.declared.Engine.the-variants.{Lazy, Eager}
@@ -44,12 +42,12 @@ module _ (p : Plan) (rules : PlanRules p) (engine : Engine) (r : Running) where
 
   -- ---- 1. outputs
   pub step-due : (i : ℕ) → i < p .n → nat (r .d) i ≡ t → int (then .q) i ≡ positionAt r t i
-  unfolding instant takenAt isDue
-  step-due i h e = outputs-at p limits r t i h ∙ rw (eq-eqb (nat (r .d) i) t e)
+  unfolding instant takenAt outputs
+  step-due = output-due p limits (r .d) t (positionAt r t) (r .q)
 
   pub step-not-due : (i : ℕ) → i < p .n → (nat (r .d) i ≡ t → ⊥) → int (then .q) i ≡ int (r .q) i
-  unfolding instant takenAt isDue
-  step-not-due i h e = outputs-at p limits r t i h ∙ rw (ne-eqb (nat (r .d) i) t e)
+  unfolding instant takenAt outputs
+  step-not-due = output-not-due p limits (r .d) t (positionAt r t) (r .q)
 
   -- ---- 2. inputs
   pub step-set : (j e : ℕ) → j < p .m → e < p .commands → nat (p .ticks) e ≡ t → nat (p .numbers) e ≡ j → int (then .inputs) j ≡ int (p .values) e
@@ -59,8 +57,7 @@ module _ (p : Plan) (rules : PlanRules p) (engine : Engine) (r : Running) where
   pub step-not-set : (j : ℕ) → j < p .m → ((e : ℕ) → e < p .commands → nat (p .ticks) e ≡ t → nat (p .numbers) e ≡ j → ⊥)
       → int (then .inputs) j ≡ int (r .inputs) j
   unfolding instant takenAt
-  step-not-set j h none =
-      setting-kept p (r .inputs) t j (limits .m) h (means-false (commanded-means p t j .0) (λ f. none (f .0) (f .1) (f .2) (f .3)))
+  step-not-set = setting-not-set p rules (r .inputs) t
 
   -- ---- 5. who moves
   module _ (i : ℕ) (h : i < p .n) (m : Moves p engine (r .d) t i) where

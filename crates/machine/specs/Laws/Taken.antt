@@ -1,15 +1,30 @@
 -- The figures of each integrator after an instant, entry by entry, whoever moves. Assumes nothing.
 use mathlib.Core.Path.{_≡_, refl, _∙_}
 use mathlib.Core.Bool.{Bool, true, false, cond}
+use mathlib.Core.List.{List}
 use Prim.Native.Nat.{ℕ, _<_}
-use lib.IntN.{pos}
-use Rattle.plan.specs.Lists.{nat, int}
+use lib.IntN.{ℤ, pos}
+use borrow.Author.Tests.{eq-eqb, ne-eqb}
+use Rattle.plan.specs.Lists.{nat, int, row}
 use Rattle.plan.specs.Laws.Rows.{row-at}
 use Rattle.plan.specs.Laws.Counts.{Counts}
 use Rattle.plan.specs.declared.Plan.{Plan}
 use Rattle.machine.specs.Reach.{isDue}
 use Rattle.machine.specs.Instant.{positionAt, outputs, slopeThen, xThen, dueThen, takenAt}
 use Rattle.machine.specs.declared.Running.{Running}
+
+-- ---- 1. the outputs after tick t, by any due ticks, positions at t and outputs before it
+module _ (p : Plan) (limits : Counts p) (d : List ℕ) (t : ℕ) (position : ℕ → ℤ) (q : List ℤ) where
+  abbrev outputsBy : List ℤ
+  outputsBy = row (pos 0) 32 (p .n) (λ i. cond (isDue d t i) (position i) (int q i))
+
+  pub output-due : (i : ℕ) → i < p .n → nat d i ≡ t → int outputsBy i ≡ position i
+  unfolding isDue
+  output-due i h e = row-at (pos 0) 32 (p .n) _ i (limits .n) h ∙ rw (eq-eqb (nat d i) t e)
+
+  pub output-not-due : (i : ℕ) → i < p .n → (nat d i ≡ t → ⊥) → int outputsBy i ≡ int q i
+  unfolding isDue
+  output-not-due i h e = row-at (pos 0) 32 (p .n) _ i (limits .n) h ∙ rw (ne-eqb (nat d i) t e)
 
 module _ (p : Plan) (limits : Counts p) (r : Running) (t : ℕ) where
   pub outputs-at : (i : ℕ) → i < p .n → int (outputs p r t) i ≡ cond (isDue (r .d) t i) (positionAt r t i) (int (r .q) i)
