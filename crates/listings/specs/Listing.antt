@@ -5,7 +5,7 @@ use mathlib.Core.Bool.{cond}
 use mathlib.Core.List.{List, _++_}
 use Prim.Native.Nat.{ℕ, _/_}
 use lib.Dec.{eqb}
-use lib.ListN.{length, take}
+use lib.ListN.{length}
 use Rattle.plan.specs.declared.Plan.{Plan}
 use Rattle.machine.specs.Status.{statusOf}
 use Rattle.machine.specs.Runs.{after, events}
@@ -33,7 +33,3 @@ listingOf file =
     let loaded = loadOf file in
     let p = loaded .state .plan in
     cond (eqb (loaded .number) 0) (listedBy p (p .horizon) (loaded .state .run)) (refusalLine (loaded .number) (loaded .entry))
-
--- "reads at most 4,493 bytes of standard input": the text for all that stands there
-unfoldable pub listingOfInput : List ℕ → List ℕ
-listingOfInput input = listingOf (take 4493 input)

@@ -1,7 +1,7 @@
 -- The promises about the listing program, as statements. The proofs stand in Laws.
 use mathlib.Core.Path.{_≡_}
 use mathlib.Core.Bool.{true}
-use mathlib.Core.List.{List, _∷_}
+use mathlib.Core.List.{List, [], _∷_}
 use Prim.Native.Nat.{ℕ, suc, _^_, _≤_, _<_}
 use lib.IntN.{pos, negℤ}
 use lib.ListN.{length, take, getD}
@@ -14,7 +14,7 @@ use Rattle.machine.specs.declared.Engine.the-variants.{Lazy}
 use Rattle.text.specs.Decimal.{decimal, signedDecimal}
 use Rattle.text.specs.Laws.Decimals.{readFrom}
 use Rattle.calls.specs.Calls.{loadOf}
-use Rattle.listings.specs.Listing.{listingOf, listingOfInput}
+use Rattle.listings.specs.Listing.{listingOf}
 use Rattle.listings.specs.Turns.{turnState, turnMore, turnText, firstText, printedIn}
 
 -- a lazy run with the horizon for a budget ends with status 1 or 2
@@ -39,19 +39,16 @@ TurnsPrint = (file : List ℕ) (turns : ℕ) → loadOf file .state .plan .horiz
 abbrev pub TextsFit : Type 0
 TextsFit = ((st : State) → Sound st → length (turnText st) ≤ 66600) × ((file : List ℕ) → Bytes file → length (firstText file) ≤ 14)
 
--- "reads at most 4,493 bytes of standard input": the same for all that stands there
-abbrev pub InputPrinted : Type 0
-InputPrinted =
-    (input : List ℕ) (turns : ℕ) → loadOf (take 4493 input) .state .plan .horizon < turns → printedIn turns (take 4493 input) ≡ listingOfInput input
-
--- "at most 4,493 bytes": one more than the longest file that is accepted, so that of a longer input nothing is listed
+-- "reads at most 4,493 bytes of standard input": one more than the longest file that is accepted, so that of a longer input nothing is listed
 abbrev pub LongRefused : Type 0
 LongRefused = (input : List ℕ) → 4492 < length input → loadOf (take 4493 input) .number ≡ 0 → ⊥
 
--- what the text of a number is: its decimal digits, by which it is read back, with no 0 in front of others, and '-' in front where it is below 0
+-- what the text of a number is: its decimal digits, by which it is read back, with no 0 in front of others, so that 0 is the one digit 0, and
+-- '-' in front where it is below 0
 pub record NumberTexts : Type 0 where
   pub read : (n : ℕ) → readFrom 0 (decimal n) ≡ n
   pub digits : (n i : ℕ) → i < length (decimal n) → (48 ≤ getD (decimal n) i 0) × (getD (decimal n) i 0 ≤ 57)
+  pub zero-text : decimal 0 ≡ 48 ∷ []
   pub no-zero : (n : ℕ) → 1 ≤ n → 49 ≤ getD (decimal n) 0 0
   pub from-zero : (n : ℕ) → signedDecimal (pos n) ≡ decimal n
   pub below-zero : (n : ℕ) → signedDecimal (negℤ (pos (suc n))) ≡ 45 ∷ decimal (suc n)
@@ -63,6 +60,5 @@ pub record ListingPromise : Type 0 where
   pub stops : ListingStops
   pub turns-end : TurnsEnd
   pub turns-print : TurnsPrint
-  pub input-printed : InputPrinted
   pub texts-fit : TextsFit
   pub long-refused : LongRefused

@@ -47,18 +47,20 @@ EveryView = (file : List ℕ) (number : ℕ) → ViewPromise file number
 
 -- ════ Demand 2: written and loaded plans come back equal
 
--- a file that load accepts is written back from every sound state of its plan, the loaded one and those that runs leave: its length and its
--- bytes, and the buffer's later bytes kept
+-- from a state a file is written back: its length and its bytes, and the buffer's later bytes kept
 pub record WrittenBack (file buffer : List ℕ) (st : State) : Type 0 where
   pub number : writeOf st buffer .number ≡ 0
   pub size : writeOf st buffer .length ≡ length file
   pub state : writeOf st buffer .state ≡ st
   pub bytes : bufferOfWrite st buffer ≡ file ++ drop (length file) buffer
 
+-- so an accepted file is, from the loaded state and from every sound state of its plan, such as runs leave
+pub record WrittenBackPromise (file buffer : List ℕ) : Type 0 where
+  pub loaded : WrittenBack file buffer (loadOf file .state)
+  pub later : (st : State) → Sound st → st .plan ≡ planIn file → WrittenBack file buffer st
+
 abbrev pub LoadThenWrite : Type 0
-LoadThenWrite =
-    (file buffer : List ℕ) (st : State) → Bytes file → loadOf file .number ≡ 0 → Sound st → st .plan ≡ planIn file → length file ≤ length buffer
-    → WrittenBack file buffer st
+LoadThenWrite = (file buffer : List ℕ) → Bytes file → loadOf file .number ≡ 0 → length file ≤ length buffer → WrittenBackPromise file buffer
 
 -- what was written for a sound state is loaded as that plan's start. `Shaped` says that the plan is one that a struct can hold
 pub record LoadedBack (st : State) (buffer : List ℕ) : Type 0 where

@@ -2,7 +2,7 @@
 -- Proofs.
 use mathlib.Core.Path.{_≡_}
 use mathlib.Core.Bool.{Bool, true, false}
-use mathlib.Core.List.{List, [], _∷_}
+use mathlib.Core.List.{List}
 use Prim.Native.Nat.{ℕ, _+_, _-_, _*_, _^_, _≤_, _<_}
 use lib.IntN.{ℤ, pos, _+ℤ_, _-ℤ_, _*ℤ_}
 use lib.Signed.{_≤ℤ_, _<ℤ_}
@@ -11,7 +11,7 @@ use Rattle.integers.specs.Range.{limited}
 use Rattle.bitset.specs.Mask.{countOf}
 use Rattle.words.specs.Word.{word, signedWord}
 use Rattle.plan.specs.Lists.{nat}
-use Rattle.plan.specs.Format.{M, entrySizes, leastCounts, largestCounts}
+use Rattle.plan.specs.Format.{M}
 use Rattle.machine.specs.Due.{never}
 
 pub record NumbersMean : Type 0 where
@@ -32,10 +32,6 @@ pub record NumbersMean : Type 0 where
   pub limited-inside : (lo hi z : ℤ) → lo ≤ℤ z → z ≤ℤ hi → limited lo hi z ≡ z
   pub limited-below : (lo hi z : ℤ) → lo ≤ℤ hi → z ≤ℤ lo → limited lo hi z ≡ lo
   pub limited-above : (lo hi z : ℤ) → lo ≤ℤ hi → hi ≤ℤ z → limited lo hi z ≡ hi
-  -- the sections: bytes of an entry, least and largest count
-  pub sizes : entrySizes ≡ 8 ∷ 4 ∷ 20 ∷ 12 ∷ 12 ∷ []
-  pub least : leastCounts ≡ 1 ∷ 0 ∷ 0 ∷ 0 ∷ 0 ∷ []
-  pub most : largestCounts ≡ 32 ∷ 8 ∷ 16 ∷ 256 ∷ 64 ∷ []
   -- how many below n pass a test
   pub count-none : (test : ℕ → Bool) → countOf test 0 ≡ 0
   pub count-one : (test : ℕ → Bool) (n : ℕ) → test n ≡ true → countOf test (n + 1) ≡ countOf test n + 1

@@ -24,9 +24,6 @@ numbers-mean =
       limited-inside = limited-same;
       limited-below = limited-low;
       limited-above = limited-high;
-      sizes = refl;
-      least = refl;
-      most = refl;
       count-none = λ test. refl;
       count-one = λ test n e. let next : n + 1 ≡ suc n = omega arith in rw (next, e) (omega arith);
       count-other = λ test n e. let next : n + 1 ≡ suc n = omega arith in rw (next, e);

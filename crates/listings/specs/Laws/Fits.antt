@@ -18,15 +18,15 @@ use Rattle.machine.specs.declared.Running.{Running}
 use Rattle.machine.specs.declared.State.{State}
 use Rattle.machine.specs.declared.Engine.the-variants.{Lazy}
 use Rattle.text.specs.Decimal.{signedDecimal}
-use Rattle.text.specs.Laws.Decimals.{length-decimal, decimal-digits, decimal-first, decimal-read}
+use Rattle.text.specs.Laws.Decimals.{decimal-one, length-decimal, decimal-digits, decimal-first, decimal-read}
 use Rattle.text.specs.Laws.Sizes.{lines-most, end-most, refusal-most}
 use Rattle.text.specs.Lines.{refusalLine}
 use Rattle.calls.specs.Calls.{loadOf, roomOf, ranState, ranEvents}
 use Rattle.calls.specs.Proofs.Limits.{limits}
 use Rattle.calls.specs.Proofs.StateLimits.{state-limits}
-use Rattle.listings.specs.Listing.{eventLines, closing, listingOfInput}
+use Rattle.listings.specs.Listing.{eventLines, closing}
 use Rattle.listings.specs.Turns.{turnState, turnMore, turnText, firstText}
-use Rattle.listings.specs.Promises.{NumberTexts, ListingPromise, InputPrinted, TextsFit, LongRefused}
+use Rattle.listings.specs.Promises.{NumberTexts, ListingPromise, TextsFit, LongRefused}
 use Rattle.listings.specs.Laws.Joined.{event-list, listing-stops, turns-end, turns-print}
 
 module _ (p : Plan) (r : Running) (ok : SoundRunning p r) where
@@ -85,16 +85,13 @@ texts-fit = (turn-fits, first-fits)
 pub long-refused : LongRefused
 long-refused input h e = omega (arith, limits .accepted-files (take 4493 input) e .longest, length-take 4493 input)
 
-input-printed : InputPrinted
-unfolding listingOfInput
-input-printed input = turns-print (take 4493 input)
-
 number-texts : NumberTexts
 unfolding signedDecimal
 number-texts =
     record {
       read = decimal-read;
       digits = decimal-digits;
+      zero-text = decimal-one 0 (omega arith);
       no-zero = decimal-first;
       from-zero = λ n. refl;
       below-zero = λ n. refl;
@@ -108,7 +105,6 @@ listing-promise =
       stops = listing-stops;
       turns-end = turns-end;
       turns-print = turns-print;
-      input-printed = input-printed;
       texts-fit = texts-fit;
       long-refused = long-refused;
     }
