@@ -1,5 +1,2 @@
 -- What the proofs of the code go by.
-pub mod Unused
-pub mod Chain
-pub mod OneIntegrator
 pub mod Tested

@@ -3,12 +3,11 @@
 ghost use mathlib.Core.Path.{_≡_};
 ghost use Rattle.machine.specs.SoundTest.{isSound};
 use crate::running::running_sound;
-use crate::unused::plan_unused;
 use machine::State;
 use planrules::plan_kept;
+use unused::plan_unused;
 
 mod running;
-mod unused;
 
 pub fn is_sound(st: State) -> bool
     ensures { λ r. ⌜ r ≡ isSound st ⌝ }

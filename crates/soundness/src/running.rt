@@ -7,16 +7,16 @@ ghost use Rattle.plan.specs.Format.{M};
 ghost use Rattle.plan.specs.Lists.{nat, int, every};
 ghost use Rattle.plan.specs.Rules.{PlanRules};
 ghost use Rattle.machine.specs.SoundTest.{runningSound};
-ghost use Rattle.soundness.specs.Figures.{figuresSound, FiguresReady, AllReady};
-use crate::unused::figures_unused;
-use dynamics::due_tick;
+ghost use Rattle.integratortest.specs.Figures.{figuresSound, AllReady};
 use dynamics::link_ranges;
 use dynamics::next_command;
 use dynamics::rates;
 use dynamics::source_values;
+use integratortest::integrator_sound;
 use machine::Running;
 use plan::Plan;
 use planrules::value_kept;
+use unused::figures_unused;
 
 // "|q| ≤ M", and "inputs are within ±M".
 fn values_kept(values: &[i64], count: usize) -> bool
@@ -31,39 +31,6 @@ fn values_kept(values: &[i64], count: usize) -> bool
         i += 1;
     }
     true
-}
-
-// "l ≤ c < d; .. |x−q| < D; s and d keep Rate and Due", of one integrator whose links make `rate`. x may be any number of 64 bits, so it is compared with
-// the levels and nothing is taken from it.
-fn integrator_sound(
-    clock: u32,
-    quantum: i64,
-    rate: i64,
-    x: i64,
-    q: i64,
-    s: i64,
-    l: u32,
-    d: u32,
-) -> bool
-    requires { ⌜ FiguresReady clock quantum rate q ⌝ }
-    ensures { λ r. ⌜ r ≡ figuresSound clock quantum rate x q s l d ⌝ }
-{
-    if l > clock {
-        return false;
-    }
-    if d <= clock {
-        return false;
-    }
-    if x <= q - quantum {
-        return false;
-    }
-    if x >= q + quantum {
-        return false;
-    }
-    if s != rate {
-        return false;
-    }
-    d == due_tick(l, x, q, quantum, s)
 }
 
 // Of each integrator.

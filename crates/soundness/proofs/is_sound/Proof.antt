@@ -11,7 +11,7 @@ use Rattle.plan.specs.Unused.{planUnused}
 use Rattle.plan.specs.Laws.Refused.{plan-rules}
 use Rattle.machine.specs.SoundTest.{planSound, runningSound, isSound}
 use Rattle.planrules.specs.Findings.{held, failed}
-use Rattle.soundness.specs.Laws.Chain.{passes, Passed, begin, next, passed-at, fails, last}
+use Rattle.unused.specs.Laws.Chain.{passes, Passed, begin, next, passed-at, fails, last}
 use Rattle.soundness.proofs.is_sound.Statement.{statement}
 use Rattle.soundness.proofs.is_sound.Tie as tie
 

@@ -29,8 +29,9 @@ use Rattle.dynamics.specs.Links.{rangesOf, AllRated}
 use Rattle.dynamics.specs.Sources.{valuesOf, firstValues, NodesReady}
 use Rattle.dynamics.specs.Laws.OwnRange.{own-rated}
 use Rattle.dynamics.specs.Laws.SourceValues.{nodes-ready, first-sized, values-sized}
-use Rattle.soundness.specs.Figures.{figuresSound, figuresIn, figuresUnused, AllReady}
-use Rattle.soundness.specs.Laws.Chain.{passes}
+use Rattle.unused.specs.Entries.{figuresUnused}
+use Rattle.integratortest.specs.Figures.{figuresSound, figuresIn, AllReady}
+use Rattle.unused.specs.Laws.Chain.{passes}
 
 -- ---- "|q| ≤ M" split off the clauses of an integrator
 every-both : (test f g : ℕ → Bool) → ((i : ℕ) → test i ≡ (f i && g i)) → (n : ℕ) → every test n ≡ (every f n && every g n)

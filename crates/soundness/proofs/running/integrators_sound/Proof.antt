@@ -8,7 +8,7 @@ use Prim.Native.Nat.{_-_, _≤_}
 use Rattle.plan.specs.Lists.{every}
 use Rattle.planrules.specs.Findings.{element, held, failed}
 use Rattle.planrules.specs.Testing.{every-none, every-more, every-fails}
-use Rattle.soundness.specs.Figures.{figuresIn}
+use Rattle.integratortest.specs.Figures.{figuresIn}
 use Rattle.soundness.proofs.running.integrators_sound.Statement.{statement}
 use Rattle.soundness.proofs.running.integrators_sound.Tie as tie
 

@@ -17,7 +17,7 @@ use Rattle.dynamics.specs.Sources.{valuesOf}
 use Rattle.dynamics.specs.Laws.OwnRange.{own-rates}
 use Rattle.dynamics.specs.Laws.SourceValues.{values-at, all-nodes}
 use Rattle.planrules.specs.Findings.{held, failed}
-use Rattle.soundness.specs.Laws.Chain.{passes, Passed, begin, next, passed-at, fails, last}
+use Rattle.unused.specs.Laws.Chain.{passes, Passed, begin, next, passed-at, fails, last}
 use Rattle.soundness.specs.Laws.Tested.{clauses, running-tests, figuresAt, slopes, sources-ready, rates-ready, figures-ready, figures-same}
 use Rattle.soundness.specs.Laws.Tested.{clock-fits, updates-fit}
 use Rattle.soundness.proofs.running.running_sound.Statement.{statement}

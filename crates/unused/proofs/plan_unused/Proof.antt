@@ -1,0 +1,196 @@
+-- Each call answers one of the definition's tests, in their order.
+use borrow.Author.Needs.{needs}
+use lib.Dec.{lit<}
+use mathlib.Core.Bool.{Bool}
+use mathlib.Core.List.{List, [], _∷_}
+use mathlib.Core.Path.{_≡_, refl}
+use Rattle.plan.specs.Lists.{every}
+use Rattle.plan.specs.Unused.{unusedNat, unusedInt, planUnused}
+use Rattle.planrules.specs.Findings.{held, failed}
+use Rattle.unused.specs.Laws.Chain.{passes, Passed, begin, next, fails, last}
+use Rattle.unused.proofs.plan_unused.Statement.{statement}
+use Rattle.unused.proofs.plan_unused.Tie as tie
+
+-- the tests in their order, of the arguments at the entry
+abbrev tests : tie.Start → List Bool
+tests c =
+    let p = c .args .t1 in
+    unusedInt (p .n) (p .starts) ∷ unusedInt (p .n) (p .quanta) ∷ unusedInt (p .m) (p .firsts)
+    ∷ unusedNat (p .k) (p .kinds) ∷ unusedNat (p .k) (p .lefts) ∷ unusedNat (p .k) (p .rights)
+    ∷ unusedInt (p .k) (p .lows) ∷ unusedInt (p .k) (p .highs)
+    ∷ unusedNat (p .links) (p .targets) ∷ unusedNat (p .links) (p .sources) ∷ unusedInt (p .links) (p .coefficients)
+    ∷ unusedNat (p .commands) (p .ticks) ∷ unusedNat (p .commands) (p .numbers) ∷ unusedInt (p .commands) (p .values) ∷ []
+
+all-of : (c : tie.Start) → passes (tests c) 14 ≡ planUnused (c .args .t1)
+unfolding passes every planUnused
+all-of c = refl
+
+signed-unused-requires : tie.Need-signed-unused-requires
+signed-unused-requires c κs = search needs
+
+returns : tie.Need-returns
+returns c =
+    fails (begin tests (c .before .before .before .before .before)) all-of (lit< tt) (failed (c .before .signed-unused .ensures) (c .if1 .taken))
+
+-- behind each test
+abbrev passed1 : tie.Else1 → Passed tests 1
+passed1 c = next (begin tests (c .before .before .before .before .before)) (held (c .before .signed-unused .ensures) (c .if1 .left))
+
+signed-unused-requires-2 : tie.Need-signed-unused-requires-2
+signed-unused-requires-2 c κs = search needs
+
+returns-2 : tie.Need-returns-2
+returns-2 c =
+    fails (passed1 (c .before .before .before .before .before)) all-of (lit< tt) (failed (c .before .signed-unused2 .ensures) (c .if2 .taken))
+
+abbrev passed2 : tie.Else2 → Passed tests 2
+passed2 c = next (passed1 (c .before .before .before .before .before)) (held (c .before .signed-unused2 .ensures) (c .if2 .left))
+
+signed-unused-requires-3 : tie.Need-signed-unused-requires-3
+signed-unused-requires-3 c κs = search needs
+
+returns-3 : tie.Need-returns-3
+returns-3 c =
+    fails (passed2 (c .before .before .before .before .before)) all-of (lit< tt) (failed (c .before .signed-unused3 .ensures) (c .if3 .taken))
+
+abbrev passed3 : tie.Else3 → Passed tests 3
+passed3 c = next (passed2 (c .before .before .before .before .before)) (held (c .before .signed-unused3 .ensures) (c .if3 .left))
+
+numbers-unused-requires : tie.Need-numbers-unused-requires
+numbers-unused-requires c κs = search needs
+
+returns-4 : tie.Need-returns-4
+returns-4 c =
+    fails (passed3 (c .before .before .before .before .before)) all-of (lit< tt) (failed (c .before .numbers-unused .ensures) (c .if4 .taken))
+
+abbrev passed4 : tie.Else4 → Passed tests 4
+passed4 c = next (passed3 (c .before .before .before .before .before)) (held (c .before .numbers-unused .ensures) (c .if4 .left))
+
+numbers-unused-requires-2 : tie.Need-numbers-unused-requires-2
+numbers-unused-requires-2 c κs = search needs
+
+returns-5 : tie.Need-returns-5
+returns-5 c =
+    fails (passed4 (c .before .before .before .before .before)) all-of (lit< tt) (failed (c .before .numbers-unused2 .ensures) (c .if5 .taken))
+
+abbrev passed5 : tie.Else5 → Passed tests 5
+passed5 c = next (passed4 (c .before .before .before .before .before)) (held (c .before .numbers-unused2 .ensures) (c .if5 .left))
+
+numbers-unused-requires-3 : tie.Need-numbers-unused-requires-3
+numbers-unused-requires-3 c κs = search needs
+
+returns-6 : tie.Need-returns-6
+returns-6 c =
+    fails (passed5 (c .before .before .before .before .before)) all-of (lit< tt) (failed (c .before .numbers-unused3 .ensures) (c .if6 .taken))
+
+abbrev passed6 : tie.Else6 → Passed tests 6
+passed6 c = next (passed5 (c .before .before .before .before .before)) (held (c .before .numbers-unused3 .ensures) (c .if6 .left))
+
+signed-unused-requires-4 : tie.Need-signed-unused-requires-4
+signed-unused-requires-4 c κs = search needs
+
+returns-7 : tie.Need-returns-7
+returns-7 c =
+    fails (passed6 (c .before .before .before .before .before)) all-of (lit< tt) (failed (c .before .signed-unused4 .ensures) (c .if7 .taken))
+
+abbrev passed7 : tie.Else7 → Passed tests 7
+passed7 c = next (passed6 (c .before .before .before .before .before)) (held (c .before .signed-unused4 .ensures) (c .if7 .left))
+
+signed-unused-requires-5 : tie.Need-signed-unused-requires-5
+signed-unused-requires-5 c κs = search needs
+
+returns-8 : tie.Need-returns-8
+returns-8 c =
+    fails (passed7 (c .before .before .before .before .before)) all-of (lit< tt) (failed (c .before .signed-unused5 .ensures) (c .if8 .taken))
+
+abbrev passed8 : tie.Else8 → Passed tests 8
+passed8 c = next (passed7 (c .before .before .before .before .before)) (held (c .before .signed-unused5 .ensures) (c .if8 .left))
+
+numbers-unused-requires-4 : tie.Need-numbers-unused-requires-4
+numbers-unused-requires-4 c κs = search needs
+
+returns-9 : tie.Need-returns-9
+returns-9 c =
+    fails (passed8 (c .before .before .before .before .before)) all-of (lit< tt) (failed (c .before .numbers-unused4 .ensures) (c .if9 .taken))
+
+abbrev passed9 : tie.Else9 → Passed tests 9
+passed9 c = next (passed8 (c .before .before .before .before .before)) (held (c .before .numbers-unused4 .ensures) (c .if9 .left))
+
+numbers-unused-requires-5 : tie.Need-numbers-unused-requires-5
+numbers-unused-requires-5 c κs = search needs
+
+returns-10 : tie.Need-returns-10
+returns-10 c =
+    fails (passed9 (c .before .before .before .before .before)) all-of (lit< tt) (failed (c .before .numbers-unused5 .ensures) (c .if10 .taken))
+
+abbrev passed10 : tie.Else10 → Passed tests 10
+passed10 c = next (passed9 (c .before .before .before .before .before)) (held (c .before .numbers-unused5 .ensures) (c .if10 .left))
+
+signed-unused-requires-6 : tie.Need-signed-unused-requires-6
+signed-unused-requires-6 c κs = search needs
+
+returns-11 : tie.Need-returns-11
+returns-11 c =
+    fails (passed10 (c .before .before .before .before .before)) all-of (lit< tt) (failed (c .before .signed-unused6 .ensures) (c .if11 .taken))
+
+abbrev passed11 : tie.Else11 → Passed tests 11
+passed11 c = next (passed10 (c .before .before .before .before .before)) (held (c .before .signed-unused6 .ensures) (c .if11 .left))
+
+ticks-unused-requires : tie.Need-ticks-unused-requires
+ticks-unused-requires c κs = search needs
+
+returns-12 : tie.Need-returns-12
+returns-12 c =
+    fails (passed11 (c .before .before .before .before .before)) all-of (lit< tt) (failed (c .before .ticks-unused .ensures) (c .if12 .taken))
+
+abbrev passed12 : tie.Else12 → Passed tests 12
+passed12 c = next (passed11 (c .before .before .before .before .before)) (held (c .before .ticks-unused .ensures) (c .if12 .left))
+
+numbers-unused-requires-6 : tie.Need-numbers-unused-requires-6
+numbers-unused-requires-6 c κs = search needs
+
+returns-13 : tie.Need-returns-13
+returns-13 c =
+    fails (passed12 (c .before .before .before .before .before)) all-of (lit< tt) (failed (c .before .numbers-unused6 .ensures) (c .if13 .taken))
+
+abbrev passed13 : tie.Else13 → Passed tests 13
+passed13 c = next (passed12 (c .before .before .before .before .before)) (held (c .before .numbers-unused6 .ensures) (c .if13 .left))
+
+signed-unused-requires-7 : tie.Need-signed-unused-requires-7
+signed-unused-requires-7 c κs = search needs
+
+returns-14 : tie.Need-returns-14
+returns-14 c = last (passed13 (c .before .before .before .before)) all-of refl (c .signed-unused7 .ensures)
+
+pub plan-unused-spec : {M : Type 1} → statement M
+plan-unused-spec =
+    tie.close
+    (tie.spec
+    signed-unused-requires
+    returns
+    signed-unused-requires-2
+    returns-2
+    signed-unused-requires-3
+    returns-3
+    numbers-unused-requires
+    returns-4
+    numbers-unused-requires-2
+    returns-5
+    numbers-unused-requires-3
+    returns-6
+    signed-unused-requires-4
+    returns-7
+    signed-unused-requires-5
+    returns-8
+    numbers-unused-requires-4
+    returns-9
+    numbers-unused-requires-5
+    returns-10
+    signed-unused-requires-6
+    returns-11
+    ticks-unused-requires
+    returns-12
+    numbers-unused-requires-6
+    returns-13
+    signed-unused-requires-7
+    returns-14)
