@@ -1,11 +1,13 @@
-// The figures of one integrator in a sound state.
+// The figures of the integrators in a sound state.
 ghost use mathlib.Core.Path.{_≡_};
-ghost use Rattle.integratortest.specs.Figures.{figuresSound, FiguresReady};
+ghost use Prim.Native.Nat.{_≤_};
+ghost use Rattle.plan.specs.Lists.{nat, int, every};
+ghost use Rattle.integratortest.specs.Figures.{figuresSound, FiguresReady, AllReady};
 use dynamics::due_tick;
 
 // "l ≤ c < d; .. |x−q| < D; s and d keep Rate and Due", of one integrator whose links make `rate`. x may be any number of 64 bits, so it is compared with
 // the levels and nothing is taken from it.
-pub fn integrator_sound(
+fn integrator_sound(
     clock: u32,
     quantum: i64,
     rate: i64,
@@ -34,4 +36,30 @@ pub fn integrator_sound(
         return false;
     }
     d == due_tick(l, x, q, quantum, s)
+}
+
+// Of each integrator.
+pub fn integrators_sound<'a>(
+    n: usize,
+    clock: u32,
+    quanta: &'a [i64; 32],
+    rates: &'a [i64; 32],
+    x: &'a [i64; 32],
+    q: &'a [i64; 32],
+    s: &'a [i64; 32],
+    l: &'a [u32; 32],
+    d: &'a [u32; 32],
+) -> bool
+    requires { ⌜ (n ≤ 32) × AllReady n clock (now quanta) (now rates) (now q) ⌝ }
+    ensures { λ r. ⌜ r ≡ every (λ i. figuresSound clock (int (now (quanta .entry)) i) (int (now (rates .entry)) i) (int (now (x .entry)) i)
+        (int (now (q .entry)) i) (int (now (s .entry)) i) (nat (now (l .entry)) i) (nat (now (d .entry)) i)) n ⌝ }
+{
+    let mut i: usize = 0;
+    while i < n {
+        if !integrator_sound(clock, quanta[i], rates[i], x[i], q[i], s[i], l[i], d[i]) {
+            return false;
+        }
+        i += 1;
+    }
+    true
 }

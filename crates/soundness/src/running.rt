@@ -4,15 +4,14 @@ ghost use Prim.Native.Nat.{_≤_};
 ghost use lib.ListN.{length};
 ghost use Rattle.integers.specs.Range.{within};
 ghost use Rattle.plan.specs.Format.{M};
-ghost use Rattle.plan.specs.Lists.{nat, int, every};
+ghost use Rattle.plan.specs.Lists.{int, every};
 ghost use Rattle.plan.specs.Rules.{PlanRules};
 ghost use Rattle.machine.specs.SoundTest.{runningSound};
-ghost use Rattle.integratortest.specs.Figures.{figuresSound, AllReady};
 use dynamics::link_ranges;
 use dynamics::next_command;
 use dynamics::rates;
 use dynamics::source_values;
-use integratortest::integrator_sound;
+use integratortest::integrators_sound;
 use machine::Running;
 use plan::Plan;
 use planrules::value_kept;
@@ -26,32 +25,6 @@ fn values_kept(values: &[i64], count: usize) -> bool
     let mut i: usize = 0;
     while i < count {
         if !value_kept(values[i]) {
-            return false;
-        }
-        i += 1;
-    }
-    true
-}
-
-// Of each integrator.
-fn integrators_sound<'a>(
-    n: usize,
-    clock: u32,
-    quanta: &'a [i64; 32],
-    rates: &'a [i64; 32],
-    x: &'a [i64; 32],
-    q: &'a [i64; 32],
-    s: &'a [i64; 32],
-    l: &'a [u32; 32],
-    d: &'a [u32; 32],
-) -> bool
-    requires { ⌜ (n ≤ 32) × AllReady n clock (now quanta) (now rates) (now q) ⌝ }
-    ensures { λ r. ⌜ r ≡ every (λ i. figuresSound clock (int (now (quanta .entry)) i) (int (now (rates .entry)) i) (int (now (x .entry)) i)
-        (int (now (q .entry)) i) (int (now (s .entry)) i) (nat (now (l .entry)) i) (nat (now (d .entry)) i)) n ⌝ }
-{
-    let mut i: usize = 0;
-    while i < n {
-        if !integrator_sound(clock, quanta[i], rates[i], x[i], q[i], s[i], l[i], d[i]) {
             return false;
         }
         i += 1;

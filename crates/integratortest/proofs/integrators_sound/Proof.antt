@@ -8,9 +8,9 @@ use Prim.Native.Nat.{_-_, _≤_}
 use Rattle.plan.specs.Lists.{every}
 use Rattle.planrules.specs.Findings.{element, held, failed}
 use Rattle.planrules.specs.Testing.{every-none, every-more, every-fails}
 use Rattle.integratortest.specs.Figures.{figuresIn}
-use Rattle.soundness.proofs.running.integrators_sound.Statement.{statement}
-use Rattle.soundness.proofs.running.integrators_sound.Tie as tie
+use Rattle.integratortest.proofs.integrators_sound.Statement.{statement}
+use Rattle.integratortest.proofs.integrators_sound.Tie as tie
 
 abbrev Inv-loop : tie.InvT-loop
 Inv-loop n clock quanta rates x q s l d i₀ i = (i ≤ n) × (every (figuresIn clock quanta rates x q s l d) i ≡ true)
