@@ -2,7 +2,7 @@
 ghost use mathlib.Core.Path.{_≡_};
 ghost use lib.ListN.{length};
 ghost use Rattle.machine.specs.Runs.{events};
-ghost use Rattle.instant.specs.Events.{putAt};
+ghost use Rattle.steps.specs.Events.{putAt};
 ghost use Rattle.engine.specs.Running.{endedOf, RunReady};
 use crate::ahead::look_ahead;
 use dynamics::link_ranges;

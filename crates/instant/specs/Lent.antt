@@ -17,7 +17,7 @@ use Rattle.machine.specs.declared.Engine.the-variants.{Lazy, Eager}
 use Rattle.dynamics.specs.Links.{rangesOf}
 use Rattle.dynamics.specs.Sources.{valuesOf}
 use Rattle.reach.specs.Table.{reachTable}
-use Rattle.instant.specs.Events.{putAt}
+use Rattle.steps.specs.Events.{putAt}
 use Rattle.instant.specs.declared.instants.Counts.{Counts}
 use Rattle.instant.specs.declared.instants.Clocks.{Clocks}
 

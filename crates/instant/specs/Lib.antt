@@ -1,6 +1,2 @@
-pub mod Commands
-pub mod Outputs
-pub mod Events
-pub mod Motion
 pub mod Lent
 pub mod Laws

@@ -3,10 +3,6 @@ ghost use mathlib.Core.Path.{_≡_};
 ghost use Prim.Native.Nat.{_≤_};
 ghost use lib.ListN.{length};
 ghost use Rattle.instant.specs.Lent.{planOf, runningOf, movedSet, InstantReady, InstantTaken};
-use crate::commands::obey_commands;
-use crate::events::write_events;
-use crate::moves::move_all;
-use crate::outputs::set_outputs;
 use bitset::all;
 use bitset::count;
 use bitset::joined;
@@ -14,6 +10,10 @@ use bitset::union;
 use dynamics::work_nodes;
 use machine::Engine;
 use reach::reached_by;
+use steps::move_all;
+use steps::obey_commands;
+use steps::set_outputs;
+use steps::write_events;
 
 // The numbers of a plan beside its arrays.
 pub struct Counts {

@@ -1,9 +1,5 @@
-// One instant of the machine, lazy or eager, and what it is made of.
-mod commands;
-mod events;
+// One instant of the machine, lazy or eager, made of its steps.
 mod instants;
-mod moves;
-mod outputs;
 
 pub use instants::Clocks;
 pub use instants::Counts;

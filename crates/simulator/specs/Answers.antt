@@ -24,7 +24,7 @@ use Rattle.machine.specs.Runs.{events, positionOf}
 use Rattle.machine.specs.declared.Engine.{Engine}
 use Rattle.dynamics.specs.Ticks.{PositionReady}
 use Rattle.dynamics.specs.Laws.Standings.{ready-at}
-use Rattle.instant.specs.Events.{putAt}
+use Rattle.steps.specs.Events.{putAt}
 use Rattle.engine.specs.Running.{endedOf, RunReady}
 use Rattle.engine.specs.declared.runs.Ended.{Ended}
 use Rattle.calls.specs.Calls.{loadOf, writeNumber, writeOf, bufferOfWrite, roomOf, declineOf, runNumber, ranState, ranEvents}

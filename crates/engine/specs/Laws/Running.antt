@@ -27,11 +27,11 @@ use Rattle.dynamics.specs.Sources.{valuesOf, firstValues, nodeStep, NodesReady}
 use Rattle.dynamics.specs.Laws.SourceValues.{nodes-ready, first-sized, all-nodes}
 use Rattle.reach.specs.Table.{reachTable}
 use Rattle.engine.specs.Ahead.{aheadOf, AheadReady}
-use Rattle.instant.specs.Events.{putAt}
+use Rattle.steps.specs.Events.{putAt}
 use Rattle.instant.specs.Lent.{InstantReady}
 use Rattle.engine.specs.Running.{endedOf}
 use Rattle.engine.specs.Laws.Aheads.{ahead-ready, ahead-is}
-use Rattle.instant.specs.Laws.Buffers.{put-none, put-append, length-put}
+use Rattle.steps.specs.Laws.Buffers.{put-none, put-append, length-put}
 use Rattle.engine.specs.declared.ahead.Ahead.{Ahead}
 use Rattle.engine.specs.declared.runs.Ended.{Ended}
 

@@ -9,10 +9,10 @@ use Rattle.words.specs.Word.{wordOf}
 use Rattle.words.specs.Putting.{rd32, length-behind}
 use Rattle.plan.specs.Lists.{int}
 use Rattle.machine.specs.Instant.{eventBytes}
-use Rattle.instant.specs.Laws.Buffers.{put-back}
-use Rattle.instant.specs.Laws.EventTurns.{Writing, begun, finished, room, source-lt, value-small, turn}
-use Rattle.instant.proofs.events.write_events.Statement.{statement}
-use Rattle.instant.proofs.events.write_events.Tie as tie
+use Rattle.steps.specs.Laws.Buffers.{put-back}
+use Rattle.steps.specs.Laws.EventTurns.{Writing, begun, finished, room, source-lt, value-small, turn}
+use Rattle.steps.proofs.events.write_events.Statement.{statement}
+use Rattle.steps.proofs.events.write_events.Tie as tie
 
 abbrev Inv-loop : tie.InvT-loop
 Inv-loop changed t values buf₀ at left₀ end₀ buf left end = Writing t values changed at buf₀ left end buf

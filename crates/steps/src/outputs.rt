@@ -2,7 +2,7 @@
 ghost use mathlib.Core.Path.{_≡_};
 ghost use Rattle.bitset.specs.Mask.{has, each};
 ghost use Rattle.dynamics.specs.Standing.{DueReach};
-ghost use Rattle.instant.specs.Outputs.{outputting, outputOne};
+ghost use Rattle.steps.specs.Outputs.{outputting, outputOne};
 use bitset::lowest;
 use bitset::rest;
 use dynamics::position;

@@ -15,8 +15,8 @@ use Rattle.machine.specs.Instant.{positionAt, outputs}
 use Rattle.machine.specs.Sound.{SoundRunning, RunningShaped}
 use Rattle.machine.specs.Laws.Taken.{outputs-at}
 use Rattle.machine.specs.declared.Running.{Running}
-use Rattle.instant.specs.Outputs.{Outputting, outputting, outputOne}
-use Rattle.instant.specs.Laws.Walks.{Stores, Walked, walked, row-is}
+use Rattle.steps.specs.Outputs.{Outputting, outputting, outputOne}
+use Rattle.steps.specs.Laws.Walks.{Stores, Walked, walked, row-is}
 
 -- ---- entry by entry
 abbrev outputIn : Outputting → ℕ → ℤ

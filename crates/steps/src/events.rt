@@ -2,7 +2,7 @@
 ghost use mathlib.Core.Path.{_≡_};
 ghost use Prim.Native.Nat.{_+_};
 ghost use lib.ListN.{length};
-ghost use Rattle.instant.specs.Events.{eventsIn, putAt, EventsReady};
+ghost use Rattle.steps.specs.Events.{eventsIn, putAt, EventsReady};
 use bitset::lowest64;
 use bitset::rest64;
 use words::write_triple;

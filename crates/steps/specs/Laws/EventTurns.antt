@@ -13,8 +13,8 @@ use Rattle.plan.specs.Lists.{int, joined}
 use Rattle.plan.specs.Laws.Small.{size-mag}
 use Rattle.machine.specs.Instant.{eventBytes}
 use Rattle.machine.specs.Laws.EventWords.{length-event}
-use Rattle.instant.specs.Events.{eventsIn, putAt, EventsReady}
-use Rattle.instant.specs.Laws.Buffers.{length-put, put-none, put-append}
+use Rattle.steps.specs.Events.{eventsIn, putAt, EventsReady}
+use Rattle.steps.specs.Laws.Buffers.{length-put, put-none, put-append}
 
 -- lists of those numbers that pass a test, one behind the other, as a loop that appends
 each-append : (f : ℕ → List ℕ) (test : ℕ → Bool) (n : ℕ) (s : List ℕ)

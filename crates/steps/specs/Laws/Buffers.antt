@@ -10,7 +10,7 @@ use lib.Seq.{length-take-le, take-all, take-at, drop-at, drop-drop}
 use Rattle.words.specs.Word.{flat, written}
 use Rattle.words.specs.Flat.{length-flat}
 use Rattle.words.specs.Putting.{behind, back}
-use Rattle.instant.specs.Events.{putAt}
+use Rattle.steps.specs.Events.{putAt}
 
 pub put-none : (b : List ℕ) (at : ℕ) → putAt b at [] ≡ b
 unfolding putAt

@@ -1,7 +1,7 @@
 // 2. "Commands of tick t set their inputs."
 ghost use mathlib.Core.Path.{_≡_};
 ghost use Prim.Native.Nat.{_-_};
-ghost use Rattle.instant.specs.Commands.{obeying, obeyFrom, CommandsReady};
+ghost use Rattle.steps.specs.Commands.{obeying, obeyFrom, CommandsReady};
 use bitset::with;
 
 // The inputs that commands of the tick set, and the next command after them.

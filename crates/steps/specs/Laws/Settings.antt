@@ -30,7 +30,7 @@ use Rattle.machine.specs.Instant.{settingOf, settings}
 use Rattle.machine.specs.Laws.Next.{command-earlier, command-most, command-is}
 use Rattle.machine.specs.Laws.Reach.{sets-means, commanded-means}
 use Rattle.machine.specs.Laws.Ascending.{ascending}
-use Rattle.instant.specs.Commands.{Obeying, obeying, obeyOne, obeyFrom, CommandsReady}
+use Rattle.steps.specs.Commands.{Obeying, obeying, obeyOne, obeyFrom, CommandsReady}
 
 -- ---- lists and tests
 set-entry : (xs : List ℤ) (k i : ℕ) (v : ℤ) → k < length xs → int (set xs k v) i ≡ cond (eqb k i) v (int xs i)

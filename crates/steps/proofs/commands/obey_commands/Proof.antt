@@ -7,10 +7,10 @@ use mir.Syntax.{w64}
 use mir.Val.{SFits}
 use mir.Facts.{toZ-ofZ}
 use Rattle.plan.specs.Lists.{nat, int}
-use Rattle.instant.specs.Commands.{obeying, obeyOne, obeyFrom}
-use Rattle.instant.specs.Laws.Obeying.{obey-turn, obey-other, obey-end}
-use Rattle.instant.proofs.commands.obey_commands.Statement.{statement}
-use Rattle.instant.proofs.commands.obey_commands.Tie as tie
+use Rattle.steps.specs.Commands.{obeying, obeyOne, obeyFrom}
+use Rattle.steps.specs.Laws.Obeying.{obey-turn, obey-other, obey-end}
+use Rattle.steps.proofs.commands.obey_commands.Statement.{statement}
+use Rattle.steps.proofs.commands.obey_commands.Tie as tie
 
 abbrev Inv-loop : tie.InvT-loop
 Inv-loop t next commands n ticks numbers settings inputs₀ values₀ commanded₀ e₀ inputs values commanded e =

@@ -7,7 +7,7 @@ use native.Mathlib.Omega.{arith}
 use lib.IntN.{ℤ}
 use lib.Dec.{eqb}
 use Rattle.plan.specs.Lists.{nat}
-use Rattle.instant.specs.Commands.{Obeying, obeyOne, obeyFrom}
+use Rattle.steps.specs.Commands.{Obeying, obeyOne, obeyFrom}
 
 module _ (t n : ℕ) (ticks numbers : List ℕ) (settings : List ℤ) (e commands : ℕ) (o : Obeying) where
   pub obey-turn : e < commands → eqb (nat ticks e) t ≡ true

@@ -22,7 +22,7 @@ use Rattle.machine.specs.Values.{valueWith}
 use Rattle.machine.specs.Reach.{changes}
 use Rattle.machine.specs.Instant.{eventBytes, eventsAt}
 use Rattle.machine.specs.Laws.EventWords.{length-events}
-use Rattle.instant.specs.Events.{eventsIn, EventsReady}
+use Rattle.steps.specs.Events.{eventsIn, EventsReady}
 
 -- ---- lists one behind the other
 joined-ext : (f g : ℕ → List ℕ) (n : ℕ) → ((i : ℕ) → i < n → f i ≡ g i) → joined f n ≡ joined g n

@@ -13,9 +13,9 @@ use Rattle.bitset.specs.Visiting.{rest-lt, lowest-lt, each-turn, each-done}
 use Rattle.plan.specs.Lists.{int}
 use Rattle.dynamics.specs.Standing.{DueReach}
 use Rattle.dynamics.specs.Laws.Barring.{valueAt, reach-lowest, reach-rest}
-use Rattle.instant.specs.Outputs.{outputting, outputOne}
-use Rattle.instant.proofs.outputs.set_outputs.Statement.{statement}
-use Rattle.instant.proofs.outputs.set_outputs.Tie as tie
+use Rattle.steps.specs.Outputs.{outputting, outputOne}
+use Rattle.steps.proofs.outputs.set_outputs.Statement.{statement}
+use Rattle.steps.proofs.outputs.set_outputs.Tie as tie
 
 abbrev Inv-loop : tie.InvT-loop
 Inv-loop due t x s l q₀ values₀ left₀ q values left =

@@ -1,0 +1,5 @@
+pub mod Commands
+pub mod Outputs
+pub mod Events
+pub mod Motion
+pub mod Laws
