@@ -6,5 +6,3 @@ pub mod Obeying
 pub mod Settings
 pub mod Walks
 pub mod Outputs
-pub mod Moving
-pub mod Moves

@@ -1,5 +1,4 @@
 pub mod Commands
 pub mod Outputs
 pub mod Events
-pub mod Motion
 pub mod Laws

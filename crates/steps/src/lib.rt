@@ -1,11 +1,9 @@
-// The steps of one instant of the machine, each on the arrays that it changes.
+// The steps of one instant that set outputs and inputs and write its events. The step that moves integrators is the crate `moves`.
 mod commands;
 mod events;
-mod moves;
 mod outputs;
 
 pub use commands::Commanded;
 pub use commands::obey_commands;
 pub use events::write_events;
-pub use moves::move_all;
 pub use outputs::set_outputs;

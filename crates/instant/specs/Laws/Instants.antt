@@ -45,12 +45,12 @@ use Rattle.reach.specs.Laws.Reached as reaching
 use Rattle.steps.specs.Commands.{obeying, obeyFrom, CommandsReady}
 use Rattle.steps.specs.Outputs.{outputting, outputOne}
 use Rattle.steps.specs.Events.{eventsIn, EventsReady}
-use Rattle.steps.specs.Motion.{moving, moveOne, AllMovable}
+use Rattle.moves.specs.Motion.{moving, moveOne, AllMovable}
 use Rattle.instant.specs.Lent.{movedSet, InstantReady}
 use Rattle.steps.specs.Laws.Settings.{Obeyed, obeyed, outputs-kept, nodes-kept, commands-ready}
 use Rattle.steps.specs.Laws.Outputs.{outputs-are, values-full, values-kept, values-are}
 use Rattle.steps.specs.Laws.EventBytes.{events-are, events-ready}
-use Rattle.steps.specs.Laws.Moves.{all-movable, moved-figures}
+use Rattle.moves.specs.Laws.Moves.{all-movable, moved-figures}
 
 -- below n an integrator, from n on an input: what holds of both kinds of source holds of all
 source-cases : (n m i : ℕ) (P : ℕ → Type 0) → i < n + m → ((k : ℕ) → k < n → P k) → ((j : ℕ) → j < m → P (n + j)) → P i

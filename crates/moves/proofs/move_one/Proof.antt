@@ -6,10 +6,10 @@ use mir.Val.{SFits}
 use mir.Facts.{toZ-ofZ}
 use Rattle.integers.specs.Signed64.{rd}
 use Rattle.plan.specs.Lists.{int}
-use Rattle.steps.specs.Motion.{moving, placeOf, slopeOf}
-use Rattle.steps.specs.Laws.Moving.{move-stores}
-use Rattle.steps.proofs.moves.move_one.Statement.{statement}
-use Rattle.steps.proofs.moves.move_one.Tie as tie
+use Rattle.moves.specs.Motion.{moving, placeOf, slopeOf}
+use Rattle.moves.specs.Laws.Moving.{move-stores}
+use Rattle.moves.proofs.move_one.Statement.{statement}
+use Rattle.moves.proofs.move_one.Tie as tie
 
 -- where the integrator is at t, and its new slope
 place : (c : tie.After-position) → let a = c .before .before .before .before .args in

@@ -13,7 +13,7 @@ use Rattle.bitset.specs.Mask.{has, lowestOf, restOf}
 use Rattle.bitset.specs.Visiting.{has-lowest, has-rest}
 use Rattle.plan.specs.Lists.{nat, int}
 use Rattle.machine.specs.Due.{dueTick}
-use Rattle.steps.specs.Motion.{Motion, moving, placeOf, slopeOf, dueFrom, moveOne, Movable, AllMovable}
+use Rattle.moves.specs.Motion.{Motion, moving, placeOf, slopeOf, dueFrom, moveOne, Movable, AllMovable}
 
 -- the figures of one integrator
 pub record Figures : Type 0 where

@@ -1,7 +1,7 @@
 // 5. "x becomes x+s×(t−l), l = t, then the new slope and due tick."
 ghost use mathlib.Core.Path.{_≡_};
 ghost use Rattle.bitset.specs.Mask.{has, each};
-ghost use Rattle.steps.specs.Motion.{moving, moveOne, Movable, AllMovable};
+ghost use Rattle.moves.specs.Motion.{moving, moveOne, Movable, AllMovable};
 use bitset::lowest;
 use bitset::rest;
 use dynamics::due_tick;

@@ -4,10 +4,10 @@ use Prim.Native.Nat.{_^_, _<_}
 use native.Mathlib.Omega.{arith}
 use Rattle.bitset.specs.Mask.{has, each}
 use Rattle.bitset.specs.Visiting.{rest-lt, each-turn, each-done}
-use Rattle.steps.specs.Motion.{moving, moveOne, AllMovable}
-use Rattle.steps.specs.Laws.Moving.{movable-lowest, movable-rest}
-use Rattle.steps.proofs.moves.move_all.Statement.{statement}
-use Rattle.steps.proofs.moves.move_all.Tie as tie
+use Rattle.moves.specs.Motion.{moving, moveOne, AllMovable}
+use Rattle.moves.specs.Laws.Moving.{movable-lowest, movable-rest}
+use Rattle.moves.proofs.move_all.Statement.{statement}
+use Rattle.moves.proofs.move_all.Tie as tie
 
 abbrev Inv-loop : tie.InvT-loop
 Inv-loop moved t ranges sources coefficients quanta values x₀ s₀ l₀ d₀ left₀ x s l d left =

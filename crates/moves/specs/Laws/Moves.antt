@@ -25,9 +25,9 @@ use Rattle.dynamics.specs.Links.{rangesOf}
 use Rattle.dynamics.specs.Laws.OwnRange.{own-rated, own-rate}
 use Rattle.dynamics.specs.Laws.Standings.{ready-at}
 use Rattle.dynamics.specs.Laws.Dues.{due-ready-then, due-is-then}
-use Rattle.steps.specs.Motion.{Motion, moving, placeOf, slopeOf, dueFrom, moveOne, AllMovable}
-use Rattle.steps.specs.Laws.Moving.{Figures, figuresAt, Full, movedFigures, move-full, move-own, move-others}
+use Rattle.moves.specs.Motion.{Motion, moving, placeOf, slopeOf, dueFrom, moveOne, AllMovable}
+use Rattle.moves.specs.Laws.Moving.{Figures, figuresAt, Full, movedFigures, move-full, move-own, move-others}
 use Rattle.steps.specs.Laws.Walks.{Stores, Walked, walked, row-is}
 
 -- what is in the mask of a test is below its end
 mask-member : (p : ℕ → Bool) (n i : ℕ) → has (maskOf p n) i ≡ true → i < n
