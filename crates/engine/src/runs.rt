@@ -5,15 +5,15 @@ ghost use Rattle.machine.specs.Runs.{events};
 ghost use Rattle.steps.specs.Events.{putAt};
 ghost use Rattle.engine.specs.Running.{endedOf, RunReady};
 use crate::ahead::look_ahead;
-use dynamics::link_ranges;
-use dynamics::source_values;
 use instant::Clocks;
 use instant::Counts;
 use instant::take_instant;
 use machine::Engine;
 use machine::Running;
 use machine::State;
+use rates::link_ranges;
 use reach::reach_table;
+use values::source_values;
 
 // The status of the state after a run, its integrator, the bytes written from the buffer's start, and the running figures.
 pub struct Ended {

@@ -5,8 +5,8 @@ use lib.IntN.{pos}
 use lib.ListN.{replicate}
 use Rattle.machine.specs.SoundTest.{isSound}
 use Rattle.machine.specs.declared.State.{State}
-use Rattle.dynamics.specs.Links.{rangesOf}
-use Rattle.dynamics.specs.Sources.{valuesOf}
+use Rattle.values.specs.Sources.{valuesOf}
+use Rattle.rates.specs.Links.{rangesOf}
 use Rattle.reach.specs.Table.{reachTable}
 use Rattle.exports.specs.declared.Tables.{Tables}
 

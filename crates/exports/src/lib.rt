@@ -10,8 +10,6 @@ ghost use Rattle.calls.specs.Calls.{loadOf, writeOf, bufferOfWrite, runOf, buff
 ghost use Rattle.exports.specs.Tables.{tablesOf};
 ghost use Rattle.exports.specs.Viewing.{viewLength, viewOffset};
 ghost use Rattle.exports.specs.Rewriting.{rewriteNumber, rewriteLength, rewriteBuffer};
-use dynamics::link_ranges;
-use dynamics::source_values;
 use machine::State;
 use plan::Finding;
 use planfile::offset_in;
@@ -19,6 +17,7 @@ use planfile::read_plan;
 use planrules::entry_of;
 use planrules::number_of;
 use planwriter::write_plan;
+use rates::link_ranges;
 use reach::reach_table;
 use simulator::Loaded;
 use simulator::Positioned;
@@ -31,6 +30,7 @@ use simulator::run_lazy;
 use simulator::section;
 use simulator::write;
 use soundness::is_sound;
+use values::source_values;
 
 // Reads a plan file: the number, 0 where it is accepted, and the lowest faulty entry.
 #[no_mangle]

@@ -14,8 +14,8 @@ use Rattle.machine.specs.Sound.{SoundRunning, RunningShaped}
 use Rattle.machine.specs.declared.Running.{Running}
 use Rattle.machine.specs.declared.Engine.{Engine}
 use Rattle.machine.specs.declared.Engine.the-variants.{Lazy, Eager}
-use Rattle.dynamics.specs.Links.{rangesOf}
-use Rattle.dynamics.specs.Sources.{valuesOf}
+use Rattle.values.specs.Sources.{valuesOf}
+use Rattle.rates.specs.Links.{rangesOf}
 use Rattle.reach.specs.Table.{reachTable}
 use Rattle.steps.specs.Events.{putAt}
 use Rattle.instant.specs.declared.instants.Counts.{Counts}

@@ -7,13 +7,13 @@ use bitset::all;
 use bitset::count;
 use bitset::joined;
 use bitset::union;
-use dynamics::work_nodes;
 use machine::Engine;
 use moves::move_all;
 use reach::reached_by;
 use steps::obey_commands;
 use steps::set_outputs;
 use steps::write_events;
+use values::work_nodes;
 
 // The numbers of a plan beside its arrays.
 pub struct Counts {

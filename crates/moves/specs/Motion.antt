@@ -8,7 +8,7 @@ use lib.ListN.{set}
 use Rattle.bitset.specs.Mask.{has}
 use Rattle.plan.specs.Lists.{nat, int}
 use Rattle.machine.specs.Due.{dueTick}
-use Rattle.dynamics.specs.Links.{rangeRate, Rated}
+use Rattle.rates.specs.Links.{rangeRate, Rated}
 use Rattle.dynamics.specs.Ticks.{DueReady, PositionReady}
 
 -- positions, slopes, last-moved ticks and due ticks

@@ -6,7 +6,7 @@ use bitset::lowest;
 use bitset::rest;
 use dynamics::due_tick;
 use dynamics::position;
-use dynamics::rate;
+use rates::rate;
 
 // `values` holds the outputs and inputs as they are after all commands and simultaneous outputs, and the nodes worked out from them. An integrator that was
 // reached but not due keeps its output: it stands in `values`, and q is not lent here.

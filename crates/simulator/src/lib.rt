@@ -13,7 +13,6 @@ ghost use mathlib.Core.Path.{_≡_};
 ghost use Rattle.plan.specs.Refusals.{sectionOf, sectionStart};
 ghost use Rattle.planfile.specs.Pointers.{further};
 ghost use Rattle.calls.specs.Calls.{loadOf, writeOf, bufferOfWrite};
-use dynamics::start;
 use machine::State;
 use plan::Finding;
 use planfile::read_plan;
@@ -23,6 +22,7 @@ use planrules::entry_of;
 use planrules::number_of;
 use planwriter::write_plan;
 use soundness::is_sound;
+use starts::start;
 
 // The section view: "hands back that part of the caller's own file, or an empty part if the file would be refused or the number is above 4". The first
 // clause says what the part holds, the second where it lies, so that it is the caller's own.

@@ -7,15 +7,15 @@ ghost use Rattle.plan.specs.Format.{M};
 ghost use Rattle.plan.specs.Lists.{int, every};
 ghost use Rattle.plan.specs.Rules.{PlanRules};
 ghost use Rattle.machine.specs.SoundTest.{runningSound};
-use dynamics::link_ranges;
 use dynamics::next_command;
-use dynamics::rates;
-use dynamics::source_values;
 use integratortest::integrators_sound;
 use machine::Running;
 use plan::Plan;
 use planrules::value_kept;
+use rates::link_ranges;
+use rates::rates;
 use unused::figures_unused;
+use values::source_values;
 
 // "|q| ≤ M", and "inputs are within ±M".
 fn values_kept(values: &[i64], count: usize) -> bool

@@ -22,9 +22,9 @@ use Rattle.machine.specs.Laws.Soundness.{instant-sound}
 use Rattle.machine.specs.Laws.Status.{is-paused}
 use Rattle.machine.specs.declared.Running.{Running}
 use Rattle.machine.specs.declared.Engine.{Engine}
-use Rattle.dynamics.specs.Links.{rangesOf}
-use Rattle.dynamics.specs.Sources.{valuesOf, firstValues, nodeStep, NodesReady}
-use Rattle.dynamics.specs.Laws.SourceValues.{nodes-ready, first-sized, all-nodes}
+use Rattle.values.specs.Sources.{valuesOf, firstValues, nodeStep, NodesReady}
+use Rattle.values.specs.Laws.SourceValues.{nodes-ready, first-sized, all-nodes}
+use Rattle.rates.specs.Links.{rangesOf}
 use Rattle.reach.specs.Table.{reachTable}
 use Rattle.engine.specs.Ahead.{aheadOf, AheadReady}
 use Rattle.steps.specs.Events.{putAt}

@@ -14,8 +14,8 @@ use Rattle.machine.specs.Sound.{Sound}
 use Rattle.machine.specs.SoundTest.{isSound}
 use Rattle.machine.specs.Laws.Tested.{sound-means}
 use Rattle.machine.specs.declared.State.{State}
-use Rattle.dynamics.specs.Links.{rangesOf}
-use Rattle.dynamics.specs.Laws.SourceValues.{nodes-ready, first-sized, all-nodes}
+use Rattle.values.specs.Laws.SourceValues.{nodes-ready, first-sized, all-nodes}
+use Rattle.rates.specs.Links.{rangesOf}
 use Rattle.reach.specs.Table.{reachTable}
 use Rattle.reach.specs.Laws.Reached.{table-wired, table-linked}
 use Rattle.exports.specs.Tables.{tables-none, tables-are}

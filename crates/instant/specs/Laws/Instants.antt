@@ -35,11 +35,11 @@ use Rattle.machine.specs.Laws.Soundness.{Takes, takes-next, output-size, settin
 use Rattle.machine.specs.declared.Running.{Running}
 use Rattle.machine.specs.declared.Engine.{Engine}
 use Rattle.machine.specs.declared.Engine.the-variants.{Lazy, Eager}
-use Rattle.dynamics.specs.Sources.{valuesOf, nodeStep, NodesReady}
+use Rattle.values.specs.Sources.{valuesOf, nodeStep, NodesReady}
+use Rattle.values.specs.Laws.SourceValues.{nodes-ready, values-length, values-at, values-sized}
+use Rattle.values.specs.Laws.Touched as touched
 use Rattle.dynamics.specs.Standing.{DueReach}
-use Rattle.dynamics.specs.Laws.SourceValues.{nodes-ready, values-length, values-at, values-sized}
 use Rattle.dynamics.specs.Laws.Standings.{due-reach}
-use Rattle.dynamics.specs.Laws.Touched as touched
 use Rattle.reach.specs.Table.{entriesOf}
 use Rattle.reach.specs.Laws.Reached as reaching
 use Rattle.steps.specs.Commands.{obeying, obeyFrom, CommandsReady}

@@ -21,8 +21,8 @@ use Rattle.machine.specs.Laws.Values.{integrator-value}
 use Rattle.machine.specs.Laws.Taken.{x-then}
 use Rattle.machine.specs.Laws.Soundness.{Takes}
 use Rattle.machine.specs.declared.Running.{Running}
-use Rattle.dynamics.specs.Links.{rangesOf}
-use Rattle.dynamics.specs.Laws.OwnRange.{own-rated, own-rate}
+use Rattle.rates.specs.Links.{rangesOf}
+use Rattle.rates.specs.Laws.OwnRange.{own-rated, own-rate}
 use Rattle.dynamics.specs.Laws.Standings.{ready-at}
 use Rattle.dynamics.specs.Laws.Dues.{due-ready-then, due-is-then}
 use Rattle.moves.specs.Motion.{Motion, moving, placeOf, slopeOf, dueFrom, moveOne, AllMovable}

@@ -25,10 +25,10 @@ use Rattle.machine.specs.Next.{nextCommand}
 use Rattle.machine.specs.SoundTest.{runningUnused, integratorSound, runningSound}
 use Rattle.machine.specs.Laws.Sizes.{rate-most}
 use Rattle.machine.specs.declared.Running.{Running}
-use Rattle.dynamics.specs.Links.{rangesOf, AllRated}
-use Rattle.dynamics.specs.Sources.{valuesOf, firstValues, NodesReady}
-use Rattle.dynamics.specs.Laws.OwnRange.{own-rated}
-use Rattle.dynamics.specs.Laws.SourceValues.{nodes-ready, first-sized, values-sized}
+use Rattle.values.specs.Sources.{valuesOf, firstValues, NodesReady}
+use Rattle.values.specs.Laws.SourceValues.{nodes-ready, first-sized, values-sized}
+use Rattle.rates.specs.Links.{rangesOf, AllRated}
+use Rattle.rates.specs.Laws.OwnRange.{own-rated}
 use Rattle.unused.specs.Entries.{figuresUnused}
 use Rattle.integratortest.specs.Figures.{figuresSound, figuresIn, AllReady}
 use Rattle.unused.specs.Laws.Chain.{passes}

@@ -8,7 +8,7 @@ use Rattle.plan.specs.Laws.Counts.{Counts, counts-of}
 use Rattle.plan.specs.declared.Plan.{Plan}
 use Rattle.machine.specs.Sound.{SoundRunning, RunningShaped}
 use Rattle.machine.specs.declared.Running.{Running}
-use Rattle.dynamics.specs.Links.{rangesOf}
+use Rattle.rates.specs.Links.{rangesOf}
 use Rattle.reach.specs.Table.{reachTable}
 use Rattle.reach.specs.Laws.Reached.{table-wired, table-linked}
 use Rattle.instant.specs.Lent.{runningOf}

@@ -12,10 +12,10 @@ use Rattle.plan.specs.declared.Plan.{Plan}
 use Rattle.machine.specs.Next.{nextCommand}
 use Rattle.machine.specs.SoundTest.{runningSound}
 use Rattle.machine.specs.declared.Running.{Running}
-use Rattle.dynamics.specs.Links.{rangesOf}
-use Rattle.dynamics.specs.Sources.{valuesOf}
-use Rattle.dynamics.specs.Laws.OwnRange.{own-rates}
-use Rattle.dynamics.specs.Laws.SourceValues.{values-at, all-nodes}
+use Rattle.values.specs.Sources.{valuesOf}
+use Rattle.values.specs.Laws.SourceValues.{values-at, all-nodes}
+use Rattle.rates.specs.Links.{rangesOf}
+use Rattle.rates.specs.Laws.OwnRange.{own-rates}
 use Rattle.planrules.specs.Findings.{held, failed}
 use Rattle.unused.specs.Laws.Chain.{passes, Passed, begin, next, passed-at, fails, last}
 use Rattle.soundness.specs.Laws.Tested.{clauses, running-tests, figuresAt, slopes, sources-ready, rates-ready, figures-ready, figures-same}

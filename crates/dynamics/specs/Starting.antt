@@ -1,9 +1,0 @@
--- What the due ticks of a start ask.
-use mathlib.Core.List.{List}
-use Prim.Native.Nat.{ℕ, _<_}
-use lib.IntN.{ℤ}
-use Rattle.plan.specs.Lists.{int}
-use Rattle.dynamics.specs.Ticks.{DueReady}
-
-abbrev pub StartsReady : ℕ → List ℤ → List ℤ → List ℤ → Type 0
-StartsReady n starts quanta slopes = (i : ℕ) → i < n → DueReady 0 (int starts i) (int starts i) (int quanta i) (int slopes i)

@@ -1,0 +1,78 @@
+// Rates. "Strictly ascending by target, then source": an integrator's own links stand together, so its rate is worked out over a range of links.
+// Arrays are lent, not copied.
+ghost use mathlib.Core.Path.{_≡_};
+ghost use Prim.Native.Nat.{_+_, _-_, _≤_, _<_};
+ghost use lib.IntN.{pos};
+ghost use lib.Dec.{leb};
+ghost use Rattle.plan.specs.Lists.{nat, row, firstFrom};
+ghost use Rattle.rates.specs.Links.{firstLink, rangeRate, Rated, AllRated};
+use integers::floor_65536;
+
+// From link `from` on the first whose target is i or above, or the number of links.
+fn first_link_from(targets: &[usize; 256], i: usize, from: usize, links: usize) -> usize
+    requires { ⌜ (from ≤ links) × (links ≤ 256) ⌝ }
+    ensures { λ r. ⌜ r ≡ firstFrom (λ e. leb i (nat (now (targets .entry)) e)) from (links - from) ⌝ }
+{
+    let mut e = from;
+    while e < links && targets[e] < i {
+        e += 1;
+    }
+    e
+}
+
+// Where each integrator's links begin; the entry after the last integrator's is where its links end.
+pub fn link_ranges(n: usize, links: usize, targets: &[usize; 256]) -> [usize; 33]
+    requires { ⌜ (n ≤ 32) × (links ≤ 256) ⌝ }
+    ensures { λ r. ⌜ r ≡ row 0 33 (n + 1) (firstLink (now (targets .entry)) links) ⌝ }
+{
+    let mut ranges: [usize; 33] = [0; 33];
+    let mut e: usize = 0;
+    let mut i: usize = 0;
+    while i <= n {
+        e = first_link_from(targets, i, e, links);
+        ranges[i] = e;
+        i += 1;
+    }
+    ranges
+}
+
+// "s = floor(sum of coefficient × source value over its links / 65,536)", over the links from .. to. No sum on the way is beyond 2^62.
+pub fn rate<'a>(
+    from: usize,
+    to: usize,
+    sources: &'a [usize; 256],
+    coefficients: &'a [i64; 256],
+    values: &'a [i64; 64],
+) -> i64
+    requires { ⌜ Rated (now sources) (now coefficients) (now values) from to ⌝ }
+    ensures { λ r. ⌜ r ≡ rangeRate (now (sources .entry)) (now (coefficients .entry)) (now (values .entry)) from to ⌝ }
+{
+    let mut sum: i64 = 0;
+    let mut e = from;
+    while e < to {
+        sum = sum + coefficients[e] * values[sources[e]];
+        e += 1;
+    }
+    floor_65536(sum)
+}
+
+// The rate of each integrator.
+pub fn rates<'a>(
+    n: usize,
+    ranges: &'a [usize; 33],
+    sources: &'a [usize; 256],
+    coefficients: &'a [i64; 256],
+    values: &'a [i64; 64],
+) -> [i64; 32]
+    requires { ⌜ (n ≤ 32) × AllRated n (now ranges) (now sources) (now coefficients) (now values) ⌝ }
+    ensures { λ r. ⌜ r ≡ row (pos 0) 32 n (λ i. rangeRate (now (sources .entry)) (now (coefficients .entry)) (now (values .entry))
+        (nat (now (ranges .entry)) i) (nat (now (ranges .entry)) (i + 1))) ⌝ }
+{
+    let mut slopes: [i64; 32] = [0; 32];
+    let mut i: usize = 0;
+    while i < n {
+        slopes[i] = rate(ranges[i], ranges[i + 1], sources, coefficients, values);
+        i += 1;
+    }
+    slopes
+}

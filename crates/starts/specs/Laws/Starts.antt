@@ -1,0 +1,104 @@
+-- What the parts of a start ask and come to, for a plan that keeps its rules. Assumes nothing.
+use mathlib.Core.Path.{_≡_, refl, sym, _∙_}
+use mathlib.Core.Bool.{Bool, true, false, cond}
+use mathlib.Core.List.{List}
+use Prim.Native.Nat.{ℕ, _+_, _≤_, _<_}
+use lib.IntN.{ℤ, pos, _+ℤ_, _-ℤ_}
+use lib.Dec.{ltb}
+use lib.ListN.{replicate}
+use Rattle.integers.specs.Parts.{∣_∣}
+use Rattle.bitset.specs.Mask.{each}
+use Rattle.plan.specs.Format.{M}
+use Rattle.plan.specs.Lists.{nat, int, row}
+use Rattle.plan.specs.Rules.{PlanRules}
+use Rattle.plan.specs.Laws.Counts.{counts-of}
+use Rattle.plan.specs.Laws.Means.{within-size}
+use Rattle.plan.specs.Laws.Rows.{table-ext, row-at, row-ext, row-none}
+use Rattle.plan.specs.declared.Plan.{Plan}
+use Rattle.machine.specs.Due.{dueTick}
+use Rattle.machine.specs.Next.{nextCommand}
+use Rattle.machine.specs.Start.{startSlope, startDue, startOf}
+use Rattle.machine.specs.declared.Running.{Running}
+use Rattle.values.specs.Sources.{valuesOf, firstValues, nodeStep, NodesReady}
+use Rattle.values.specs.Laws.SourceValues.{nodes-ready, first-sized, values-at, values-sized, all-nodes}
+use Rattle.rates.specs.Links.{firstLink, rangesOf, rangeRate, AllRated}
+use Rattle.rates.specs.Laws.OwnRange.{own-rated, own-rates}
+use Rattle.dynamics.specs.Laws.Dues.{due-ready-start, due-is-start}
+use Rattle.starts.specs.Starting.{StartsReady}
+
+-- an array of zeros, however many entries are used
+zeros : (w k : ℕ) → replicate {A = ℕ} w 0 ≡ row 0 w k (λ i. 0)
+unfolding row
+zeros w k = row-none 0 w (λ i. 0) ∙ table-ext w _ _ (λ i h. same (ltb i 0) ∙ sym (same (ltb i k)))
+  where
+    same : (b : Bool) → cond {A = ℕ} b 0 0 ≡ 0
+    same true = refl
+    same false = refl
+
+module _ (p : Plan) (rules : PlanRules p) where
+  outputs : (i : ℕ) → i < p .n → ∣ int (p .starts) i ∣ ≤ M
+  outputs i h = within-size M (int (p .starts) i) .0 (rules .integrators i h .start)
+
+  inputs : (j : ℕ) → j < p .m → ∣ int (p .firsts) j ∣ ≤ M
+  inputs j h = within-size M (int (p .firsts) j) .0 (rules .inputs j h)
+
+  -- ---- the values of sources
+  pub start-nodes-ready : NodesReady (p .lefts) (p .rights) (p .lows) (p .highs) (firstValues (p .n) (p .m) (p .starts) (p .firsts)) (p .n + p .m) (p .k)
+  start-nodes-ready = nodes-ready p rules _ (first-sized p (p .starts) (p .firsts) rules outputs inputs)
+
+  -- ---- the slopes
+  module _ {values : List ℤ} {ranges : List ℕ}
+      (worked : values ≡ each (nodeStep (p .kinds) (p .lefts) (p .rights) (p .lows) (p .highs) (p .n + p .m)) (λ _. true) (p .k)
+      (firstValues (p .n) (p .m) (p .starts) (p .firsts)))
+      (found : ranges ≡ row 0 33 (p .n + 1) (firstLink (p .targets) (p .links))) where
+    values-are : values ≡ valuesOf p (p .starts) (p .firsts)
+    values-are = worked ∙ all-nodes p (p .starts) (p .firsts) rules
+
+    ranges-are : ranges ≡ rangesOf p
+    unfolding rangesOf
+    ranges-are = found
+
+    pub start-rates-ready : AllRated (p .n) ranges (p .sources) (p .coefficients) values
+    start-rates-ready = rw (values-are, ranges-are) (own-rated p rules _ (values-sized p (p .starts) (p .firsts) rules outputs inputs))
+
+    pub start-slopes : {s : List ℤ}
+        → s ≡ row (pos 0) 32 (p .n) (λ i. rangeRate (p .sources) (p .coefficients) values (nat ranges i) (nat ranges (i + 1)))
+        → s ≡ row (pos 0) 32 (p .n) (startSlope p)
+    unfolding startSlope
+    start-slopes e = rw (values-are, ranges-are) at e ∙ own-rates p rules _ (p .starts) (p .firsts) (values-at p (p .starts) (p .firsts) rules)
+
+  -- ---- the due ticks
+  module _ {s : List ℤ} (slopes : s ≡ row (pos 0) 32 (p .n) (startSlope p)) where
+    slope-at : (i : ℕ) → i < p .n → int s i ≡ startSlope p i
+    slope-at i h = rw slopes (row-at (pos 0) 32 (p .n) (startSlope p) i (counts-of p (rules .counts) .n) h)
+
+    pub start-dues-ready : StartsReady (p .n) (p .starts) (p .quanta) s
+    start-dues-ready i h = rw (slope-at i h) (due-ready-start p i rules h)
+
+    pub start-dues : {d : List ℕ}
+        → d ≡ row 0 32 (p .n) (λ i. dueTick 0 (int (p .starts) i) (int (p .starts) i +ℤ int (p .quanta) i)
+        (int (p .starts) i -ℤ int (p .quanta) i) (int s i))
+        → d ≡ row 0 32 (p .n) (startDue p)
+    start-dues e = e ∙ row-ext 0 32 (p .n) _ _ (λ i h. rw (slope-at i h) (due-is-start p i))
+
+-- ---- the whole
+-- as it is made, with the slopes s and the due ticks d
+abbrev pub startWith : Plan → List ℤ → List ℕ → ℕ → Running
+startWith p s d next =
+    record {
+      x = p .starts;
+      q = p .starts;
+      s = s;
+      l = replicate 32 0;
+      d = d;
+      inputs = p .firsts;
+      clock = 0;
+      next = next;
+      instants = 0;
+      updates = 0;
+    }
+
+pub start-is : (p : Plan) {s : List ℤ} {d : List ℕ} {next : ℕ} → s ≡ row (pos 0) 32 (p .n) (startSlope p) → d ≡ row 0 32 (p .n) (startDue p)
+    → next ≡ nextCommand p 0 → startWith p s d next ≡ startOf p
+unfolding startOf
+start-is p e f g = rw (e, f, g, zeros 32 (p .n))

@@ -1,0 +1,76 @@
+// "Start: x = q = start, l = c = 0, slopes and dues by rule, counts 0." The parts come from `values`, `rates` and `dynamics`.
+ghost use mathlib.Core.Path.{_≡_};
+ghost use Prim.Native.Nat.{_≤_};
+ghost use lib.IntN.{_+ℤ_, _-ℤ_};
+ghost use Rattle.plan.specs.Rules.{PlanRules};
+ghost use Rattle.plan.specs.Lists.{int, row};
+ghost use Rattle.machine.specs.Due.{dueTick};
+ghost use Rattle.machine.specs.Start.{startOf};
+ghost use Rattle.starts.specs.Starting.{StartsReady};
+use dynamics::due_tick;
+use dynamics::next_command;
+use machine::Running;
+use plan::Plan;
+use rates::link_ranges;
+use rates::rates;
+use values::source_values;
+
+// The due tick of each integrator at its start.
+fn first_dues<'a>(
+    n: usize,
+    starts: &'a [i64; 32],
+    quanta: &'a [i64; 32],
+    slopes: &'a [i64; 32],
+) -> [u32; 32]
+    requires { ⌜ (n ≤ 32) × StartsReady n (now starts) (now quanta) (now slopes) ⌝ }
+    ensures { λ r. ⌜ r ≡ row 0 32 n (λ i. dueTick 0 (int (now (starts .entry)) i)
+        (int (now (starts .entry)) i +ℤ int (now (quanta .entry)) i) (int (now (starts .entry)) i -ℤ int (now (quanta .entry)) i)
+        (int (now (slopes .entry)) i)) ⌝ }
+{
+    let mut dues: [u32; 32] = [0; 32];
+    let mut i: usize = 0;
+    while i < n {
+        let start = starts[i];
+        dues[i] = due_tick(0, start, start, quanta[i], slopes[i]);
+        i += 1;
+    }
+    dues
+}
+
+// The running figures that a plan starts with.
+pub fn start(plan: Plan) -> Running
+    requires { ⌜ PlanRules plan ⌝ }
+    ensures { λ r. ⌜ r ≡ startOf plan ⌝ }
+{
+    let n = plan.n;
+    let values = source_values(
+        n,
+        plan.m,
+        plan.k,
+        &plan.starts,
+        &plan.firsts,
+        &plan.kinds,
+        &plan.lefts,
+        &plan.rights,
+        &plan.lows,
+        &plan.highs,
+    );
+    let ranges = link_ranges(n, plan.links, &plan.targets);
+    let s = rates(n, &ranges, &plan.sources, &plan.coefficients, &values);
+    let d = first_dues(n, &plan.starts, &plan.quanta, &s);
+    let next = next_command(plan.commands, &plan.ticks, 0);
+    let x = plan.starts;
+    let inputs = plan.firsts;
+    Running {
+        x,
+        q: x,
+        s,
+        l: [0; 32],
+        d,
+        inputs,
+        clock: 0,
+        next,
+        instants: 0,
+        updates: 0,
+    }
+}

@@ -1,0 +1,121 @@
+-- `values::work_node` meets its contract: the operands and limits are within ±M, so they fit and `node_value` may be called.
+-- Assumes nothing.
+use borrow.Author.Needs.{needs, sfits-of}
+use mathlib.Core.Path.{_≡_}
+use Prim.Native.Nat.{ℕ, _<_}
+use native.Mathlib.Omega.{arith}
+use mir.Facts.{toZ-ofZ}
+use Rattle.integers.specs.Signed64.{rd, fits-size}
+use Rattle.plan.specs.Format.{M}
+use Rattle.plan.specs.Lists.{nat, int}
+use Rattle.values.specs.Sources.{nodeFrom, nodeStep}
+use Rattle.values.proofs.work_node.Statement.{statement}
+use Rattle.values.proofs.work_node.Tie as tie
+
+module _ (s : tie.Start) where
+  abbrev j : ℕ
+  j = s .args .j
+
+  abbrev left : ℕ
+  left = nat (s .args .lefts .now) j
+
+  abbrev right : ℕ
+  right = nat (s .args .rights .now) j
+
+  operands : (left < 64) × (right < 64)
+  operands = (s .pre .1 .left j (s .pre .0), s .pre .1 .right j (s .pre .0))
+
+  -- what is read back from the bits
+  value : (i : ℕ) → rd (int (s .args .values .now) i) ≡ int (s .args .values .now) i
+  value i = toZ-ofZ (fits-size (int (s .args .values .now) i) M (s .pre .1 .sized i) tt)
+
+  low : rd (int (s .args .lows .now) j) ≡ int (s .args .lows .now) j
+  low = toZ-ofZ (fits-size (int (s .args .lows .now) j) M (s .pre .1 .low j (s .pre .0)) tt)
+
+  high : rd (int (s .args .highs .now) j) ≡ int (s .args .highs .now) j
+  high = toZ-ofZ (fits-size (int (s .args .highs .now) j) M (s .pre .1 .high j (s .pre .0)) tt)
+
+mul-a : tie.Need-mul-a
+mul-a c = search needs
+
+element-copy-out-a : tie.Need-element-copy-out-a
+element-copy-out-a c = search needs
+
+mul-a-2 : tie.Need-mul-a-2
+mul-a-2 c = omega (arith, operands (c .before))
+
+element-copy-out-a-2 : tie.Need-element-copy-out-a-2
+element-copy-out-a-2 c = omega (arith, operands (c .before))
+
+mul-b : tie.Need-mul-b
+mul-b c = search needs
+
+element-copy-out-b : tie.Need-element-copy-out-b
+element-copy-out-b c = search needs
+
+mul-b-2 : tie.Need-mul-b-2
+mul-b-2 c = omega (arith, operands (c .before .before .before))
+
+element-copy-out-b-2 : tie.Need-element-copy-out-b-2
+element-copy-out-b-2 c = omega (arith, operands (c .before .before .before))
+
+mul-node-value : tie.Need-mul-node-value
+mul-node-value c = search needs
+
+element-copy-out-node-value : tie.Need-element-copy-out-node-value
+element-copy-out-node-value c = search needs
+
+mul-node-value-2 : tie.Need-mul-node-value-2
+mul-node-value-2 c = search needs
+
+element-copy-out-node-value-2 : tie.Need-element-copy-out-node-value-2
+element-copy-out-node-value-2 c = search needs
+
+mul-node-value-3 : tie.Need-mul-node-value-3
+mul-node-value-3 c = search needs
+
+element-copy-out-node-value-3 : tie.Need-element-copy-out-node-value-3
+element-copy-out-node-value-3 c = search needs
+
+node-value-requires : tie.Need-node-value-requires
+node-value-requires c κs =
+    let s = c .before .before .before .before .before .before .before in simp (value s) (s .pre .1 .sized _, s .pre .1 .sized _)
+
+add-value : tie.Need-add-value
+add-value c = search needs
+
+mul-value : tie.Need-mul-value
+mul-value c = search needs
+
+element-set-from-value : tie.Need-element-set-from-value
+element-set-from-value c = search needs
+
+returns : tie.Need-returns
+unfolding nodeStep nodeFrom
+returns c =
+    let s = c .before .before .before .before .before .before .before .before in
+    rw (toZ-ofZ (sfits-of (c .node-value .ok)), c .node-value .ensures) (simp (value s, low s, high s))
+
+pub work-node-spec : {M : Type 1} → statement M
+work-node-spec =
+    tie.close
+    (tie.spec
+    mul-a
+    element-copy-out-a
+    mul-a-2
+    element-copy-out-a-2
+    mul-b
+    element-copy-out-b
+    mul-b-2
+    element-copy-out-b-2
+    mul-node-value
+    element-copy-out-node-value
+    mul-node-value-2
+    element-copy-out-node-value-2
+    mul-node-value-3
+    element-copy-out-node-value-3
+    node-value-requires
+    add-value
+    mul-value
+    element-set-from-value
+    returns)

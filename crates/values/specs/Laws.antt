@@ -1,0 +1,4 @@
+-- What is proved of these definitions.
+pub mod NodeSteps
+pub mod SourceValues
+pub mod Touched

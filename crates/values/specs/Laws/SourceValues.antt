@@ -1,0 +1,186 @@
+-- The array of the values of sources, for a plan that keeps its rules: working out the nodes in node order gives each source's value by
+-- document 01, nodes that have theirs already may be left out, and no value is beyond ±M. Assumes nothing.
+use mathlib.Core.Path.{_≡_, refl, sym, ap₂, _∙_}
+use mathlib.Core.Bool.{Bool, true, false, cond, true≢false}
+use mathlib.Core.Logic.{⊎-elim}
+use mathlib.Core.List.{List}
+use Prim.Native.Nat.{ℕ, zero, suc, _+_, _-_, _≤_, _<_}
+use native.Mathlib.Nat.{eq-or-lt-of-le}
+use native.Mathlib.Omega.{arith}
+use lib.Dec.{ltb, eqb}
+use lib.IntN.{ℤ, pos}
+use lib.ListN.{length}
+use lib.Seq.{ext-getD}
+use borrow.Author.Tests.{ltb-true, ltb-false, lt-ltb, eqb-true, eqb-false}
+use Rattle.integers.specs.Parts.{∣_∣}
+use Rattle.bitset.specs.Mask.{each}
+use Rattle.plan.specs.Format.{M}
+use Rattle.plan.specs.Lists.{nat, int, row}
+use Rattle.plan.specs.Rules.{NodeRule, PlanRules}
+use Rattle.plan.specs.Laws.Counts.{Counts, counts-of}
+use Rattle.plan.specs.Laws.Means.{within-size}
+use Rattle.plan.specs.Laws.Rows.{length-row, row-at, row-unused}
+use Rattle.plan.specs.Laws.Small.{node-limits}
+use Rattle.plan.specs.declared.Plan.{Plan}
+use Rattle.machine.specs.Values.{nodeOf, valueWith, valueOf}
+use Rattle.machine.specs.Laws.Sizes.{value-size}
+use Rattle.machine.specs.Laws.Values.{value-settled, worked-out}
+use Rattle.values.specs.Sources.{valuesOf, firstValues, nodeFrom, nodeStep, NodesReady}
+use Rattle.values.specs.Laws.NodeSteps.{step-length, step-own, step-other}
+
+-- all sources have room in the array
+room : (p : Plan) → PlanRules p → p .n + p .m + p .k ≤ 64
+room p rules = go (counts-of p (rules .counts))
+  where
+    go : Counts p → p .n + p .m + p .k ≤ 64
+    go c = omega arith
+
+-- both operands stand below their node, also the 0 that names nothing
+operands-below : (p : Plan) → PlanRules p → (j : ℕ) → j < p .k
+    → (nat (p .lefts) j < p .n + p .m + j) × (nat (p .rights) j < p .n + p .m + j)
+operands-below p rules j h = go (counts-of p (rules .counts)) (rules .nodes j h) (eqb (nat (p .kinds) j) 2) refl
+  where
+    go : Counts p → NodeRule p j → (b : Bool) → eqb (nat (p .kinds) j) 2 ≡ b
+        → (nat (p .lefts) j < p .n + p .m + j) × (nat (p .rights) j < p .n + p .m + j)
+    go c r true e = (r .left, omega (arith, r .unused (eqb-true (nat (p .kinds) j) 2 e)))
+    go c r false e = (r .left, r .right (eqb-false (nat (p .kinds) j) 2 e))
+
+-- ---- what the code asks
+pub nodes-ready : (p : Plan) → PlanRules p → (values : List ℤ) → ((i : ℕ) → ∣ int values i ∣ ≤ M)
+    → NodesReady (p .lefts) (p .rights) (p .lows) (p .highs) values (p .n + p .m) (p .k)
+nodes-ready p rules values sized =
+    record {
+      few = counts-of p (rules .counts) .k;
+      room = room p rules;
+      left = λ j h. omega (arith, operands-below p rules j h .0, room p rules);
+      right = λ j h. omega (arith, operands-below p rules j h .1, room p rules);
+      low = λ j h. within-size M (int (p .lows) j) .0 (node-limits p j (rules .nodes j h) .0);
+      high = λ j h. within-size M (int (p .highs) j) .0 (node-limits p j (rules .nodes j h) .1);
+      sized = sized;
+    }
+
+row-sized : (k : ℕ) (f : ℕ → ℤ) → k ≤ 64 → ((i : ℕ) → i < k → ∣ f i ∣ ≤ M) → (i : ℕ) → ∣ int (row (pos 0) 64 k f) i ∣ ≤ M
+row-sized k f h sized i = go (ltb i k) refl
+  where
+    go : (b : Bool) → ltb i k ≡ b → ∣ int (row (pos 0) 64 k f) i ∣ ≤ M
+    go true e = rw (row-at (pos 0) 64 k f i h (ltb-true i k e)) (sized i (ltb-true i k e))
+    go false e = rw (row-unused (pos 0) 64 k f i (ltb-false i k e)) (omega arith)
+
+pub values-length : (p : Plan) (q u : List ℤ) → length (valuesOf p q u) ≡ 64
+unfolding valuesOf
+values-length p q u = length-row (pos 0) 64 (p .n + p .m + p .k) (valueOf p q u)
+
+module _ (p : Plan) (q u : List ℤ) (rules : PlanRules p) where
+  pub values-at : (i : ℕ) → i < p .n + p .m + p .k → int (valuesOf p q u) i ≡ valueOf p q u i
+  unfolding valuesOf
+  values-at i h = row-at (pos 0) 64 (p .n + p .m + p .k) (valueOf p q u) i (room p rules) h
+
+  pub values-unused : (i : ℕ) → p .n + p .m + p .k ≤ i → int (valuesOf p q u) i ≡ pos 0
+  unfolding valuesOf
+  values-unused i h = row-unused (pos 0) 64 (p .n + p .m + p .k) (valueOf p q u) i h
+
+  module _ (outputs : (i : ℕ) → i < p .n → ∣ int q i ∣ ≤ M) (inputs : (j : ℕ) → j < p .m → ∣ int u j ∣ ≤ M) where
+    pub first-sized : (i : ℕ) → ∣ int (firstValues (p .n) (p .m) q u) i ∣ ≤ M
+    unfolding firstValues
+    first-sized = row-sized (p .n + p .m) _ (omega (arith, room p rules)) (λ i h. go i h (ltb i (p .n)) refl)
+      where
+        go : (i : ℕ) → i < p .n + p .m → (b : Bool) → ltb i (p .n) ≡ b → ∣ cond b (int q i) (int u (i - p .n)) ∣ ≤ M
+        go i h true e = outputs i (ltb-true i (p .n) e)
+        go i h false e = inputs (i - p .n) (omega (arith, ltb-false i (p .n) e))
+
+    pub values-sized : (i : ℕ) → ∣ int (valuesOf p q u) i ∣ ≤ M
+    unfolding valuesOf
+    values-sized = row-sized (p .n + p .m + p .k) (valueOf p q u) (room p rules) (λ i h. value-size p q u rules outputs inputs i)
+
+  -- ---- the nodes worked out
+  abbrev base : ℕ
+  base = p .n + p .m
+
+  abbrev step : ℕ → List ℤ → List ℤ
+  step = nodeStep (p .kinds) (p .lefts) (p .rights) (p .lows) (p .highs) base
+
+  -- a node's value by those of its operands
+  node-by-operands : (j : ℕ) → j < p .k
+      → nodeOf (nat (p .kinds) j) (int (p .lows) j) (int (p .highs) j) (valueOf p q u (nat (p .lefts) j)) (valueOf p q u (nat (p .rights) j))
+      ≡ valueOf p q u (base + j)
+  node-by-operands j h =
+      let below = operands-below p rules j h in
+      ap₂ (nodeOf (nat (p .kinds) j) (int (p .lows) j) (int (p .highs) j)) (value-settled p q u j (nat (p .lefts) j) (omega arith) (below .0))
+      (value-settled p q u j (nat (p .rights) j) (omega arith) (below .1))
+      ∙ sym (worked-out p q u rules j h)
+
+  -- from an array that holds the values of integrators and inputs, and of the nodes that are not touched
+  module _ (touched : ℕ → Bool) (values : List ℤ) (full : length values ≡ 64)
+      (sources : (i : ℕ) → i < base → int values i ≡ valueWith p q u zero i)
+      (kept : (j : ℕ) → j < p .k → touched j ≡ false → int values (base + j) ≡ valueOf p q u (base + j))
+      (unused : (i : ℕ) → base + p .k ≤ i → int values i ≡ pos 0) where
+    -- once the first j nodes are visited
+    record Visited (j : ℕ) (now : List ℤ) : Type 0 where
+      entries : length now ≡ 64
+      below : (i : ℕ) → i < base + j → int now i ≡ valueOf p q u i
+      above : (i : ℕ) → base + j ≤ i → int now i ≡ int values i
+
+    none : Visited zero values
+    none =
+        record {
+          entries = full;
+          below = λ i h. sources i (omega arith) ∙ sym (value-settled p q u zero i (omega arith) h);
+          above = λ i h. refl;
+        }
+
+    worked : (j : ℕ) (now : List ℤ) → j < p .k → Visited j now → Visited (suc j) (step j now)
+    unfolding nodeFrom
+    worked j now h v =
+        record {
+          entries = step-length _ _ _ _ _ base j now ∙ v .entries;
+          below = λ i l. ⊎-elim
+              (λ (e : i ≡ base + j). rw e (step-own _ _ _ _ _ base j now (omega (arith, v .entries, room p rules)) ∙ own))
+              (λ (b : i < base + j). step-other _ _ _ _ _ base j now i (λ e. omega arith) ∙ v .below i b) (eq-or-lt-of-le (omega arith));
+          above = λ i l. step-other _ _ _ _ _ base j now i (λ e. omega arith) ∙ v .above i (omega arith);
+        }
+      where
+        own : nodeFrom (p .kinds) (p .lefts) (p .rights) (p .lows) (p .highs) base j now ≡ valueOf p q u (base + j)
+        own =
+            let b = operands-below p rules j h in
+            ap₂ (nodeOf (nat (p .kinds) j) (int (p .lows) j) (int (p .highs) j)) (v .below (nat (p .lefts) j) (b .0))
+            (v .below (nat (p .rights) j) (b .1))
+            ∙ node-by-operands j h
+
+    passed : (j : ℕ) (now : List ℤ) → j < p .k → touched j ≡ false → Visited j now → Visited (suc j) now
+    passed j now h e v =
+        record {
+          entries = v .entries;
+          below = λ i l. ⊎-elim (λ (same : i ≡ base + j). rw same (v .above (base + j) (omega arith) ∙ kept j h e))
+              (λ (b : i < base + j). v .below i b) (eq-or-lt-of-le (omega arith));
+          above = λ i l. v .above i (omega arith);
+        }
+
+    visited : (j : ℕ) → j ≤ p .k → Visited j (each step touched j values)
+    unfolding each
+    visited zero h = none
+    visited (suc j) h = go (touched j) refl (visited j (omega arith))
+      where
+        go : (b : Bool) → touched j ≡ b → Visited j (each step touched j values)
+            → Visited (suc j) (cond b (step j (each step touched j values)) (each step touched j values))
+        go true e v = worked j (each step touched j values) h v
+        go false e v = passed j (each step touched j values) h e v
+
+    -- every source has its value
+    pub touched-worked : each step touched (p .k) values ≡ valuesOf p q u
+    touched-worked =
+        let v = visited (p .k) (omega arith) in
+        ext-getD (pos 0) _ (valuesOf p q u) (v .entries ∙ sym (values-length p q u)) (λ i h. go i (ltb i (base + p .k)) refl)
+      where
+        go : (i : ℕ) (b : Bool) → ltb i (base + p .k) ≡ b → int (each step touched (p .k) values) i ≡ int (valuesOf p q u) i
+        go i true e = let h = ltb-true i (base + p .k) e in visited (p .k) (omega arith) .below i h ∙ sym (values-at i h)
+        go i false e =
+            let h = ltb-false i (base + p .k) e in visited (p .k) (omega arith) .above i h ∙ unused i h ∙ sym (values-unused i h)
+
+  pub all-nodes : each step (λ _. true) (p .k) (firstValues (p .n) (p .m) q u) ≡ valuesOf p q u
+  unfolding firstValues valueWith
+  all-nodes =
+      touched-worked (λ _. true) (firstValues (p .n) (p .m) q u) (length-row (pos 0) 64 base _) first (λ j h e. absurd (true≢false e))
+      (λ i h. row-unused (pos 0) 64 base _ i (omega arith))
+    where
+      first : (i : ℕ) → i < base → int (firstValues (p .n) (p .m) q u) i ≡ valueWith p q u zero i
+      first i h = row-at (pos 0) 64 base _ i (omega (arith, room p rules)) h ∙ rw (lt-ltb i base h)

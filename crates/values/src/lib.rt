@@ -1,0 +1,138 @@
+// The values of sources: outputs, inputs, and nodes in node order. `values` holds the value of each source at its source number. Arrays are lent,
+// not copied.
+ghost use mathlib.Core.Path.{_≡_};
+ghost use mathlib.Core.Bool.{true};
+ghost use Prim.Native.Nat.{_+_, _^_, _≤_, _<_};
+ghost use Rattle.integers.specs.Parts.{∣_∣};
+ghost use Rattle.bitset.specs.Mask.{has, each};
+ghost use Rattle.plan.specs.Format.{M};
+ghost use Rattle.machine.specs.Values.{clipped, nodeOf};
+ghost use Rattle.values.specs.Sources.{firstValues, nodeStep, NodesReady};
+use bitset::all;
+use bitset::lowest;
+use bitset::rest;
+use integers::floor_65536;
+use integers::limit;
+use machine::State;
+
+// "clipped to ±M"
+fn clip(v: i64) -> i64
+    ensures { λ r. ⌜ r ≡ clipped v ⌝ }
+{
+    limit(v, -State::M, State::M)
+}
+
+// "0 is a−b; 1 is floor(a×b / 65,536); both then clipped to ±M .. 2 is a limited to lo..hi .. 3 is hi if a ≥ b, else lo."
+pub fn node_value(kind: usize, a: i64, b: i64, lo: i64, hi: i64) -> i64
+    requires { ⌜ (∣ a ∣ ≤ M) × (∣ b ∣ ≤ M) ⌝ }
+    ensures { λ r. ⌜ r ≡ nodeOf kind lo hi a b ⌝ }
+{
+    if kind == 0 {
+        return clip(a - b);
+    }
+    if kind == 1 {
+        return clip(floor_65536(a * b));
+    }
+    if kind == 2 {
+        return limit(a, lo, hi);
+    }
+    if a >= b { hi } else { lo }
+}
+
+// Node j, whose source number is base + j, from the values of its operands.
+fn work_node<'a>(
+    j: usize,
+    k: usize,
+    base: usize,
+    kinds: &'a [usize; 16],
+    lefts: &'a [usize; 16],
+    rights: &'a [usize; 16],
+    lows: &'a [i64; 16],
+    highs: &'a [i64; 16],
+    values: &mut [i64; 64],
+)
+    requires { ⌜ (j < k) × NodesReady (now lefts) (now rights) (now lows) (now highs) (now values) base k ⌝ }
+    ensures { λ _. ⌜ now (values .exit) ≡ nodeStep (now (kinds .entry)) (now (lefts .entry)) (now (rights .entry)) (now (lows .entry))
+        (now (highs .entry)) base j (now (values .entry)) ⌝ }
+{
+    let a = values[lefts[j]];
+    let b = values[rights[j]];
+    let value = node_value(kinds[j], a, b, lows[j], highs[j]);
+    values[base + j] = value;
+}
+
+// "Node values are worked out in node order": those of the mask, lowest first.
+pub fn work_nodes<'a>(
+    nodes: u32,
+    k: usize,
+    base: usize,
+    kinds: &'a [usize; 16],
+    lefts: &'a [usize; 16],
+    rights: &'a [usize; 16],
+    lows: &'a [i64; 16],
+    highs: &'a [i64; 16],
+    values: &mut [i64; 64],
+)
+    requires { ⌜ (nodes < 2 ^ k) × NodesReady (now lefts) (now rights) (now lows) (now highs) (now values) base k ⌝ }
+    ensures { λ _. ⌜ now (values .exit) ≡ each (nodeStep (now (kinds .entry)) (now (lefts .entry)) (now (rights .entry)) (now (lows .entry))
+        (now (highs .entry)) base) (has nodes) 32 (now (values .entry)) ⌝ }
+{
+    let mut left = nodes;
+    while left != 0 {
+        let j = lowest(left);
+        work_node(j, k, base, kinds, lefts, rights, lows, highs, values);
+        left = rest(left);
+    }
+}
+
+// The outputs at 0 to n−1 and the input values at n to n+m−1, and 0 from there on.
+fn first_values<'a>(n: usize, m: usize, q: &'a [i64; 32], inputs: &'a [i64; 8]) -> [i64; 64]
+    requires { ⌜ (n ≤ 32) × (m ≤ 8) ⌝ }
+    ensures { λ r. ⌜ r ≡ firstValues n m (now (q .entry)) (now (inputs .entry)) ⌝ }
+{
+    let mut values: [i64; 64] = [0; 64];
+    let mut i: usize = 0;
+    while i < n {
+        values[i] = q[i];
+        i += 1;
+    }
+    let mut j: usize = 0;
+    while j < m {
+        values[n + j] = inputs[j];
+        j += 1;
+    }
+    values
+}
+
+// The value of every source.
+pub fn source_values<'a>(
+    n: usize,
+    m: usize,
+    k: usize,
+    q: &'a [i64; 32],
+    inputs: &'a [i64; 8],
+    kinds: &'a [usize; 16],
+    lefts: &'a [usize; 16],
+    rights: &'a [usize; 16],
+    lows: &'a [i64; 16],
+    highs: &'a [i64; 16],
+) -> [i64; 64]
+    requires { ⌜ (n ≤ 32) × (m ≤ 8)
+        × NodesReady (now lefts) (now rights) (now lows) (now highs) (firstValues n m (now q) (now inputs)) (n + m) k ⌝ }
+    ensures { λ r. ⌜ r ≡ each (nodeStep (now (kinds .entry)) (now (lefts .entry)) (now (rights .entry)) (now (lows .entry))
+        (now (highs .entry)) (n + m)) (λ _. true) k (firstValues n m (now (q .entry)) (now (inputs .entry))) ⌝ }
+{
+    let mut values = first_values(n, m, q, inputs);
+    work_nodes(
+        all(k),
+        k,
+        n + m,
+        kinds,
+        lefts,
+        rights,
+        lows,
+        highs,
+        &mut values,
+    );
+    values
+}
