@@ -32,13 +32,13 @@ module _ (kinds lefts rights : List ℕ) (base : ℕ) where
       let entry = nat table (base + j) in let left = added table (nat lefts j) entry in
       cond (eqb (nat kinds j) 2) left (added left (nat rights j) entry)
 
-  -- from node j - 1 down to node 0
-  unfoldable pub spreadFrom : ℕ → List ℕ → List ℕ
-  spreadFrom zero table = table
-  spreadFrom (suc j) table = spreadFrom j (handedDown j table)
+  -- "dependence is followed down through lower-numbered nodes": from node j - 1 down to node 0
+  unfoldable pub followedDown : ℕ → List ℕ → List ℕ
+  followedDown zero table = table
+  followedDown (suc j) table = followedDown j (handedDown j table)
 
 unfoldable pub tableFrom : ℕ → ℕ → ℕ → List ℕ → List ℕ → List ℕ → List ℕ → List ℕ → List ℕ
-tableFrom base k links kinds lefts rights targets sources = spreadFrom kinds lefts rights base k (ownNodes base (linked targets sources links) k)
+tableFrom base k links kinds lefts rights targets sources = followedDown kinds lefts rights base k (ownNodes base (linked targets sources links) k)
 
 -- the table of a plan
 unfoldable pub reachTable : Plan → List ℕ

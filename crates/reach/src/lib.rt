@@ -2,7 +2,7 @@
 // for a run, has an entry of 64 bits for each source: bit i is set where a change of the source reaches integrator i, bit 32 + j where it touches node j.
 ghost use mathlib.Core.Path.{_≡_};
 ghost use Prim.Native.Nat.{_+_, _/_, _%_, _^_, _≤_, _<_};
-ghost use Rattle.reach.specs.Table.{linked, ownNodes, added, handedDown, spreadFrom, tableFrom, entriesOf, Linked, Wired};
+ghost use Rattle.reach.specs.Table.{linked, ownNodes, added, handedDown, followedDown, tableFrom, entriesOf, Linked, Wired};
 use bitset::lowest64;
 use bitset::rest64;
 use bitset::union64;
@@ -63,8 +63,9 @@ fn hand_down<'a>(
     }
 }
 
-// From node j − 1 down to node 0. When a node's turn comes, all nodes that use it have had theirs, since an operand has a lower number.
-fn spread<'a>(
+// "dependence is followed down through lower-numbered nodes": node j − 1 first, then the nodes below it, so the node number falls to 0. An operand has a
+// lower number than its node; when a node's turn comes, every node that uses it has had its turn and the entry is whole. So each node is visited once.
+fn follow_down<'a>(
     j: usize,
     base: usize,
     kinds: &'a [usize; 16],
@@ -73,11 +74,11 @@ fn spread<'a>(
     table: &mut [u64; 64],
 )
     requires { ⌜ (j ≤ 16) × Wired (now lefts) (now rights) base j ⌝ }
-    ensures { λ _. ⌜ now (table .exit) ≡ spreadFrom (now (kinds .entry)) (now (lefts .entry)) (now (rights .entry)) base j (now (table .entry)) ⌝ }
+    ensures { λ _. ⌜ now (table .exit) ≡ followedDown (now (kinds .entry)) (now (lefts .entry)) (now (rights .entry)) base j (now (table .entry)) ⌝ }
 {
     if j > 0 {
         hand_down(j - 1, base, kinds, lefts, rights, table);
-        spread(j - 1, base, kinds, lefts, rights, table);
+        follow_down(j - 1, base, kinds, lefts, rights, table);
     }
 }
 
@@ -98,7 +99,7 @@ pub fn reach_table<'a>(
 {
     let mut table = link_entries(links, targets, sources);
     own_entries(base, k, &mut table);
-    spread(k, base, kinds, lefts, rights, &mut table);
+    follow_down(k, base, kinds, lefts, rights, &mut table);
     table
 }
 

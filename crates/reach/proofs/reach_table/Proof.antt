@@ -10,12 +10,12 @@ link-entries-requires c κs = search needs
 own-entries-requires : tie.Need-own-entries-requires
 own-entries-requires c κs = search needs
 
-spread-requires : tie.Need-spread-requires
-spread-requires c κs = search needs
+follow-down-requires : tie.Need-follow-down-requires
+follow-down-requires c κs = search needs
 
 returns : tie.Need-returns
 unfolding tableFrom
-returns c = rw (c .spread .ensures, c .before .before .own-entries .ensures, c .before .before .before .before .link-entries .ensures)
+returns c = rw (c .follow-down .ensures, c .before .before .own-entries .ensures, c .before .before .before .before .link-entries .ensures)
 
 pub reach-table-spec : {M : Type 1} → statement M
-reach-table-spec = tie.close (tie.spec link-entries-requires own-entries-requires spread-requires returns)
+reach-table-spec = tie.close (tie.spec link-entries-requires own-entries-requires follow-down-requires returns)

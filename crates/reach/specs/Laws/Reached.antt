@@ -17,7 +17,7 @@ use Rattle.plan.specs.Rules.{PlanRules}
 use Rattle.plan.specs.Laws.Counts.{counts-of}
 use Rattle.plan.specs.declared.Plan.{Plan}
 use Rattle.machine.specs.Reach.{isDue, isCommanded, changes, dependsWith, linkReaches, reached}
-use Rattle.reach.specs.Table.{linked, ownNodes, spreadFrom, tableFrom, reachTable, entriesOf, Linked, Wired}
+use Rattle.reach.specs.Table.{linked, ownNodes, followedDown, tableFrom, reachTable, entriesOf, Linked, Wired}
 use Rattle.reach.specs.Laws.Some.{some-ext, some-none, some-only}
 use Rattle.reach.specs.Laws.Masks.{mask-is, has-low, joined-is}
 use Rattle.reach.specs.Laws.Entries.{inEntries, entries-of-has, entries-ext, entries-none, marked-length, marked-entries}
@@ -118,13 +118,13 @@ module _ (p : Plan) (rules : PlanRules p) where
     not-yet (suc j) i h = rw (ne-eqb i (p .n + p .m + j) (λ e. omega arith)) (not-yet j i (omega arith))
 
     -- with j nodes' entries handed down, the sources that change have what all that depend on them have without
-    spread-has : (j b : ℕ) (table : List ℕ) → j ≤ p .k → length table ≡ 64
-        → inEntries (spreadFrom (p .kinds) (p .lefts) (p .rights) (p .n + p .m) j table) (changes p d t) b
+    followed-has : (j b : ℕ) (table : List ℕ) → j ≤ p .k → length table ≡ 64
+        → inEntries (followedDown (p .kinds) (p .lefts) (p .rights) (p .n + p .m) j table) (changes p d t) b
         ≡ inEntries table (dependsWith p d t j) b
-    unfolding spreadFrom dependsWith
-    spread-has zero b table h len = refl
-    spread-has (suc j) b table h len =
-        spread-has j b _ (omega arith) (handed-length (p .kinds) (p .lefts) (p .rights) (p .n + p .m) j table ∙ len)
+    unfolding followedDown dependsWith
+    followed-has zero b table h len = refl
+    followed-has (suc j) b table h len =
+        followed-has j b _ (omega arith) (handed-length (p .kinds) (p .lefts) (p .rights) (p .n + p .m) j table ∙ len)
         ∙ handed-entries (p .kinds) (p .lefts) (p .rights) (p .n + p .m) (p .k) table-wired table (dependsWith p d t j) b j len h
         (not-yet j (p .n + p .m + j) (omega arith))
 
@@ -151,7 +151,7 @@ module _ (p : Plan) (rules : PlanRules p) where
       unfolding reachTable tableFrom
       entries-has b =
           entries-of-has (reachTable p) changed b ∙ entries-ext (reachTable p) (has changed) (changes p d t) b changed-has
-          ∙ spread-has (p .k) b own (omega arith) own-length
+          ∙ followed-has (p .k) b own (omega arith) own-length
 
       low-has : (i : ℕ) → i < 32 → has (entries % 2 ^ 32) i ≡ reached p d t i
       unfolding reached linkReaches

@@ -8,7 +8,7 @@ use lib.ListN.{set}
 use borrow.Author.Tests.{eq-eqb, ne-eqb}
 use Rattle.bitset.specs.Mask.{withBit}
 use Rattle.plan.specs.Lists.{nat}
-use Rattle.reach.specs.Table.{marked, added, handedDown, spreadFrom, Linked, Wired}
+use Rattle.reach.specs.Table.{marked, added, handedDown, followedDown, Linked, Wired}
 
 -- ---- the numbers that a link and a node name are places of the table
 pub link-inside : {targets sources : List ℕ} {links : ℕ} → Linked targets sources links → (e : ℕ) → e < links
@@ -37,8 +37,8 @@ module _ (kinds lefts rights : List ℕ) (base : ℕ) (table : List ℕ) (j : �
   handed-both e = rw (ne-eqb (nat kinds j) 2 e)
 
 -- the highest node first, then those below it
-pub spread-more : (kinds lefts rights : List ℕ) (base : ℕ) (table : List ℕ) (j : ℕ) → 0 < j
-    → spreadFrom kinds lefts rights base (j - 1) (handedDown kinds lefts rights base (j - 1) table) ≡ spreadFrom kinds lefts rights base j table
-unfolding spreadFrom
-spread-more kinds lefts rights base table zero h = absurd (omega arith)
-spread-more kinds lefts rights base table (suc j) h = let d : suc j - 1 ≡ j = omega arith in rw d
+pub followed-more : (kinds lefts rights : List ℕ) (base : ℕ) (table : List ℕ) (j : ℕ) → 0 < j
+    → followedDown kinds lefts rights base (j - 1) (handedDown kinds lefts rights base (j - 1) table) ≡ followedDown kinds lefts rights base j table
+unfolding followedDown
+followed-more kinds lefts rights base table zero h = absurd (omega arith)
+followed-more kinds lefts rights base table (suc j) h = let d : suc j - 1 ≡ j = omega arith in rw d

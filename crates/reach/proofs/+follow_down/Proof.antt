@@ -1,0 +1,64 @@
+-- `reach::follow_down` meets its contract: node j - 1 is handed down, then the nodes below it. The measure is j. Assumes nothing.
+use mathlib.Core.Path.{_≡_}
+use Prim.Native.Nat.{ℕ, _+_, _-_, _<_}
+use native.Mathlib.Omega.{arith}
+use borrow.Fn.Kinds.{In}
+use borrow.Fn.PlainCycle.{Measures, is, falls, and}
+use Rattle.reach.specs.Table.{followedDown}
+use Rattle.reach.specs.Laws.Turns.{followed-more}
+use Rattle.reach.proofs.follow_down.Reads as follow-down
+use Rattle.reach.proofs.follow_down.Kinds as follow-down-kinds
+use Rattle.reach.proofs.+follow_down.Lts-follow_down as lts
+use Rattle.reach.proofs.hand_down.Reads as hand-down-reads
+use Rattle.reach.proofs.+follow_down.{statement}
+use Rattle.reach.proofs.+follow_down.Tie.{close}
+
+abbrev μ-follow-down : Measures 2 follow-down-kinds.ps ℕ
+μ-follow-down κs a = a .0
+
+abbrev follow-down-at : ℕ → In 2 follow-down-kinds.ps
+follow-down-at t = and 2 follow-down-kinds.ps (is 2 follow-down-kinds.ps μ-follow-down t) follow-down.Pre
+
+-- what the two calls ask and answer
+abbrev claims : ℕ → lts.Claims
+claims t =
+    (hand-down-reads.Asked, hand-down-reads.Learnt, and 2 follow-down-kinds.ps (falls 2 follow-down-kinds.ps _<_ μ-follow-down t) follow-down.Pre, follow-down.Post)
+
+module _ (t : ℕ) where
+  sub-hand-down : lts.Need-sub-hand-down (claims t) (follow-down-at t) follow-down.Post
+  sub-hand-down c = omega arith
+
+  hand-down-requires : lts.Need-hand-down-requires (claims t) (follow-down-at t) follow-down.Post
+  hand-down-requires c κs =
+      let s = c .before .before in let w = s .pre .1 .1 in let last : s .args .j - 1 + 1 ≡ s .args .j = omega arith in
+      (omega arith, rw last w)
+
+  sub-follow-down : lts.Need-sub-follow-down (claims t) (follow-down-at t) follow-down.Post
+  sub-follow-down c = omega arith
+
+  follow-down-requires : lts.Need-follow-down-requires (claims t) (follow-down-at t) follow-down.Post
+  follow-down-requires c κs =
+      let w = c .before .before .before .before .pre .1 .1 in (
+        omega arith,
+        (omega arith, record { room = omega (arith, w .room); left = λ j l. w .left j (omega arith); right = λ j l. w .right j (omega arith) }),
+      )
+
+  returns : lts.Need-returns (claims t) (follow-down-at t) follow-down.Post
+  returns c =
+      let a = c .before .before .before .before .before .args in
+      rw (c .follow-down .ensures, c .before .before .hand-down .ensures)
+      (followed-more (a .kinds .now) (a .lefts .now) (a .rights .now) (a .base) (a .table .now) (a .j) (omega arith))
+
+  returns-2 : lts.Need-returns-2 (claims t) (follow-down-at t) follow-down.Post
+  unfolding followedDown
+  returns-2 c = let none : c .before .args .j ≡ 0 = omega arith in rw none
+
+pub +follow-down-spec : {M : Type 1} → statement M
++follow-down-spec =
+    close μ-follow-down λ t. lts.spec (claims t) (follow-down-at t) follow-down.Post
+    (sub-hand-down t)
+    (hand-down-requires t)
+    (sub-follow-down t)
+    (follow-down-requires t)
+    (returns t)
+    (returns-2 t)
