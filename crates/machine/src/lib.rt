@@ -35,7 +35,7 @@ pub enum Engine {
 }
 
 impl State {
-    // the largest value, 2^30
+    // "Let M = 2^30 = 1,073,741,824."
     pub const M: i64 = 1073741824;
 
     // the due tick of an integrator that does not move: the largest u32, above every tick that can occur

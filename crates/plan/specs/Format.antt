@@ -47,9 +47,9 @@ startIn file (suc k) = offsetIn file k + lengthIn file k
 unfoldable pub countIn : List ℕ → ℕ → ℕ
 countIn file k = lengthIn file k / nat entrySizes k
 
--- `length` bytes of a file from `offset` on
+-- `size` bytes of a file from `offset` on
 unfoldable pub part : List ℕ → ℕ → ℕ → List ℕ
-part file offset length = take length (drop offset file)
+part file offset size = take size (drop offset file)
 
 unfoldable pub sectionIn : List ℕ → ℕ → List ℕ
 sectionIn file k = part file (offsetIn file k) (lengthIn file k)

@@ -14,7 +14,7 @@ use Rattle.plan.specs.Laws.Parts.{file-limits}
 use Rattle.plan.specs.Laws.KeptFile.{long-kept, offsets-kept, sizes-kept}
 use Rattle.plan.specs.declared.Finding.{Finding}
 use Rattle.plan.specs.declared.Finding.the-variants.{Clean, Short, Offsets, Sizes}
-use Rattle.planrules.specs.Findings.{orElse-join}
+use Rattle.entryrules.specs.Trying.{orElse-join}
 
 unfoldable pub directoryFinding : List ℕ → Finding
 directoryFinding file =

@@ -10,10 +10,10 @@ ghost use Rattle.plan.specs.Tests.{countKept, offsetsKept, sizesKept};
 ghost use Rattle.planfile.specs.Directory.{directoryFinding, Directory};
 ghost use Rattle.planfile.specs.Pointers.{further};
 use plan::Finding;
-use planrules::HEADER_LENGTH;
-use planrules::SECTIONS;
-use planrules::count_kept;
-use planrules::entry_size;
+use entryrules::HEADER_LENGTH;
+use entryrules::SECTIONS;
+use entryrules::count_kept;
+use entryrules::entry_size;
 use words::read_u32;
 
 // Where section k starts, and how long it is, by the header.

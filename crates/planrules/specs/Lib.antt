@@ -1,5 +1,2 @@
 pub mod Checks
-pub mod Comparing
 pub mod Findings
-pub mod Layout
-pub mod Testing

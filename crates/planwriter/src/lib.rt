@@ -12,9 +12,9 @@ ghost use Rattle.plan.specs.Encoding.{lengthFrom, offsetFrom, pairEntry, integr
 ghost use Rattle.planwriter.specs.Entries.{Unsigned32, Signed32, Limited};
 ghost use Rattle.planwriter.specs.Plans.{writtenLength, writtenBuffer};
 use plan::Plan;
-use planrules::HEADER_LENGTH;
-use planrules::SECTIONS;
-use planrules::entry_size;
+use entryrules::HEADER_LENGTH;
+use entryrules::SECTIONS;
+use entryrules::entry_size;
 use words::write_i32;
 use words::write_triple;
 use words::write_u32;

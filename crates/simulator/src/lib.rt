@@ -17,7 +17,7 @@ use machine::State;
 use plan::Finding;
 use planfile::read_plan;
 use planfile::section_in;
-use planrules::SECTIONS;
+use entryrules::SECTIONS;
 use planrules::entry_of;
 use planrules::number_of;
 use planwriter::write_plan;

@@ -11,7 +11,7 @@ use dynamics::next_command;
 use integratortest::integrators_sound;
 use machine::Running;
 use plan::Plan;
-use planrules::value_kept;
+use entryrules::value_kept;
 use rates::link_ranges;
 use rates::rates;
 use unused::figures_unused;

@@ -5,7 +5,7 @@ use denote.Ref.{now}
 use Rattle.plan.specs.Refusals.{numberOf, accepted}
 use Rattle.plan.specs.Format.{planIn}
 use Rattle.plan.specs.Laws.Answers.{accepted-rules}
-use Rattle.planrules.specs.Findings.{not-clean}
+use Rattle.entryrules.specs.Trying.{not-clean}
 use Rattle.planfile.specs.Reading.{reading-finding, reading-plan, reading-accepts, reading-refuses}
 use Rattle.exports.specs.Rewriting.{rewrite-refused, rewrite-short, rewrite-done}
 use borrow.Author.Needs.{needs}

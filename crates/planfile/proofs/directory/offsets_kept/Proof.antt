@@ -11,7 +11,7 @@ use denote.Ref.{now}
 use Rattle.plan.specs.Lists.{every}
 use Rattle.plan.specs.Format.{sections, offsetIn, startIn}
 use Rattle.plan.specs.Tests.{offsetsKept}
-use Rattle.planrules.specs.Testing.{every-none, every-more, every-fails}
+use Rattle.entryrules.specs.Testing.{every-none, every-more, every-fails}
 use Rattle.planfile.proofs.directory.offsets_kept.Statement.{statement}
 use Rattle.planfile.proofs.directory.offsets_kept.Tie as tie
 

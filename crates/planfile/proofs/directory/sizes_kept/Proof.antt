@@ -9,7 +9,7 @@ use lib.Dec.{eqb}
 use Rattle.plan.specs.Lists.{nat, every}
 use Rattle.plan.specs.Format.{sections, entrySizes, lengthIn, countIn}
 use Rattle.plan.specs.Tests.{countKept, sizesKept}
-use Rattle.planrules.specs.Testing.{every-none, every-more, every-fails}
+use Rattle.entryrules.specs.Testing.{every-none, every-more, every-fails}
 use Rattle.planfile.proofs.directory.sizes_kept.Statement.{statement}
 use Rattle.planfile.proofs.directory.sizes_kept.Tie as tie
 

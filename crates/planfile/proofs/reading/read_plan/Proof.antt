@@ -5,7 +5,7 @@ use Rattle.plan.specs.Format.{planIn}
 use Rattle.plan.specs.Refusals.{planFinding, findingOf}
 use Rattle.plan.specs.Laws.Answers.{counts-in}
 use Rattle.planfile.specs.Directory.{Directory, directory-kept, finding-directory}
-use Rattle.planrules.specs.Findings.{tried, refused, not-clean}
+use Rattle.entryrules.specs.Trying.{tried, refused, not-clean}
 use Rattle.planfile.specs.Reading.{reading-refused, reading-accepted}
 use borrow.Author.Needs.{needs}
 use Rattle.planfile.proofs.reading.read_plan.Statement.{statement}

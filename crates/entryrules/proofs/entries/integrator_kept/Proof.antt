@@ -1,0 +1,24 @@
+-- The call and the comparisons are the tests of the definition, in their order.
+use borrow.Author.Needs.{needs}
+use Rattle.entryrules.specs.Comparing.{comparing, tested}
+use Rattle.entryrules.proofs.entries.integrator_kept.Statement.{statement}
+use Rattle.entryrules.proofs.entries.integrator_kept.Tie as tie
+
+value-kept-requires : tie.Need-value-kept-requires
+value-kept-requires c κs = search needs
+
+returns : tie.Need-returns
+returns c = search (needs, tested (c .before .before .fits .start) (c .before .value-kept .ensures) (c .if1 .taken))
+
+returns-2 : tie.Need-returns-2
+returns-2 c =
+    let start = c .before .before .before .fits .start in
+    search (needs, comparing, tested start (c .before .before .value-kept .ensures) (c .before .if1 .left))
+
+returns-3 : tie.Need-returns-3
+returns-3 c =
+    let start = c .before .before .before .fits .start in
+    search (needs, comparing, tested start (c .before .before .value-kept .ensures) (c .before .if1 .left))
+
+pub integrator-kept-spec : {M : Type 1} → statement M
+integrator-kept-spec = tie.close (tie.spec value-kept-requires returns returns-2 returns-3)

@@ -1,0 +1,71 @@
+-- Before the turn of section k every section below it has passed.
+use borrow.Author.Needs.{needs}
+use borrow.Author.Tests.{not-true, not-false}
+use native.Mathlib.Omega.{arith}
+use Prim.Native.Nat.{_-_, _≤_}
+use mathlib.Core.Path.{_≡_, sym, _∙_}
+use mathlib.Core.Bool.{true}
+use Rattle.plan.specs.Lists.{nat, every}
+use Rattle.plan.specs.Format.{sections}
+use Rattle.plan.specs.Tests.{countKept}
+use Rattle.entryrules.specs.Testing.{every-none, every-more, every-fails}
+use Rattle.entryrules.proofs.layout.counts_kept.Statement.{statement}
+use Rattle.entryrules.proofs.layout.counts_kept.Tie as tie
+
+abbrev Inv-loop : tie.InvT-loop
+Inv-loop counts k₀ k = (k ≤ sections) × (every (λ j. countKept j (nat counts j)) k ≡ true)
+
+abbrev μ-loop : tie.MeasureT-loop
+μ-loop counts k₀ k = sections - k
+
+loop-holds : tie.Need-loop-holds Inv-loop μ-loop
+loop-holds c = (search needs, every-none _)
+
+mul-count-kept : tie.Need-mul-count-kept Inv-loop μ-loop
+mul-count-kept c = search needs
+
+element-copy-out-count-kept : tie.Need-element-copy-out-count-kept Inv-loop μ-loop
+element-copy-out-count-kept c = search needs
+
+count-kept-requires : tie.Need-count-kept-requires Inv-loop μ-loop
+count-kept-requires c κs = search needs
+
+returns : tie.Need-returns Inv-loop μ-loop
+returns c =
+    let b = c .before .before .before .before .loop in
+    let fails = sym (c .before .count-kept .ensures) ∙ not-true _ (c .if1 .taken) in
+    sym (every-fails _ sections (b .k) (omega arith) fails)
+
+add-k : tie.Need-add-k Inv-loop μ-loop
+add-k c = search needs
+
+loop-less : tie.Need-loop-less Inv-loop μ-loop
+loop-less c = search needs
+
+loop-again : tie.Need-loop-again Inv-loop μ-loop
+loop-again c =
+    let b = c .before .before .before .before .loop in
+    let passes = sym (c .before .count-kept .ensures) ∙ not-false _ (c .if1 .left) in
+    (omega arith, every-more _ (b .inv .1) passes)
+
+returns-2 : tie.Need-returns-2 Inv-loop μ-loop
+returns-2 c =
+    let b = c .before .loop in
+    let is : b .k ≡ sections = omega arith in
+    sym (rw (← is) (b .inv .1))
+
+pub counts-kept-spec : {M : Type 1} → statement M
+counts-kept-spec =
+    tie.close
+    (tie.spec
+    Inv-loop
+    μ-loop
+    loop-holds
+    mul-count-kept
+    element-copy-out-count-kept
+    count-kept-requires
+    returns
+    add-k
+    loop-less
+    loop-again
+    returns-2)

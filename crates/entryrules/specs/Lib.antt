@@ -1,0 +1,4 @@
+pub mod Comparing
+pub mod Layout
+pub mod Testing
+pub mod Trying

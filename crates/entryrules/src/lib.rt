@@ -1,0 +1,18 @@
+// The rules of a plan's parts in code: the limits of the counts, and the rule of one entry of each section. The section checks and the reader of
+// a file's directory stand on them, and so does the test of a state that was filled by hand.
+mod entries;
+mod layout;
+
+pub use entries::command_limits;
+pub use entries::command_ordered;
+pub use entries::horizon_kept;
+pub use entries::integrator_kept;
+pub use entries::link_limits;
+pub use entries::link_ordered;
+pub use entries::node_kept;
+pub use entries::value_kept;
+pub use layout::HEADER_LENGTH;
+pub use layout::SECTIONS;
+pub use layout::count_kept;
+pub use layout::counts_kept;
+pub use layout::entry_size;
