@@ -11,7 +11,7 @@ use Rattle.plan.specs.Format.{sections, headerLength, offsetIn, part, sectionIn
 use Rattle.plan.specs.Refusals.{accepted, sectionOf}
 use Rattle.plan.specs.Laws.Answers.{accepted-offsets}
 use Rattle.plan.specs.Laws.Parts.{length-section-in}
-use Rattle.planfile.specs.Directory.{directory-accepted}
+use Rattle.directory.specs.Directory.{directory-accepted}
 use Rattle.plan.specs.Laws.View.{view-shown, view-refused, view-above}
 
 unfoldable pub viewLength : List ℕ → ℕ → ℕ

@@ -10,9 +10,9 @@ ghost use Rattle.calls.specs.Calls.{loadOf, writeOf, bufferOfWrite, runOf, buff
 ghost use Rattle.exports.specs.Tables.{tablesOf};
 ghost use Rattle.exports.specs.Viewing.{viewLength, viewOffset};
 ghost use Rattle.exports.specs.Rewriting.{rewriteNumber, rewriteLength, rewriteBuffer};
+use directory::offset_in;
 use machine::State;
 use plan::Finding;
-use planfile::offset_in;
 use planfile::read_plan;
 use planrules::entry_of;
 use planrules::number_of;

@@ -7,7 +7,7 @@ use lib.ListN.{length}
 use Rattle.plan.specs.Lists.{nat}
 use Rattle.plan.specs.Format.{sections, entrySizes, largestCounts, countIn, sectionIn, columnOf, columnIn}
 use Rattle.plan.specs.Laws.Parts.{length-section-in, length-entries}
-use Rattle.planfile.specs.Directory.{Directory}
+use Rattle.directory.specs.Directory.{Directory}
 
 module _ (file : List ℕ) (k : ℕ) {n : ℕ} {part : List ℕ} (e : n ≡ countIn file k) (p : part ≡ sectionIn file k) where
   -- the entries are no more than an array holds, and the part has them all

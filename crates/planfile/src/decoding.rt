@@ -1,14 +1,14 @@
 // The plan that a file holds, once its directory keeps its rules.
 ghost use mathlib.Core.Path.{_≡_};
 ghost use Rattle.plan.specs.Format.{planIn};
-ghost use Rattle.planfile.specs.Directory.{Directory};
-use crate::directory::count_in;
-use crate::directory::section_in;
+ghost use Rattle.directory.specs.Directory.{Directory};
 use crate::readers::read_commands;
 use crate::readers::read_inputs;
 use crate::readers::read_integrators;
 use crate::readers::read_links;
 use crate::readers::read_nodes;
+use directory::count_in;
+use directory::section_in;
 use plan::Plan;
 use words::read_u32;
 

@@ -2,7 +2,7 @@
 ghost use mathlib.Core.Path.{_≡_};
 ghost use Rattle.planfile.specs.Reading.{filePlanOf, refusedWith};
 use crate::decoding::decode;
-use crate::directory::check_directory;
+use directory::check_directory;
 use plan::Finding;
 use plan::Plan;
 use planrules::check_plan;

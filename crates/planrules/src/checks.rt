@@ -10,13 +10,13 @@ ghost use Rattle.plan.specs.declared.Finding.the-variants.{Horizon};
 ghost use Rattle.planrules.specs.Checks.{integratorsCheck, inputsCheck, nodesCheck, linksCheck, commandsCheck};
 use entryrules::command_limits;
 use entryrules::command_ordered;
+use entryrules::counts_kept;
 use entryrules::horizon_kept;
 use entryrules::integrator_kept;
 use entryrules::link_limits;
 use entryrules::link_ordered;
 use entryrules::node_kept;
 use entryrules::value_kept;
-use entryrules::counts_kept;
 use plan::Finding;
 use plan::Plan;
 

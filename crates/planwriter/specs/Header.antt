@@ -1,16 +1,20 @@
--- Laws of the header's numbers: how large they are where the counts are limited. Assumes nothing.
+-- What the writers of the header ask, that the counts are limited; and how large the header's numbers then are. Assumes nothing.
 use mathlib.Core.Path.{_≡_, refl}
 use mathlib.Core.List.{List}
 use Prim.Native.Nat.{ℕ, zero, suc, _+_, _*_, _≤_, _<_}
 use native.Mathlib.Numerals.{add-one}
 use native.Mathlib.Omega.{arith}
-use Rattle.plan.specs.Format.{sections, headerLength}
+use Rattle.plan.specs.Lists.{nat}
+use Rattle.plan.specs.Format.{sections, largestCounts, headerLength}
 use Rattle.plan.specs.Tests.{counts}
 use Rattle.plan.specs.Rules.{CountsRule}
 use Rattle.plan.specs.Laws.Layout.{each-section}
 use Rattle.plan.specs.declared.Plan.{Plan}
 use Rattle.plan.specs.Encoding.{lengthFrom, offsetFrom}
-use Rattle.planwriter.specs.Entries.{Limited}
+
+-- no count is above its section's limit
+abbrev pub Limited : List ℕ → Type 0
+Limited counts = (k : ℕ) → k < sections → nat counts k ≤ nat largestCounts k
 
 module _ (cs : List ℕ) where
   -- the first offset, and each next one in the code's form

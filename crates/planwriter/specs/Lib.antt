@@ -1,5 +1,3 @@
-pub mod Entries
 pub mod Header
 pub mod Plans
 pub mod Stages
-pub mod Writing

@@ -18,10 +18,10 @@ use Rattle.plan.specs.Encoding.{inputWords, nodeWords, linkWords, commandWords,
 use Rattle.plan.specs.Laws.Layout.{entryWords, sectionWords, wordsTo, words-to, length-to, length-section, offset-most}
 use Rattle.plan.specs.Laws.Small.{signed-size, coefficient-within, quantum-within, node-limits, small-at, entry-small}
 use Rattle.plan.specs.declared.Plan.{Plan}
-use Rattle.planwriter.specs.Entries.{Unsigned32, Signed32}
+use Rattle.sectionwriters.specs.Entries.{Unsigned32, Signed32}
 use Rattle.planwriter.specs.Plans.{writtenLength, writtenBuffer}
 use Rattle.words.specs.Putting.{behind, back, length-behind}
-use Rattle.planwriter.specs.Writing.{Begun, begun-of, turn}
+use Rattle.sectionwriters.specs.Writing.{Begun, begun-of, turn}
 
 -- ---- the numbers
 -- each number of a used entry fits a word

@@ -1,14 +1,13 @@
 -- Before the turn of section k every section below it has passed.
 use borrow.Author.Needs.{needs}
-use borrow.Author.Tests.{not-true, not-false}
 use native.Mathlib.Omega.{arith}
 use Prim.Native.Nat.{_-_, _≤_}
-use mathlib.Core.Path.{_≡_, sym, _∙_}
+use mathlib.Core.Path.{_≡_, sym}
 use mathlib.Core.Bool.{true}
 use Rattle.plan.specs.Lists.{nat, every}
 use Rattle.plan.specs.Format.{sections}
 use Rattle.plan.specs.Tests.{countKept}
-use Rattle.entryrules.specs.Testing.{every-none, every-more, every-fails}
+use Rattle.entryrules.specs.Testing.{every-none, every-more, every-fails, held, failed}
 use Rattle.entryrules.proofs.layout.counts_kept.Statement.{statement}
 use Rattle.entryrules.proofs.layout.counts_kept.Tie as tie
 
@@ -33,7 +32,7 @@ count-kept-requires c κs = search needs
 returns : tie.Need-returns Inv-loop μ-loop
 returns c =
     let b = c .before .before .before .before .loop in
-    let fails = sym (c .before .count-kept .ensures) ∙ not-true _ (c .if1 .taken) in
+    let fails = failed (c .before .count-kept .ensures) (c .if1 .taken) in
     sym (every-fails _ sections (b .k) (omega arith) fails)
 
 add-k : tie.Need-add-k Inv-loop μ-loop
@@ -45,7 +44,7 @@ loop-less c = search needs
 loop-again : tie.Need-loop-again Inv-loop μ-loop
 loop-again c =
     let b = c .before .before .before .before .loop in
-    let passes = sym (c .before .count-kept .ensures) ∙ not-false _ (c .if1 .left) in
+    let passes = held (c .before .count-kept .ensures) (c .if1 .left) in
     (omega arith, every-more _ (b .inv .1) passes)
 
 returns-2 : tie.Need-returns-2 Inv-loop μ-loop

@@ -4,7 +4,7 @@ use denote.Ref.{now}
 use Rattle.plan.specs.Format.{planIn}
 use Rattle.plan.specs.Refusals.{planFinding, findingOf}
 use Rattle.plan.specs.Laws.Answers.{counts-in}
-use Rattle.planfile.specs.Directory.{Directory, directory-kept, finding-directory}
+use Rattle.directory.specs.Directory.{Directory, directory-kept, finding-directory}
 use Rattle.entryrules.specs.Trying.{tried, refused, not-clean}
 use Rattle.planfile.specs.Reading.{reading-refused, reading-accepted}
 use borrow.Author.Needs.{needs}

@@ -1,0 +1,79 @@
+-- Before the turn of section k every section below it has passed.
+use borrow.Author.Needs.{needs}
+use native.Mathlib.Omega.{arith}
+use Prim.Native.Nat.{ℕ, _-_, _≤_, _%_}
+use mathlib.Core.Path.{_≡_, sym}
+use mathlib.Core.Bool.{Bool, true, _&&_}
+use mathlib.Core.List.{List}
+use lib.Dec.{eqb}
+use denote.Ref.{now}
+use Rattle.plan.specs.Lists.{nat, every}
+use Rattle.plan.specs.Format.{sections, entrySizes, lengthIn, countIn}
+use Rattle.plan.specs.Tests.{countKept, sizesKept}
+use Rattle.entryrules.specs.Testing.{every-none, every-more, every-fails, held, failed}
+use Rattle.directory.proofs.check_sizes.Statement.{statement}
+use Rattle.directory.proofs.check_sizes.Tie as tie
+
+-- section j of a file is of the right size
+abbrev sized : List ℕ → ℕ → Bool
+sized file j = eqb (lengthIn file j % nat entrySizes j) 0 && countKept j (countIn file j)
+
+abbrev Inv-loop : tie.InvT-loop
+Inv-loop file k₀ k = (k ≤ sections) × (every (sized file) k ≡ true)
+
+abbrev μ-loop : tie.MeasureT-loop
+μ-loop file k₀ k = sections - k
+
+loop-holds : tie.Need-loop-holds Inv-loop μ-loop
+loop-holds c = (search needs, every-none _)
+
+length-in-requires : tie.Need-length-in-requires Inv-loop μ-loop
+length-in-requires c κs = search needs
+
+size-kept-requires : tie.Need-size-kept-requires Inv-loop μ-loop
+size-kept-requires c κs = search needs
+
+returns : tie.Need-returns Inv-loop μ-loop
+unfolding sizesKept countIn
+returns c =
+    let b = c .before .before .before .before .loop in
+    let file = now (c .before .before .before .before .before .before .args .file) in
+    let size = c .before .before .length-in .ensures .0 in
+    let fails = failed (c .before .size-kept .ensures) (c .if1 .taken) in
+    sym (rw (every-fails (sized file) sections (b .k) (omega arith) (rw (← size) fails)))
+
+add-k : tie.Need-add-k Inv-loop μ-loop
+add-k c = search needs
+
+loop-less : tie.Need-loop-less Inv-loop μ-loop
+loop-less c = search needs
+
+loop-again : tie.Need-loop-again Inv-loop μ-loop
+unfolding countIn
+loop-again c =
+    let b = c .before .before .before .before .loop in
+    let size = c .before .before .length-in .ensures .0 in
+    let passes = held (c .before .size-kept .ensures) (c .if1 .left) in
+    (omega arith, every-more _ (b .inv .1) (rw (← size) passes))
+
+returns-2 : tie.Need-returns-2 Inv-loop μ-loop
+unfolding sizesKept
+returns-2 c =
+    let b = c .before .loop in
+    let is : b .k ≡ sections = omega arith in
+    sym (rw (← is, b .inv .1))
+
+pub check-sizes-spec : {M : Type 1} → statement M
+check-sizes-spec =
+    tie.close
+    (tie.spec
+    Inv-loop
+    μ-loop
+    loop-holds
+    length-in-requires
+    size-kept-requires
+    returns
+    add-k
+    loop-less
+    loop-again
+    returns-2)

@@ -1,0 +1,117 @@
+// The directory of a plan file: where its sections start and end, and the refusals 1 to 3.
+ghost use mathlib.Core.Path.{_≡_};
+ghost use mathlib.Core.Bool.{_&&_};
+ghost use Prim.Native.Nat.{_<_, _≤_, _^_, _%_, _/_};
+ghost use lib.Dec.{eqb};
+ghost use lib.ListN.{length};
+ghost use Rattle.plan.specs.Lists.{nat};
+ghost use Rattle.plan.specs.Format.{sections, entrySizes, headerLength, offsetIn, lengthIn, countIn, sectionIn};
+ghost use Rattle.plan.specs.Tests.{countKept, offsetsKept, sizesKept};
+ghost use Rattle.plan.specs.Refusals.{unless};
+ghost use Rattle.plan.specs.declared.Finding.the-variants.{Offsets, Sizes};
+ghost use Rattle.directory.specs.Directory.{directoryFinding, Directory};
+ghost use Rattle.directory.specs.Pointers.{further};
+use entryrules::HEADER_LENGTH;
+use entryrules::SECTIONS;
+use entryrules::count_kept;
+use entryrules::entry_size;
+use plan::Finding;
+use words::read_u32;
+
+// Where section k starts, and how long it is, by the header.
+pub fn offset_in(file: &[u8], k: usize) -> u64
+    requires { ⌜ (headerLength ≤ length (now file)) × (k < sections) ⌝ }
+    ensures { λ r. ⌜ (r ≡ offsetIn (now (file .entry)) k) × (r < 2 ^ 32) ⌝ }
+{
+    read_u32(file, 4 + 8 * k)
+}
+
+fn length_in(file: &[u8], k: usize) -> u64
+    requires { ⌜ (headerLength ≤ length (now file)) × (k < sections) ⌝ }
+    ensures { λ r. ⌜ (r ≡ lengthIn (now (file .entry)) k) × (r < 2 ^ 32) ⌝ }
+{
+    read_u32(file, 8 + 8 * k)
+}
+
+// "The first offset is 44, each next offset is the previous offset plus length, the last section ends the file." The sum of two words is below
+// 2^33, so it cannot wrap in 64 bits.
+fn check_offsets(file: &[u8]) -> Finding
+    requires { ⌜ headerLength ≤ length (now file) ⌝ }
+    ensures { λ r. ⌜ r ≡ unless (offsetsKept (now (file .entry))) Offsets ⌝ }
+{
+    let mut start = HEADER_LENGTH as u64;
+    let mut k = 0;
+    while k < SECTIONS {
+        let offset = offset_in(file, k);
+        if offset != start {
+            return Finding::Offsets;
+        }
+        start = offset + length_in(file, k);
+        k += 1;
+    }
+    if file.len() as u64 == start {
+        Finding::Clean
+    } else {
+        Finding::Offsets
+    }
+}
+
+// A section of so many bytes is a whole number of entries, and their count is inside its limits.
+fn size_kept(k: usize, bytes: u64) -> bool
+    requires { ⌜ k < sections ⌝ }
+    ensures { λ r. ⌜ r ≡ (eqb (bytes % nat entrySizes k) 0 && countKept k (bytes / nat entrySizes k)) ⌝ }
+{
+    let size = entry_size(k);
+    if bytes % size != 0 {
+        return false;
+    }
+    count_kept(k, bytes / size)
+}
+
+// Every section is of the right size.
+fn check_sizes(file: &[u8]) -> Finding
+    requires { ⌜ headerLength ≤ length (now file) ⌝ }
+    ensures { λ r. ⌜ r ≡ unless (sizesKept (now (file .entry))) Sizes ⌝ }
+{
+    let mut k = 0;
+    while k < SECTIONS {
+        if !size_kept(k, length_in(file, k)) {
+            return Finding::Sizes;
+        }
+        k += 1;
+    }
+    Finding::Clean
+}
+
+// The refusals 1, 2 and 3, in order.
+pub fn check_directory(file: &[u8]) -> Finding
+    ensures { λ r. ⌜ r ≡ directoryFinding (now (file .entry)) ⌝ }
+{
+    if file.len() < HEADER_LENGTH {
+        return Finding::Short;
+    }
+    let found = check_offsets(file);
+    let Finding::Clean = found else {
+        return found;
+    };
+    check_sizes(file)
+}
+
+// How many entries section k has.
+pub fn count_in(file: &[u8], k: usize) -> usize
+    requires { ⌜ Directory (now file) × (k < sections) ⌝ }
+    ensures { λ r. ⌜ r ≡ countIn (now (file .entry)) k ⌝ }
+{
+    (length_in(file, k) / entry_size(k)) as usize
+}
+
+// Section k, as a part of the file.
+pub fn section_in(file: &[u8], k: usize) -> &[u8]
+    requires { ⌜ Directory (now file) × (k < sections) ⌝ }
+    ensures { λ r. ⌜ now r ≡ sectionIn (now (file .entry)) k ⌝ }
+    ensures { λ r. ⌜ r .ptr ≡ further (file .entry .ptr) (offsetIn (now (file .entry)) k) ⌝ }
+{
+    let offset = offset_in(file, k) as usize;
+    let end = offset + length_in(file, k) as usize;
+    &file[offset..end]
+}
