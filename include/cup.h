@@ -142,9 +142,9 @@ typedef struct {
 size_t cup_read(const uint8_t *file, size_t file_length, size_t *entry);
 
 /* The section view: returns the length of a part of the file, and *offset becomes where in the file
- * it starts. The numbers 0 to 4 are integrators, inputs, nodes, links and commands. The part is
- * empty if the file would be refused, if the number is above 4 or if the section has no entry; an
- * empty part has offset 0. */
+ * it starts. The numbers 0 to 4 are integrators, inputs, nodes, links and commands. A section that has
+ * no entry is empty and starts where the next one does. If the file would be refused or the number is
+ * above 4, length and offset are 0. */
 size_t cup_section(const uint8_t *file, size_t file_length, size_t number, size_t *offset);
 
 /* Reads a plan file and writes its plan from the buffer's start: returns 0, and *length becomes the

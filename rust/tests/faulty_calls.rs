@@ -13,6 +13,7 @@ enum Fault {
     LoaderDeclinesAll,
     LoaderGivesIdle,
     ViewIsEmpty,
+    EmptyViewAtTheStart,
     WriterWritesNothing,
     WriterGoesOn,
     EagerBodyUnderLazy,
@@ -33,10 +34,11 @@ enum Fault {
     ClockRunsOn,
 }
 
-const FAULTS: [Fault; 21] = [
+const FAULTS: [Fault; 22] = [
     Fault::LoaderDeclinesAll,
     Fault::LoaderGivesIdle,
     Fault::ViewIsEmpty,
+    Fault::EmptyViewAtTheStart,
     Fault::WriterWritesNothing,
     Fault::WriterGoesOn,
     Fault::EagerBodyUnderLazy,
@@ -114,9 +116,11 @@ impl Simulator for Faulty {
     }
 
     fn section<'f>(&self, file: &'f [u8], number: usize) -> &'f [u8] {
+        let part = CHECKER.section(file, number);
         match self.0 {
             Fault::ViewIsEmpty => &file[..0],
-            _ => CHECKER.section(file, number),
+            Fault::EmptyViewAtTheStart if part.is_empty() => &file[..0],
+            _ => part,
         }
     }
 

@@ -1,65 +1,58 @@
--- The section view for C and Rust: the length of the part, and the offset at which it starts in the caller's own file.
+-- The section view for C and Rust: what its offset and length say, and how a refused file is told from an accepted one.
 use mathlib.Core.Path.{_≡_, refl, ap}
-use mathlib.Core.Bool.{Bool, true, false, cond}
-use mathlib.Core.List.{List, [], _∷_}
+use mathlib.Core.Bool.{Bool, true, false}
+use mathlib.Core.List.{List}
 use Prim.Native.Nat.{ℕ, _≤_, _<_}
 use native.Mathlib.Omega.{arith}
-use lib.Dec.{ltb, eqb}
+use lib.Dec.{ltb}
 use lib.ListN.{length}
-use borrow.Author.Tests.{ltb-true, ltb-false, eqb-true, eqb-false, ne-eqb}
-use Rattle.plan.specs.Format.{sections, headerLength, offsetIn, part, sectionIn}
-use Rattle.plan.specs.Refusals.{accepted, sectionOf}
-use Rattle.plan.specs.Laws.Answers.{accepted-offsets}
-use Rattle.plan.specs.Laws.Parts.{length-section-in}
-use Rattle.directory.specs.Directory.{directory-accepted}
-use Rattle.plan.specs.Laws.View.{view-shown, view-refused, view-above}
+use borrow.Author.Tests.{ltb-true, ltb-false}
+use Rattle.plan.specs.Format.{sections, lengthIn, part, sectionIn}
+use Rattle.plan.specs.Refusals.{accepted, sectionOf, sectionStart}
+use Rattle.plan.specs.Laws.Answers.{accepted-offsets, accepted-sizes}
+use Rattle.plan.specs.Laws.Parts.{length-section-in, length-entries}
+use Rattle.plan.specs.Laws.View.{view-shown, view-refused, view-above, start-shown, start-refused, start-above}
 
-unfoldable pub viewLength : List ℕ → ℕ → ℕ
-viewLength file number = length (sectionOf file number)
+module _ (file : List ℕ) where
+  length-shown : accepted file ≡ true → (number : ℕ) → number < sections → length (sectionOf file number) ≡ lengthIn file number
+  length-shown e number h = rw (view-shown file number e h) (length-section-in file (accepted-offsets file e) number h)
 
--- an empty part is said to start at 0
-unfoldable pub viewOffset : List ℕ → ℕ → ℕ
-viewOffset file number = cond (eqb (viewLength file number) 0) 0 (offsetIn file number)
-
--- ---- laws
-module _ (file : List ℕ) (number : ℕ) where
-  -- a part that is not empty is a section of an accepted file
-  pub record Shown : Type 0 where
-    pub yes : accepted file ≡ true
-    pub known : number < sections
-    pub long : headerLength ≤ length file
-
-  pub shown : (viewLength file number ≡ 0 → ⊥) → Shown
-  unfolding viewLength
-  shown n = go (accepted file) (ltb number sections) refl refl
+  -- "Integrators, 1 to 32": the first section of a file is empty only if the file is refused
+  pub first-refused : length (sectionOf file 0) ≡ 0 → accepted file ≡ false
+  first-refused none = go (accepted file) refl
     where
-      go : (a b : Bool) → accepted file ≡ a → ltb number sections ≡ b → Shown
-      go true true e h =
-          record { yes = e; known = ltb-true number sections h; long = directory-accepted file e .long }
-      go true false e h = absurd (n (ap length (view-above file number (ltb-false number sections h))))
-      go false b e h = absurd (n (ap length (view-refused file number e)))
+      go : (b : Bool) → accepted file ≡ b → accepted file ≡ false
+      go true e =
+          let sizes = accepted-sizes file e in
+          absurd (omega (arith, none, length-shown e 0 (omega arith), length-entries file sizes 0 (omega arith), sizes .count 0 (omega arith)))
+      go false e = e
 
-  pub offset-shown : (viewLength file number ≡ 0 → ⊥) → viewOffset file number ≡ offsetIn file number
-  unfolding viewOffset
-  offset-shown n = rw (ne-eqb (viewLength file number) 0 n)
+  pub first-accepted : (length (sectionOf file 0) ≡ 0 → ⊥) → accepted file ≡ true
+  first-accepted some = go (accepted file) refl
+    where
+      go : (b : Bool) → accepted file ≡ b → accepted file ≡ true
+      go true e = e
+      go false e = absurd (some (ap length (view-refused file 0 e)))
 
-  pub offset-empty : viewLength file number ≡ 0 → viewOffset file number ≡ 0
-  unfolding viewOffset
-  offset-empty e = rw e
+  -- where the file would be refused or the number is above 4, offset and length are 0
+  abbrev NoPart : ℕ → Type 0
+  NoPart number = (length (sectionOf file number) ≡ 0) × (sectionStart file number ≡ 0)
+
+  pub none-refused : (number : ℕ) → accepted file ≡ false → NoPart number
+  none-refused number e = (ap length (view-refused file number e), start-refused file number e)
+
+  pub none-above : (number : ℕ) → sections ≤ number → NoPart number
+  none-above number h = (ap length (view-above file number h), start-above file number h)
 
   -- offset and length give the part of the file that the section view hands back
-  pub view-part : part file (viewOffset file number) (viewLength file number) ≡ sectionOf file number
-  unfolding viewLength part sectionIn
-  view-part = go (eqb (viewLength file number) 0) refl
+  pub view-part : (number : ℕ) → part file (sectionStart file number) (length (sectionOf file number)) ≡ sectionOf file number
+  unfolding part sectionIn
+  view-part number = go (accepted file) (ltb number sections) refl refl
     where
-      empty : (xs : List ℕ) → length xs ≡ 0 → [] ≡ xs
-      empty [] e = refl
-      empty (x ∷ xs) e = absurd (omega arith)
-
-      go : (b : Bool) → eqb (viewLength file number) 0 ≡ b → part file (viewOffset file number) (viewLength file number) ≡ sectionOf file number
-      go true e = let none = eqb-true (viewLength file number) 0 e in rw none (empty (sectionOf file number) none)
-      go false e =
-          let n = eqb-false (viewLength file number) 0 e in
-          let s = shown n in
-          let is = view-shown file number (s .yes) (s .known) in
-          rw (offset-shown n, is, length-section-in file (accepted-offsets file (s .yes)) number (s .known))
+      go : (a b : Bool) → accepted file ≡ a → ltb number sections ≡ b
+          → part file (sectionStart file number) (length (sectionOf file number)) ≡ sectionOf file number
+      go true true e h =
+          let known = ltb-true number sections h in
+          rw (start-shown file number e known, length-shown e number known, view-shown file number e known) refl
+      go true false e h = rw (view-above file number (ltb-false number sections h)) refl
+      go false b e h = rw (view-refused file number e) refl

@@ -3,14 +3,15 @@
 ghost use mathlib.Core.Path.{_≡_};
 ghost use lib.ListN.{length};
 ghost use Rattle.plan.specs.Format.{part};
-ghost use Rattle.plan.specs.Refusals.{numberOf, entryOf, findingOf, sectionOf};
+ghost use Rattle.plan.specs.Refusals.{numberOf, entryOf, findingOf, sectionOf, sectionStart};
 ghost use Rattle.machine.specs.SoundTest.{isSound};
 ghost use Rattle.machine.specs.declared.Engine.the-variants.{Lazy, Eager};
 ghost use Rattle.calls.specs.Calls.{loadOf, writeOf, bufferOfWrite, runOf, bufferOfRun, positionedOf};
 ghost use Rattle.exports.specs.Tables.{tablesOf};
-ghost use Rattle.exports.specs.Viewing.{viewLength, viewOffset};
 ghost use Rattle.exports.specs.Rewriting.{rewriteNumber, rewriteLength, rewriteBuffer};
 use directory::offset_in;
+use directory::section_in;
+use entryrules::SECTIONS;
 use machine::State;
 use plan::Finding;
 use planfile::read_plan;
@@ -44,20 +45,22 @@ pub extern "C" fn cup_read(file: &[u8], faulty: &mut usize) -> usize
     number_of(found)
 }
 
-// The section view: the length of the part, and where in the file it starts. An empty part starts at 0.
+// The section view: the length of the part, and where in the file it starts, an empty section too. Both are 0 if the file would be refused or the number
+// is above 4.
 #[no_mangle]
 pub extern "C" fn cup_section(file: &[u8], number: usize, offset: &mut usize) -> usize
-    ensures { λ r. ⌜ r ≡ viewLength (now (file .entry)) number ⌝ }
-    ensures { λ _. ⌜ now (offset .exit) ≡ viewOffset (now (file .entry)) number ⌝ }
+    ensures { λ r. ⌜ r ≡ length (sectionOf (now (file .entry)) number) ⌝ }
+    ensures { λ _. ⌜ now (offset .exit) ≡ sectionStart (now (file .entry)) number ⌝ }
     ensures { λ r. ⌜ part (now (file .entry)) (now (offset .exit)) r ≡ sectionOf (now (file .entry)) number ⌝ }
 {
-    let length = section(file, number).len();
-    if length == 0 {
+    // An accepted file has an integrator, so its first section is not empty.
+    let integrators = section(file, 0).len();
+    if integrators == 0 || SECTIONS <= number {
         *offset = 0;
         return 0;
     }
     *offset = offset_in(file, number) as usize;
-    length
+    section_in(file, number).len()
 }
 
 // Reads a plan file and writes its plan into the buffer: the number, and the length of what is written. Where the number is not 0 the length is 0,

@@ -42,8 +42,8 @@ pub fn read(file: &[u8]) -> Answer {
     Answer { number, entry }
 }
 
-/// The section view: the part of the file with this number, 0 to 4; an empty part if the file would
-/// be refused or the number is above 4.
+/// The section view: the part of the file with this number, 0 to 4, at its place also where it is
+/// empty; an empty part at the file's start if the file would be refused or the number is above 4.
 #[allow(unsafe_code)]
 pub fn section(file: &[u8], number: usize) -> &[u8] {
     let mut offset = 0;

@@ -25,7 +25,7 @@ fn a_program_in_c_reads_views_and_rewrites() {
 read 0, entry 0
 section 0: 16 bytes at 44
 section 1: 4 bytes at 60
-section 2: 0 bytes at 0
+section 2: 0 bytes at 64
 section 3: 24 bytes at 64
 section 4: 12 bytes at 88
 section 5: 0 bytes at 0

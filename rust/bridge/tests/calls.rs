@@ -3,6 +3,7 @@
 use cup_bridge::machine::{instant, load, position, run, sound, tables};
 use cup_bridge::state::{State, Tables};
 use cup_bridge::{meaning, read, rewrite, section, Answer, Rewritten};
+use cup_check::file::read::place_in;
 use cup_check::samples;
 use cup_check::words::{signed_at, word_at};
 use std::fs;
@@ -33,7 +34,8 @@ fn the_samples_are_read() {
     assert_eq!(read(&[0; 44]), answer(2, 0));
 }
 
-/// Document 01: "Pairs: (44,16) (60,4) (64,0) (64,24) (88,12)".
+/// Document 01: "Pairs: (44,16) (60,4) (64,0) (64,24) (88,12)". The nodes have a place, though there are
+/// none.
 #[test]
 fn a_section_is_a_part_of_the_callers_file() {
     let file = kept("plans/sample.plan");
@@ -43,12 +45,19 @@ fn a_section_is_a_part_of_the_callers_file() {
     {
         let part = section(&file, number);
         assert_eq!(part, &file[offset..offset + length]);
-        assert!(part.is_empty() || part.as_ptr() == file[offset..].as_ptr());
+        assert_eq!(place_in(&file, part), offset);
     }
+    let is_none = |file: &[u8], number| {
+        let part = section(file, number);
+        (place_in(file, part), part.len()) == (0, 0)
+    };
     for number in [5, 1 << 32, usize::MAX] {
-        assert!(section(&file, number).is_empty());
+        assert!(is_none(&file, number));
     }
-    assert!(section(&kept("plans/refused.plan"), 0).is_empty());
+    let refused = kept("plans/refused.plan");
+    for number in 0..=5 {
+        assert!(is_none(&refused, number));
+    }
 }
 
 #[test]

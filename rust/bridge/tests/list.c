@@ -48,17 +48,22 @@ static void print_events(size_t written)
                (int32_t)word(events + at + 8));
 }
 
-/* The sections have as many entries as the state says, and the first integrator starts where it is. */
+/* The sections have as many entries as the state says and stand one behind the other, empty ones too;
+ * the first integrator starts where it is. */
 static void check_sections(size_t length, const CupState *state)
 {
     const size_t entries[] = { state->plan.n, state->plan.m, state->plan.k, state->plan.links,
                                state->plan.commands };
     const size_t bytes[] = { 8, 4, 20, 12, 12 };
-    size_t offset;
-    for (size_t section = 0; section < 5; section++)
+    size_t offset, next = 44;
+    for (size_t section = 0; section < 5; section++) {
         demand(cup_section(file, length, section, &offset) == entries[section] * bytes[section],
                "a section has another length");
-    demand(cup_section(file, length, 5, &offset) == 0, "there is a sixth section");
+        demand(offset == next, "a section starts elsewhere");
+        next += entries[section] * bytes[section];
+    }
+    demand(next == length, "the last section ends elsewhere");
+    demand(cup_section(file, length, 5, &offset) == 0 && offset == 0, "there is a sixth section");
     demand(cup_section(file, length, 0, &offset) > 0 &&
                (int32_t)word(file + offset) == state->plan.starts[0],
            "the first integrator starts elsewhere");

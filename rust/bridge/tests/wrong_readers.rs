@@ -2,7 +2,7 @@
 
 use cup_bridge::campaign::{Archive, Campaign, Reader};
 use cup_bridge::{Answer, Rewritten};
-use cup_check::file::read::split;
+use cup_check::file::read::{place_in, split};
 use cup_check::file::Slip;
 
 /// Enough for all files next to samples and some thousand random ones.
@@ -55,6 +55,7 @@ enum Fault {
     EntryOfWholeFile,
     SectionShifted,
     SectionOneEntryLate,
+    EmptySectionAtTheStart,
     EmptySectionAtTheEnd,
     SectionOfRefused,
     SectionAboveFour,
@@ -67,11 +68,12 @@ enum Fault {
     LengthOfShort,
 }
 
-const FAULTS: [Fault; 14] = [
+const FAULTS: [Fault; 15] = [
     Fault::EntryOneHigher,
     Fault::EntryOfWholeFile,
     Fault::SectionShifted,
     Fault::SectionOneEntryLate,
+    Fault::EmptySectionAtTheStart,
     Fault::EmptySectionAtTheEnd,
     Fault::SectionOfRefused,
     Fault::SectionAboveFour,
@@ -97,10 +99,11 @@ impl Reader for Fault {
 
     fn section<'f>(&self, file: &'f [u8], number: usize) -> &'f [u8] {
         let part = Archive.section(file, number);
-        let at = part.as_ptr() as usize - file.as_ptr() as usize;
+        let at = place_in(file, part);
         match self {
             Fault::SectionShifted if !part.is_empty() => &file[at - 1..][..part.len()],
             Fault::SectionOneEntryLate if number == 3 => &part[part.len().min(12)..],
+            Fault::EmptySectionAtTheStart if part.is_empty() => &file[..0],
             Fault::EmptySectionAtTheEnd if part.is_empty() => &file[file.len()..],
             Fault::SectionOfRefused if number < 5 => split(file).map_or(part, |all| all[number]),
             Fault::SectionAboveFour => Archive.section(file, number.min(4)),

@@ -8,8 +8,9 @@ use crate::calls::{BUDGET_ABOVE, NO_SUCH_INTEGRATOR, SHORT_RUN_BUFFER};
 use crate::engine::Engine;
 use crate::file::encode;
 use crate::file::layout::section_bytes;
+use crate::file::read::place_in;
 use crate::generate::Call;
-use crate::limits::{BUDGET_MAX, EVENT_BYTES, INTEGRATORS_MAX};
+use crate::limits::{BUDGET_MAX, EVENT_BYTES, HEADER_BYTES, INTEGRATORS_MAX};
 use crate::plain::{Event, Observer, Plain};
 use crate::plan::Plan;
 use crate::raw::RawState;
@@ -102,10 +103,14 @@ fn compare_list(
     Ok(comparison.state)
 }
 
-/// The section view shows each section, and nothing for a number above 4.
+/// The section view shows each section at its place, and nothing for a number above 4.
 fn check_sections(simulator: &dyn Simulator, plan: &Plan, file: &[u8]) -> Found {
+    let mut offset = HEADER_BYTES;
     for (number, expected) in section_bytes(plan).iter().enumerate() {
-        same("section", simulator.section(file, number), &expected[..])?;
+        let part = simulator.section(file, number);
+        same("section", part, &expected[..])?;
+        same("a section's offset", place_in(file, part), offset)?;
+        offset += expected.len();
     }
     same("section 5", simulator.section(file, 5), &[])
 }

@@ -32,7 +32,7 @@ pub fn read_by(rules: &Reading, file: &[u8]) -> Result<Plan, Refusal> {
 }
 
 /// The section view: a part of the caller's own file, "or an empty part if the file would be
-/// refused or the number is above 4".
+/// refused or the number is above 4", which is taken from the file's start.
 pub fn section(file: &[u8], number: usize) -> &[u8] {
     section_by(&Reading::DOCUMENT, file, number)
 }
@@ -52,9 +52,21 @@ pub fn split(file: &[u8]) -> Result<Parts<'_>, Refusal> {
     Ok(parts(file, &pairs))
 }
 
-/// The sections by their pairs. All ends are at most the file's length by now, so they fit a usize.
+/// The sections by their lengths: "The first offset is 44, each next offset is the previous offset
+/// plus length". An empty one has its place too. All ends are at most the file's length by now, so
+/// they fit a usize.
 fn parts<'f>(file: &'f [u8], pairs: &Pairs) -> Parts<'f> {
-    pairs.map(|(offset, length)| &file[offset as usize..(offset + length) as usize])
+    let mut offset = HEADER_BYTES;
+    pairs.map(|(_, length)| {
+        let part = &file[offset..][..length as usize];
+        offset += part.len();
+        part
+    })
+}
+
+/// Where in a file a part of it starts; of what is no part of it, some wild number.
+pub fn place_in(file: &[u8], part: &[u8]) -> usize {
+    (part.as_ptr() as usize).wrapping_sub(file.as_ptr() as usize)
 }
 
 /// The pairs of a header, or refusal 1.

@@ -2,6 +2,7 @@
 
 use super::{Met, Reader, Second};
 use crate::Answer;
+use cup_check::file::read::place_in;
 use cup_check::file::Refusal;
 use cup_check::generate::Rng;
 use cup_check::plan::Plan;
@@ -48,7 +49,7 @@ fn compare_answers(reader: &dyn Reader, expected: &Read, file: &[u8]) -> Result<
     Ok(())
 }
 
-/// Every section, and numbers above 4 that end in those of sections at some width.
+/// Every section, an empty one too, and numbers above 4 that end in those of sections at some width.
 fn compare_sections(
     reader: &dyn Reader,
     second: &Second,
@@ -66,20 +67,19 @@ fn compare_sections(
     for number in (0..=6).chain(wild) {
         let part = reader.section(file, number);
         let expected = second.section(file, number);
-        let of = |part: &[u8]| (part.as_ptr() as usize - file.as_ptr() as usize, part.len());
-        // The C call gives an empty part the offset 0; any other lies where the section lies.
-        let place = match expected.is_empty() {
-            true => (0, 0),
-            false => of(expected),
-        };
-        if of(part) != place || part != expected {
+        let of = |part: &[u8]| (place_in(file, part), part.len());
+        if of(part) != of(expected) || part != expected {
             return Err(format!(
-                "section {number} at (offset, length) {:?}, where {place:?} is expected",
-                of(part)
+                "section {number} at (offset, length) {:?}, where {:?} is expected",
+                of(part),
+                of(expected)
             ));
         }
-        if !expected.is_empty() {
-            met.parts[number] += 1;
+        match of(expected) {
+            // The file is refused, or there is no such section.
+            (0, _) => (),
+            (_, 0) => met.empty_parts[number] += 1,
+            _ => met.parts[number] += 1,
         }
     }
     Ok(())

@@ -29,6 +29,9 @@ pub struct Met {
     pub later_entries: u64,
     /// Section views that were not empty, by their number.
     pub parts: [u64; 5],
+    /// Views of empty sections of accepted files, by their number. An accepted file has an
+    /// integrator, so none of them has number 0.
+    pub empty_parts: [u64; 5],
     /// How often each number 0 to 13 was the answer to rewriting.
     pub rewritten: [u64; 14],
 }
@@ -61,6 +64,8 @@ impl Met {
         ];
         let parts = (0..).zip(self.parts);
         let parts = parts.map(|(number, count)| (format!("section {number}"), count));
+        let empty = (0..).zip(self.empty_parts).skip(1);
+        let empty = empty.map(|(number, count)| (format!("empty section {number}"), count));
         let origins = Origin::ALL.map(|origin| {
             let count = self.origins.get(&origin).copied().unwrap_or(0);
             (format!("{origin:?}"), count)
@@ -69,6 +74,7 @@ impl Met {
             .chain(causes)
             .chain(others)
             .chain(parts)
+            .chain(empty)
             .chain(origins);
         let seldom = all.filter(|(_, count)| *count < ENOUGH);
         let mut thin: Vec<String> = seldom
@@ -100,8 +106,8 @@ impl fmt::Display for Met {
         writeln!(out, "  faults at an entry above 0: {}", self.later_entries)?;
         writeln!(
             out,
-            "  section views not empty, by number: {:?}",
-            self.parts
+            "  section views not empty, by number: {:?}; of empty sections: {:?}",
+            self.parts, self.empty_parts
         )?;
         let refused: u64 = self.rewritten[1..10].iter().sum();
         writeln!(
