@@ -5,4 +5,3 @@ pub mod Sessions
 pub mod Limits
 pub mod Promises
 pub mod Proofs
-pub mod Examples

@@ -7,16 +7,13 @@ use native.Mathlib.Omega.{arith}
 use lib.Dec.{ltb}
 use lib.ListN.{length}
 use borrow.Author.Tests.{ltb-true, ltb-false}
-use Rattle.plan.specs.Format.{sections, lengthIn, part, sectionIn}
+use Rattle.plan.specs.Format.{sections, part, sectionIn}
 use Rattle.plan.specs.Refusals.{accepted, sectionOf, sectionStart}
-use Rattle.plan.specs.Laws.Answers.{accepted-offsets, accepted-sizes}
-use Rattle.plan.specs.Laws.Parts.{length-section-in, length-entries}
-use Rattle.plan.specs.Laws.View.{view-shown, view-refused, view-above, start-shown, start-refused, start-above}
+use Rattle.plan.specs.Laws.Answers.{accepted-sizes}
+use Rattle.plan.specs.Laws.Parts.{length-entries}
+use Rattle.plan.specs.Laws.View.{view-shown, length-shown, view-refused, view-above, start-shown, start-refused, start-above}
 
 module _ (file : List ℕ) where
-  length-shown : accepted file ≡ true → (number : ℕ) → number < sections → length (sectionOf file number) ≡ lengthIn file number
-  length-shown e number h = rw (view-shown file number e h) (length-section-in file (accepted-offsets file e) number h)
-
   -- "Integrators, 1 to 32": the first section of a file is empty only if the file is refused
   pub first-refused : length (sectionOf file 0) ≡ 0 → accepted file ≡ false
   first-refused none = go (accepted file) refl
@@ -24,7 +21,7 @@ module _ (file : List ℕ) where
       go : (b : Bool) → accepted file ≡ b → accepted file ≡ false
       go true e =
           let sizes = accepted-sizes file e in
-          absurd (omega (arith, none, length-shown e 0 (omega arith), length-entries file sizes 0 (omega arith), sizes .count 0 (omega arith)))
+          absurd (omega (arith, none, length-shown file 0 e (omega arith), length-entries file sizes 0 (omega arith), sizes .count 0 (omega arith)))
       go false e = e
 
   pub first-accepted : (length (sectionOf file 0) ≡ 0 → ⊥) → accepted file ≡ true
@@ -53,6 +50,6 @@ module _ (file : List ℕ) where
           → part file (sectionStart file number) (length (sectionOf file number)) ≡ sectionOf file number
       go true true e h =
           let known = ltb-true number sections h in
-          rw (start-shown file number e known, length-shown e number known, view-shown file number e known) refl
+          rw (start-shown file number e known, length-shown file number e known, view-shown file number e known) refl
       go true false e h = rw (view-above file number (ltb-false number sections h)) refl
       go false b e h = rw (view-refused file number e) refl

@@ -10,7 +10,7 @@ use std::process::Command;
 
 /// Where the table of the calls' worked examples stands. The cases use what it uses and open what
 /// it opens.
-const TABLE: &str = "crates/calls/specs/Examples.antt";
+const TABLE: &str = "crates/examples/specs/Calls.antt";
 
 /// A declaration of the module of cases.
 #[derive(Clone, Debug)]
@@ -168,14 +168,10 @@ fn name_of(line: &str) -> Option<&str> {
         .filter(|name| !name.starts_with('#'))
 }
 
-/// The lines of a module that bring names in. In another crate, the table's own crate goes by its
-/// short name.
+/// The lines of a module that bring names in.
 fn uses_of(table: &str) -> String {
     let lines = table.lines().filter(|line| line.starts_with("use "));
-    let own = "Rattle.calls.specs.";
-    lines
-        .map(|line| line.replace(own, "Rattle.calls.specs.") + "\n")
-        .collect()
+    lines.map(|line| format!("{line}\n")).collect()
 }
 
 /// What the table's theorem opens, but for the table itself.

@@ -12,11 +12,10 @@ use Rattle.plan.specs.Unused.{PlanUnused}
 use Rattle.plan.specs.Encoding.{encode}
 use Rattle.plan.specs.Idle.{idlePlan}
 use Rattle.plan.specs.declared.Plan.{Plan}
-use Rattle.plan.specs.Laws.Answers.{answered, accepted-offsets}
+use Rattle.plan.specs.Laws.Answers.{answered}
 use Rattle.plan.specs.Laws.Entries.{file-shaped}
 use Rattle.plan.specs.Laws.IdlePlan.{idle-shaped}
-use Rattle.plan.specs.Laws.Parts.{length-section-in}
-use Rattle.plan.specs.Laws.View.{view-shown, view-refused, view-above, start-shown}
+use Rattle.plan.specs.Laws.View.{view-shown, length-shown, view-refused, view-above, start-shown}
 use Rattle.plan.specs.Laws.ReadBack.{plan-back, clean-back}
 use Rattle.plan.specs.Laws.Refused.{plan-rules}
 use Rattle.machine.specs.Sound.{RunningShaped}
@@ -57,9 +56,7 @@ pub every-view : EveryView
 unfolding sectionIn part offsetIn lengthIn
 every-view file number = record {
   shown = λ e h. view-shown file number (load-accepted file e) (omega arith);
-  whole = λ e h.
-      let yes = load-accepted file e in
-      rw (view-shown file number yes (omega arith)) (length-section-in file (accepted-offsets file yes) number (omega arith));
+  whole = λ e h. length-shown file number (load-accepted file e) (omega arith);
   place = λ e h. start-shown file number (load-accepted file e) (omega arith);
   refused = λ e. view-refused file number (load-refused file e);
   above = λ h. view-above file number h;

@@ -1,8 +1,7 @@
 -- The limits of docs/LIMITS.md: of files, of states and of what the calls answer. Assumes nothing.
 use mathlib.Core.Path.{_≡_}
-use mathlib.Core.Bool.{true}
 use mathlib.Core.List.{List}
-use Prim.Native.Nat.{ℕ, _^_, _≤_, _<_}
+use Prim.Native.Nat.{ℕ, _^_, _<_}
 use native.Mathlib.Nat.{le-trans}
 use native.Mathlib.Omega.{arith}
 use lib.IntN.{ℤ}
@@ -10,13 +9,11 @@ use lib.ListN.{length}
 use borrow.Author.Tests.{eq-eqb}
 use Rattle.integers.specs.Parts.{∣_∣}
 use Rattle.words.specs.Word.{Bytes}
-use Rattle.plan.specs.Format.{lengthIn}
-use Rattle.plan.specs.Refusals.{accepted, sectionOf}
 use Rattle.plan.specs.Laws.Answers.{number-below, entry-below, accepted-offsets, accepted-sizes}
 use Rattle.plan.specs.Laws.Counts.{Counts, counts-of}
 use Rattle.plan.specs.Laws.Layout.{file-least, file-most}
-use Rattle.plan.specs.Laws.Parts.{offset-lt, length-lt, section-end, length-section-in, length-most, file-limits}
-use Rattle.plan.specs.Laws.View.{view-shown, start-shown}
+use Rattle.plan.specs.Laws.Parts.{offset-lt, length-lt, section-end, length-most, file-limits}
+use Rattle.plan.specs.Laws.View.{length-shown, start-shown}
 use Rattle.machine.specs.Instant.{positionAt, tickOf}
 use Rattle.machine.specs.Sound.{Sound}
 use Rattle.machine.specs.Status.{statusOf, integratorOf}
@@ -34,9 +31,6 @@ use Rattle.calls.specs.Proofs.CallNumbers.{accept-cases, figure-most, wr
 use Rattle.calls.specs.Proofs.StateLimits.{rate-limits, level-limits, room-most, state-limits}
 
 -- ---- files
-length-shown : (file : List ℕ) → accepted file ≡ true → (k : ℕ) → k ≤ 4 → length (sectionOf file k) ≡ lengthIn file k
-length-shown file ok k h = rw (view-shown file k ok (omega arith)) (length-section-in file (accepted-offsets file ok) k (omega arith))
-
 accepted-limits : (file : List ℕ) → loadOf file .number ≡ 0 → AcceptedLimits file
 accepted-limits file e =
     let yes = load-accepted file e in
@@ -44,9 +38,9 @@ accepted-limits file e =
     record {
       shortest = limits .0;
       longest = limits .1;
-      view = λ k h. rw (length-shown file yes k h) (length-most file (accepted-sizes file yes) k (omega arith));
+      view = λ k h. rw (length-shown file k yes (omega arith)) (length-most file (accepted-sizes file yes) k (omega arith));
       view-end = λ k h.
-          rw (length-shown file yes k h, start-shown file k yes (omega arith)) (section-end file (accepted-offsets file yes) k (omega arith));
+          rw (length-shown file k yes (omega arith), start-shown file k yes (omega arith)) (section-end file (accepted-offsets file yes) k (omega arith));
     }
 
 any-limits : (file : List ℕ) → Bytes file → FileLimits file

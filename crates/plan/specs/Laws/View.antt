@@ -3,14 +3,21 @@ use mathlib.Core.Path.{_≡_}
 use mathlib.Core.Bool.{true, false, and-false}
 use mathlib.Core.List.{List, []}
 use Prim.Native.Nat.{ℕ, _≤_, _<_}
+use lib.ListN.{length}
 use borrow.Author.Tests.{lt-ltb, le-ltb}
-use Rattle.plan.specs.Format.{sections, offsetIn, sectionIn}
+use Rattle.plan.specs.Format.{sections, offsetIn, lengthIn, sectionIn}
 use Rattle.plan.specs.Refusals.{accepted, sectionOf, sectionStart}
+use Rattle.plan.specs.Laws.Answers.{accepted-offsets}
+use Rattle.plan.specs.Laws.Parts.{length-section-in}
 
 module _ (file : List ℕ) (number : ℕ) where
   pub view-shown : accepted file ≡ true → number < sections → sectionOf file number ≡ sectionIn file number
   unfolding sectionOf
   view-shown e h = rw (e, lt-ltb number sections h)
+
+  -- it is as long as the directory says
+  pub length-shown : accepted file ≡ true → number < sections → length (sectionOf file number) ≡ lengthIn file number
+  length-shown e h = rw (view-shown e h) (length-section-in file (accepted-offsets file e) number h)
 
   pub start-shown : accepted file ≡ true → number < sections → sectionStart file number ≡ offsetIn file number
   unfolding sectionStart
