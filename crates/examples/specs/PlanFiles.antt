@@ -1,5 +1,5 @@
--- Worked examples of the format, with one theorem over their table: "A cup in full" decoded, encoded and taken apart, and a file for each
--- refusal and for the limits that are easily missed.
+-- Worked examples of the plan file, with one theorem over their table: "A cup in full" decoded, encoded and taken apart, and a file for each refusal and
+-- for the limits that are easily missed.
 use mathlib.Core.Path.{refl}
 use mathlib.Core.Bool.{Bool, true}
 use mathlib.Core.List.{List, [], _∷_, _++_}
@@ -14,7 +14,7 @@ use Rattle.plan.specs.Tests.{longEnough, offsetsKept, countKept, sizesKept, hor
 use Rattle.plan.specs.Tests.{kindKept, ascends, nodeKept, linkLimits, linkOrdered, commandLimits, commandOrdered}
 use Rattle.plan.specs.Refusals.{numberOf, entryOf, isClean, orElse, firstFinding, horizonFinding, integratorsFinding, inputsFinding}
 use Rattle.plan.specs.Refusals.{nodesFinding, linksFinding, commandsFinding, planFinding, findingOf, accepted, sectionOf, sectionStart}
-use Rattle.plan.specs.Encoding.{offsetFrom, lengthOf, offsetOf, fileLength, headerWords, integratorWords, inputWords, nodeWords, linkWords}
+use Rattle.plan.specs.Encoding.{offsetFrom, offsetOf, fileLength, headerWords, integratorWords, inputWords, nodeWords, linkWords}
 use Rattle.plan.specs.Encoding.{commandWords, fileWords, encode}
 use Rattle.plan.specs.Idle.{idlePlan}
 use Rattle.plan.specs.Cases.{Case, case, AllRight, end, _&_}
@@ -92,7 +92,7 @@ valvePlan = record {
 
 pub examples : List Case
 examples =
-    -- [P1] "A cup in full": decoded, encoded, and its sections; and the 52 bytes of the idle plan
+    -- "A cup in full": decoded, encoded, and its sections; and the 52 bytes of the idle plan
     finds cupFile Clean
     ∷ case Plan (planIn cupFile) cupPlan
     ∷ case (List ℕ) (encode cupPlan) cupFile
@@ -200,7 +200,7 @@ pub examples-right : AllRight examples
 unfolding examples numberAt bytesOf signedOf unsignedOf flat within table row joined every horizonIn offsetIn lengthIn startIn countIn
     part sectionIn columnOf columnIn planIn longEnough offsetsKept countKept sizesKept horizonKept counts integratorKept inputKept kindKept
     ascends nodeKept linkLimits linkOrdered commandLimits commandOrdered numberOf entryOf isClean orElse firstFinding horizonFinding
-    integratorsFinding inputsFinding nodesFinding linksFinding commandsFinding planFinding findingOf accepted sectionOf sectionStart lengthOf
+    integratorsFinding inputsFinding nodesFinding linksFinding commandsFinding planFinding findingOf accepted sectionOf sectionStart
     offsetFrom offsetOf fileLength headerWords integratorWords inputWords nodeWords linkWords commandWords fileWords encode
 examples-right =
     refl & refl & refl & refl & refl & refl & refl & refl & refl & refl & refl & refl & refl & refl & refl & refl & refl & refl & refl & refl &

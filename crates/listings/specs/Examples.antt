@@ -1,5 +1,5 @@
--- Worked examples of the listing, with one theorem over their table: document 01's cup (P1), a plan that is barred at its first tick, and a file
--- that is refused.
+-- Worked examples of the listing, with one theorem over their table, which guards the definitions of this crate: document 01's cup, a plan that is
+-- barred at its first tick, and a file that is refused. The table of P1 to P9 stands in the crate `examples`.
 use mathlib.Core.Path.{refl}
 use mathlib.Core.List.{List, [], _∷_}
 use Prim.Native.Nat.{ℕ}
@@ -7,9 +7,9 @@ use Rattle.integers.specs.Division.{ceilDiv}
 use Rattle.integers.specs.Range.{limited, within}
 use Rattle.bitset.specs.Mask.{countOf}
 use Rattle.words.specs.Word.{numberAt, bytesOf, signedOf, unsignedOf, flat}
-use Rattle.plan.specs.Lists.{table, row, joined, every, some, all, firstFrom}
+use Rattle.plan.specs.Lists.{table, row, joined, every, some, firstFrom}
 use Rattle.plan.specs.Format.{horizonIn, offsetIn, lengthIn, startIn, countIn, part, sectionIn, columnOf, columnIn, planIn}
-use Rattle.plan.specs.Tests.{longEnough, offsetsKept, countKept, sizesKept, horizonKept, counts, countsKept, integratorKept, inputKept}
+use Rattle.plan.specs.Tests.{longEnough, offsetsKept, countKept, sizesKept, horizonKept, integratorKept, inputKept}
 use Rattle.plan.specs.Tests.{kindKept, ascends, nodeKept, linkLimits, linkOrdered, commandLimits, commandOrdered}
 use Rattle.plan.specs.Refusals.{numberOf, entryOf, isClean, orElse, firstFinding, horizonFinding, integratorsFinding, inputsFinding}
 use Rattle.plan.specs.Refusals.{nodesFinding, linksFinding, commandsFinding, planFinding, findingOf, accepted}
@@ -22,7 +22,7 @@ use Rattle.machine.specs.Start.{startSlope, startDue, startOf, startState, idle
 use Rattle.machine.specs.Reach.{isDue, setsInput, isCommanded, changes, dependsWith, linkReaches, reached}
 use Rattle.machine.specs.Instant.{positionAt, settingOf, settings, moves, eventBytes, eventsAt, outputs, slopeThen, xThen, dueThen}
 use Rattle.machine.specs.Instant.{takenAt, tickOf, instant, eventsOf}
-use Rattle.machine.specs.Status.{bars, barring, statusAt, integratorAt, statusOf, integratorOf, isPaused}
+use Rattle.machine.specs.Status.{bars, barring, statusAt, statusOf, isPaused}
 use Rattle.machine.specs.Runs.{after, events}
 use Rattle.text.specs.Decimal.{digitsIn, decimal, signedDecimal}
 use Rattle.text.specs.Lines.{eventLine, endLine, refusalLine, lineAt, linesOf}
@@ -56,14 +56,14 @@ examples =
     ∷ []
 
 pub examples-right : AllRight examples
-unfolding examples ceilDiv limited within countOf numberAt bytesOf signedOf unsignedOf flat table row joined every some all firstFrom
+unfolding examples ceilDiv limited within countOf numberAt bytesOf signedOf unsignedOf flat table row joined every some firstFrom
     horizonIn offsetIn lengthIn startIn countIn part sectionIn columnOf columnIn planIn longEnough offsetsKept countKept sizesKept
-    horizonKept counts countsKept integratorKept inputKept kindKept ascends nodeKept linkLimits linkOrdered commandLimits
+    horizonKept integratorKept inputKept kindKept ascends nodeKept linkLimits linkOrdered commandLimits
     commandOrdered numberOf entryOf isClean orElse firstFinding horizonFinding integratorsFinding inputsFinding nodesFinding
     linksFinding commandsFinding planFinding findingOf accepted nodeOf valueWith valueOf sumOver rateOf upperLevel lowerLevel distance ticksTo
     dueTick dueOf nextCommand commandTick leastDue nextTick startSlope startDue startOf startState idleState isDue setsInput
     isCommanded changes dependsWith linkReaches reached positionAt settingOf settings moves eventBytes eventsAt outputs slopeThen xThen
-    dueThen takenAt tickOf instant eventsOf bars barring statusAt integratorAt statusOf integratorOf isPaused after events
+    dueThen takenAt tickOf instant eventsOf bars barring statusAt statusOf isPaused after events
     digitsIn decimal signedDecimal eventLine endLine refusalLine lineAt linesOf loadOf ranState ranEvents eventLines closing listedBy listingOf
     turnState turnMore turnText firstText turnsFrom printedIn
 examples-right = refl & refl & refl & refl & refl & end

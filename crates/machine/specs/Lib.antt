@@ -1,4 +1,4 @@
--- "The machine" of document 01, step by step; the plain machine; sound states; what is proved of them; and the table of its worked examples.
+-- "The machine" of document 01, step by step; the plain machine; sound states; and what is proved of them. Its worked examples are in the crate `examples`.
 pub mod Values
 pub mod Due
 pub mod Next

@@ -1,4 +1,5 @@
--- Document 01's examples P1 to P9, and cases that are easily got wrong, as one table with one theorem over it.
+-- Further worked examples of the machine as a table, with one theorem over it: the cup's states in full, and cases that are easily got wrong. P1 to P9
+-- have a table of their own, in P1toP9.antt.
 use mathlib.Core.Path.{refl}
 use mathlib.Core.Bool.{Bool, true, false}
 use mathlib.Core.List.{List, [], _∷_}
@@ -11,33 +12,32 @@ use Rattle.bitset.specs.Mask.{countOf}
 use Rattle.words.specs.Word.{numberAt, bytesOf, signedOf, unsignedOf, wordOf, flat}
 use Rattle.plan.specs.Lists.{nat, int, table, row, joined, every, some, all, firstFrom}
 use Rattle.plan.specs.Format.{horizonIn, offsetIn, lengthIn, startIn, countIn, part, sectionIn, columnOf, columnIn, planIn}
-use Rattle.plan.specs.Tests.{longEnough, offsetsKept, countKept, sizesKept, horizonKept, counts, countsKept, integratorKept, inputKept}
-use Rattle.plan.specs.Tests.{kindKept, ascends, nodeKept, linkLimits, linkOrdered, commandLimits, commandOrdered}
+use Rattle.plan.specs.Tests.{longEnough, offsetsKept, countKept, sizesKept, horizonKept, kindKept, ascends, counts, countsKept, integratorKept}
+use Rattle.plan.specs.Tests.{inputKept, nodeKept, linkLimits, linkOrdered, commandLimits, commandOrdered}
 use Rattle.plan.specs.Refusals.{numberOf, isClean, orElse, firstFinding, horizonFinding, integratorsFinding, inputsFinding, nodesFinding}
 use Rattle.plan.specs.Refusals.{linksFinding, commandsFinding, planFinding, findingOf, accepted}
-use Rattle.plan.specs.Encoding.{offsetFrom, lengthOf, offsetOf, headerWords, integratorWords, inputWords, nodeWords, linkWords, commandWords}
-use Rattle.plan.specs.Encoding.{fileWords, encode}
+use Rattle.plan.specs.Encoding.{offsetFrom, headerWords, integratorWords, fileWords, encode}
 use Rattle.plan.specs.Idle.{idlePlan}
+use Rattle.plan.specs.Unused.{unusedNat, unusedInt, planUnused}
 use Rattle.plan.specs.Cases.{Case, case, AllRight, end, _&_}
-use Rattle.plan.specs.Files.{fileOf, cupFile, cupPlan}
+use Rattle.plan.specs.Files.{fileOf, cupPlan}
 use Rattle.plan.specs.declared.Plan.{Plan}
 use Rattle.machine.specs.Values.{nodeOf, valueWith, valueOf, sumOver, rateOf}
 use Rattle.machine.specs.Due.{upperLevel, lowerLevel, distance, ticksTo, dueTick, dueOf}
 use Rattle.machine.specs.Next.{nextCommand, commandTick, leastDue, nextTick}
 use Rattle.machine.specs.Start.{startSlope, startDue, startOf, startState, idleState}
 use Rattle.machine.specs.Reach.{isDue, setsInput, isCommanded, changes, dependsWith, linkReaches, reached}
-use Rattle.machine.specs.Instant.{positionAt, settingOf, settings, moves, eventBytes, eventsAt, outputs, slopeThen, xThen, dueThen}
-use Rattle.machine.specs.Instant.{takenAt, tickOf, instant, eventsOf}
+use Rattle.machine.specs.Instant.{positionAt, settingOf, settings, moves, eventBytes, eventsAt, outputs, slopeThen, xThen, dueThen, takenAt}
+use Rattle.machine.specs.Instant.{tickOf, instant, eventsOf}
 use Rattle.machine.specs.Status.{bars, barring, statusAt, integratorAt, statusOf, integratorOf, isPaused}
 use Rattle.machine.specs.Runs.{after, events, positionOf}
-use Rattle.machine.specs.Plain.{settled, plainStart, plainTick, plainPosition, plainOutputs, plainInstant, plainEventsOf}
-use Rattle.machine.specs.Plain.{plainStatus, plainIntegrator, lazyCount, plainFrom, plainEventsFrom, plainAfter, plainEvents}
-use Rattle.plan.specs.Unused.{unusedNat, unusedInt, planUnused}
-use Rattle.machine.specs.SoundTest.{planSound, runningUnused, integratorSound, runningSound}
-use Rattle.machine.specs.SoundTest.{isSound}
+use Rattle.machine.specs.Plain.{settled, plainStart, plainTick, plainPosition, plainOutputs, plainInstant, plainStatus, plainIntegrator}
+use Rattle.machine.specs.Plain.{lazyCount, plainFrom, plainAfter}
+use Rattle.machine.specs.SoundTest.{planSound, runningUnused, integratorSound, runningSound, isSound}
 use Rattle.machine.specs.declared.Running.{Running}
 use Rattle.machine.specs.declared.State.{State}
 use Rattle.machine.specs.declared.Engine.the-variants.{Lazy, Eager}
+use Rattle.examples.specs.P1toP9.{pumpFile}
 
 -- M and −M
 abbrev m : ℤ
@@ -48,18 +48,7 @@ minus-m = negsuc 1073741823
 
 -- ---- the plans, each of its file's bytes
 
--- "A cup in full"
-abbrev cup : Plan
-cup = planIn cupFile
-
--- its events, as document 01 lists them
-abbrev cupEvents : List ℕ
-cupEvents = 4 ∷ 0 ∷ 0 ∷ 0 ∷ 0 ∷ 0 ∷ 0 ∷ 0 ∷ 12 ∷ 0 ∷ 0 ∷ 0 ∷ 6 ∷ 0 ∷ 0 ∷ 0 ∷ 2 ∷ 0 ∷ 0 ∷ 0 ∷ 253 ∷ 255 ∷ 255 ∷ 255 ∷ []
-
--- ten ticks of an integrator of this start and quantum, with one input and a link from it of this coefficient
-abbrev pumpFile : ℤ → ℕ → ℤ → ℤ → List ℕ
-pumpFile start quantum value coefficient = fileOf 10 (wordOf start ∷ quantum ∷ []) (wordOf value ∷ []) [] (0 ∷ 1 ∷ wordOf coefficient ∷ []) []
-
+-- one integrator fed by one input
 abbrev pump : ℤ → ℕ → ℤ → ℤ → Plan
 pump start quantum value coefficient = planIn (pumpFile start quantum value coefficient)
 
@@ -113,7 +102,7 @@ eagerly p b = after p Eager b (startOf p)
 
 -- d of the cup's first integrator, whose quantum is 10, from l = 0
 abbrev dueFrom : ℤ → ℤ → ℤ → ℕ
-dueFrom x q s = dueOf cup (q ∷ []) 0 0 x s
+dueFrom x q s = dueOf cupPlan (q ∷ []) 0 0 x s
 
 -- running figures of the cup: positions, slopes, last-moved and due ticks of its two integrators, clock, next command, instants, updates
 abbrev figures : ℤ → ℤ → ℤ → ℤ → ℕ → ℕ → ℕ → ℕ → ℕ → ℕ → ℕ → ℕ → Running
@@ -131,7 +120,7 @@ figures x0 x1 s0 s1 l0 l1 d0 d1 clock next instants updates = record {
 }
 
 abbrev sound : Running → Bool
-sound r = isSound (record { plan = cup; run = r })
+sound r = isSound (record { plan = cupPlan; run = r })
 
 -- the cup after its first instant, with other positions and outputs
 abbrev placed : List ℤ → List ℤ → Running
@@ -196,65 +185,33 @@ input value =
       };
     }
 
-pub examples : List Case
-examples =
-    -- P1, from the file's bytes: "4 0 12", "6 2 -3", "end 1 6 2 3"; "Eager updates are 4. At clock 6 the positions are 18 and 24."
-    case Bool (accepted cupFile) true
-    ∷ case (List ℕ) (encode cup) cupFile
-    ∷ case (List ℕ) (events cup Lazy 64 (startOf cup)) cupEvents
-    ∷ case ℕ (statusOf cup (lazily cup 64)) 1
-    ∷ case ℕ (integratorOf cup (lazily cup 64)) 0
-    ∷ case ℕ (lazily cup 64 .clock) 6
-    ∷ case ℕ (lazily cup 64 .instants) 2
-    ∷ case ℕ (lazily cup 64 .updates) 3
-    ∷ case ℕ (eagerly cup 64 .updates) 4
-    ∷ case ℤ (positionOf (lazily cup 64) 0) (pos 18)
-    ∷ case ℤ (positionOf (lazily cup 64) 1) (pos 24)
-    ∷ case ℤ (positionOf (eagerly cup 64) 0) (pos 18)
-    ∷ case ℤ (positionOf (eagerly cup 64) 1) (pos 24)
-    ∷ case (List ℕ) (events cup Eager 64 (startOf cup)) cupEvents
-    -- and its plain machine
-    ∷ case (List ℕ) (plainEvents cup 64) cupEvents
-    ∷ case ℕ (plainStatus cup (plainAfter cup 64)) 1
-    ∷ case ℕ (plainIntegrator cup (plainAfter cup 64)) 0
-    ∷ case (List ℤ) (plainAfter cup 64 .x) (pos 18 ∷ pos 24 ∷ replicate 30 (pos 0))
-    ∷ case (List ℤ) (plainAfter cup 64 .q) (pos 12 ∷ replicate 31 (pos 0))
-    ∷ case (List ℤ) (plainAfter cup 64 .s) (negsuc 2 ∷ pos 12 ∷ replicate 30 (pos 0))
-    ∷ case (List ℕ) (plainAfter cup 64 .d) (12 ∷ 88 ∷ replicate 30 0)
-    ∷ case (List ℤ) (lazily cup 64 .q) (pos 12 ∷ replicate 31 (pos 0))
-    ∷ case (List ℤ) (lazily cup 64 .s) (negsuc 2 ∷ pos 12 ∷ replicate 30 (pos 0))
-    ∷ case (List ℕ) (lazily cup 64 .d) (12 ∷ 88 ∷ replicate 30 0)
-    ∷ case ℕ (plainAfter cup 64 .instants) 2
-    ∷ case ℕ (lazyCount cup (plainAfter cup 0)) 2
-    ∷ case ℕ (lazyCount cup (plainAfter cup 1)) 1
+pub further : List Case
+further =
+    -- the cup at its end: finished names no integrator; outputs, slopes and due ticks by the plain machine and by the lazy engine; and what the
+    -- lazy engine moves at each of the two instants, with the plain machine's due ticks
+    case ℕ (plainIntegrator cupPlan (plainAfter cupPlan 64)) 0
+    ∷ case ℕ (integratorOf cupPlan (lazily cupPlan 64)) 0
+    ∷ case (List ℤ) (plainAfter cupPlan 64 .q) (pos 12 ∷ replicate 31 (pos 0))
+    ∷ case (List ℤ) (plainAfter cupPlan 64 .s) (negsuc 2 ∷ pos 12 ∷ replicate 30 (pos 0))
+    ∷ case (List ℕ) (plainAfter cupPlan 64 .d) (12 ∷ 88 ∷ replicate 30 0)
+    ∷ case (List ℤ) (lazily cupPlan 64 .q) (pos 12 ∷ replicate 31 (pos 0))
+    ∷ case (List ℤ) (lazily cupPlan 64 .s) (negsuc 2 ∷ pos 12 ∷ replicate 30 (pos 0))
+    ∷ case (List ℕ) (lazily cupPlan 64 .d) (12 ∷ 88 ∷ replicate 30 0)
+    ∷ case ℕ (lazyCount cupPlan (plainAfter cupPlan 0)) 2
+    ∷ case ℕ (lazyCount cupPlan (plainAfter cupPlan 1)) 1
     -- the whole state after its first instant: what is due gives its position, what is reached keeps its output, unused entries stay 0
-    ∷ case Running (lazily cup 1) (figures (pos 12) (pos 0) (pos 3) (pos 12) 4 4 8 88 4 0 1 2)
-    ∷ case (List ℕ) (startOf cup .d) (4 ∷ 4294967295 ∷ replicate 30 0)
-    ∷ case (List ℤ) (startOf cup .s) (pos 3 ∷ pos 0 ∷ replicate 30 (pos 0))
-    ∷ case ℕ (statusOf cup (startOf cup)) 0
-    -- P2 to P5: T, and never
-    ∷ case ℕ (dueFrom (pos 0) (pos 0) (pos 3)) 4
-    ∷ case ℕ (dueFrom (pos 18) (pos 12) (negsuc 2)) 6
-    ∷ case ℕ (dueFrom (pos 0) (pos 0) (pos 0)) 4294967295
-    ∷ case ℕ (dueFrom (pos 0) (pos 0) (pos 9)) 2
-    ∷ case ℕ (dueFrom (pos 0) (pos 0) (pos 10)) 1
-    ∷ case ℕ (dueFrom (pos 0) (pos 0) (pos 11)) 1
-    ∷ case Bool (accepted (pumpFile (pos 0) 10 (pos 11) (pos 65536))) true
-    ∷ case ℤ (int (lazily (pump (pos 0) 10 (pos 11) (pos 65536)) 1 .q) 0) (pos 11)
+    ∷ case Running (lazily cupPlan 1) (figures (pos 12) (pos 0) (pos 3) (pos 12) 4 4 8 88 4 0 1 2)
+    -- and at its start
+    ∷ case (List ℕ) (startOf cupPlan .d) (4 ∷ 4294967295 ∷ replicate 30 0)
+    ∷ case (List ℤ) (startOf cupPlan .s) (pos 3 ∷ pos 0 ∷ replicate 30 (pos 0))
+    ∷ case ℕ (statusOf cupPlan (startOf cupPlan)) 0
     -- past a level, the level ahead is reached after one tick; towards the other one, after the whole distance
     ∷ case ℕ (dueFrom (pos 25) (pos 12) (pos 3)) 1
     ∷ case ℕ (dueFrom (pos 22) (pos 12) (pos 3)) 1
     ∷ case ℕ (dueFrom (negsuc 2) (pos 12) (negsuc 2)) 1
     ∷ case ℕ (dueFrom (pos 25) (pos 12) (negsuc 2)) 8
     ∷ case ℕ (dueFrom (negsuc 2) (pos 12) (pos 3)) 9
-    -- P6: slopes of the sums −1, −65,536, 65,535, 65,536
-    ∷ case ℤ (startSlope (pump (pos 0) 10 (negsuc 0) (pos 1)) 0) (negsuc 0)
-    ∷ case ℤ (startSlope (pump (pos 0) 10 (negsuc 65535) (pos 1)) 0) (negsuc 0)
-    ∷ case ℤ (startSlope (pump (pos 0) 10 (pos 65535) (pos 1)) 0) (pos 0)
-    ∷ case ℤ (startSlope (pump (pos 0) 10 (pos 65536) (pos 1)) 0) (pos 1)
-    -- P7, P8, and the other kinds: differences and products are clipped to ±M, products are rounded down
-    ∷ case ℤ (nodeOf 1 (pos 0) (pos 0) (pos 1) (negsuc 0)) (negsuc 0)
-    ∷ case ℤ (nodeOf 3 (pos 1) (pos 2) (pos 7) (pos 7)) (pos 2)
+    -- the kinds of nodes: differences and products are clipped to ±M, products are rounded down
     ∷ case ℤ (nodeOf 3 (pos 1) (pos 2) (pos 7) (pos 8)) (pos 1)
     ∷ case ℤ (nodeOf 3 (pos 1) (pos 2) (pos 8) (pos 7)) (pos 2)
     ∷ case ℤ (nodeOf 0 (pos 0) (pos 0) (pos 5) (pos 8)) (negsuc 2)
@@ -266,11 +223,7 @@ examples =
     ∷ case ℤ (nodeOf 2 (negsuc 4) (pos 5) (pos 6) (pos 0)) (pos 5)
     ∷ case ℤ (nodeOf 2 (negsuc 4) (pos 5) (negsuc 5) (pos 0)) (negsuc 4)
     ∷ case ℤ (nodeOf 2 (negsuc 4) (pos 5) (pos 4) (pos 9)) (pos 4)
-    -- P9: a due value of M passes, M + 1 bars; so do −M and −M − 1
-    ∷ case ℕ (statusOf (pump (pos 1073741823) 1 (pos 1) (pos 65536)) (lazily (pump (pos 1073741823) 1 (pos 1) (pos 65536)) 0)) 0
-    ∷ case ℤ (int (lazily (pump (pos 1073741823) 1 (pos 1) (pos 65536)) 1 .q) 0) m
-    ∷ case ℕ (statusOf (pump (pos 1073741823) 1 (pos 2) (pos 65536)) (lazily (pump (pos 1073741823) 1 (pos 2) (pos 65536)) 1)) 2
-    ∷ case ℕ (lazily (pump (pos 1073741823) 1 (pos 2) (pos 65536)) 1 .instants) 0
+    -- a due value of −M passes, −M − 1 bars
     ∷ case ℤ (int (lazily (pump (negsuc 1073741822) 1 (negsuc 0) (pos 65536)) 1 .q) 0) minus-m
     ∷ case ℕ (statusOf (pump (negsuc 1073741822) 1 (negsuc 1) (pos 65536)) (lazily (pump (negsuc 1073741822) 1 (negsuc 1) (pos 65536)) 0)) 2
     -- finished goes before range: the value would be beyond M, but its tick is above the horizon
@@ -334,10 +287,10 @@ examples =
     ∷ case ℕ (statusOf (idleState .plan) (idleState .run)) 1
     ∷ case State (startState (planIn (encode idlePlan))) idleState
     -- sound states: loaded, idle, after runs; between two instants with no instant counted
-    ∷ case Bool (isSound (startState cup)) true
+    ∷ case Bool (isSound (startState cupPlan)) true
     ∷ case Bool (isSound idleState) true
-    ∷ case Bool (sound (lazily cup 64)) true
-    ∷ case Bool (sound (eagerly cup 64)) true
+    ∷ case Bool (sound (lazily cupPlan 64)) true
+    ∷ case Bool (sound (eagerly cupPlan 64)) true
     ∷ case Bool (sound (figures (pos 12) (pos 0) (pos 3) (pos 12) 4 4 8 88 5 0 0 0)) true
     ∷ case Bool (sound (figures (pos 13) (pos 1) (pos 3) (pos 12) 4 4 7 88 4 0 4 8)) true
     -- and states that are not: x at a level, a wrong slope, a wrong due tick, l above c, c at d, c above the horizon, a wrong next command,
@@ -365,25 +318,22 @@ examples =
     ∷ case Bool (isSound (planned 10 9 (replicate 32 (pos 0)))) false
     ∷ []
 
--- every example is right: each pair of values is equal by computation
-pub examples-right : AllRight examples
-unfolding examples ceilDiv limited within countOf numberAt bytesOf signedOf unsignedOf flat table row joined every some all firstFrom
+-- every case is right: each pair of values is equal by computation
+pub further-right : AllRight further
+unfolding further ceilDiv limited within countOf numberAt bytesOf signedOf unsignedOf flat table row joined every some all firstFrom
     horizonIn offsetIn lengthIn startIn countIn part sectionIn columnOf columnIn planIn longEnough offsetsKept countKept sizesKept
-    horizonKept counts countsKept integratorKept inputKept kindKept ascends nodeKept linkLimits linkOrdered commandLimits
-    commandOrdered numberOf isClean orElse firstFinding horizonFinding integratorsFinding inputsFinding nodesFinding linksFinding
-    commandsFinding planFinding findingOf accepted offsetFrom lengthOf offsetOf headerWords integratorWords inputWords nodeWords linkWords
-    commandWords fileWords encode nodeOf valueWith valueOf sumOver rateOf upperLevel lowerLevel distance ticksTo dueTick dueOf
-    nextCommand commandTick leastDue nextTick startSlope startDue startOf startState idleState isDue setsInput isCommanded changes
-    dependsWith linkReaches reached positionAt settingOf settings moves eventBytes eventsAt outputs slopeThen xThen dueThen takenAt
-    tickOf instant eventsOf bars barring statusAt integratorAt statusOf integratorOf isPaused after events positionOf settled
-    plainStart plainTick plainPosition plainOutputs plainInstant plainEventsOf plainStatus plainIntegrator lazyCount plainFrom
-    plainEventsFrom plainAfter plainEvents unusedNat unusedInt planUnused planSound runningUnused integratorSound runningSound
-    isSound
-examples-right =
+    horizonKept kindKept ascends counts countsKept integratorKept inputKept nodeKept linkLimits linkOrdered commandLimits commandOrdered
+    numberOf isClean orElse firstFinding horizonFinding integratorsFinding inputsFinding nodesFinding linksFinding commandsFinding
+    planFinding findingOf accepted offsetFrom headerWords integratorWords fileWords encode unusedNat unusedInt planUnused nodeOf valueWith
+    valueOf sumOver rateOf upperLevel lowerLevel distance ticksTo dueTick dueOf nextCommand commandTick leastDue nextTick startSlope
+    startDue startOf startState idleState isDue setsInput isCommanded changes dependsWith linkReaches reached positionAt settingOf
+    settings moves eventBytes eventsAt outputs slopeThen xThen dueThen takenAt tickOf instant eventsOf bars barring statusAt integratorAt
+    statusOf integratorOf isPaused after events positionOf settled plainStart plainTick plainPosition plainOutputs plainInstant
+    plainStatus plainIntegrator lazyCount plainFrom plainAfter planSound runningUnused integratorSound runningSound isSound
+further-right =
     refl & refl & refl & refl & refl & refl & refl & refl & refl & refl & refl & refl & refl & refl & refl & refl & refl & refl & refl & refl &
     refl & refl & refl & refl & refl & refl & refl & refl & refl & refl & refl & refl & refl & refl & refl & refl & refl & refl & refl & refl &
     refl & refl & refl & refl & refl & refl & refl & refl & refl & refl & refl & refl & refl & refl & refl & refl & refl & refl & refl & refl &
     refl & refl & refl & refl & refl & refl & refl & refl & refl & refl & refl & refl & refl & refl & refl & refl & refl & refl & refl & refl &
     refl & refl & refl & refl & refl & refl & refl & refl & refl & refl & refl & refl & refl & refl & refl & refl & refl & refl & refl & refl &
-    refl & refl & refl & refl & refl & refl & refl & refl & refl & refl & refl & refl & refl & refl & refl & refl & refl & refl & refl & refl &
-    refl & refl & refl & refl & refl & refl & refl & refl & refl & refl & refl & refl & refl & refl & refl & refl & refl & refl & refl & refl & end
+    refl & refl & refl & refl & refl & end
