@@ -2,8 +2,9 @@
 //! and compared with this simulator: the load of faulty files, the soundness of states filled by
 //! hand, and lists of run calls with what the plain machine makes of them.
 //!
-//! A crate of cases is put beside copies of the repository's crates in a folder of its own and
-//! checked there by the toolchain's `rt`. Each case is an equation that holds by computation alone.
+//! A crate of cases is put beside copies of the repository's crates with the definitions, in a folder
+//! of its own, and checked there by the toolchain's `rt`. Each case is an equation that holds by
+//! computation alone.
 //! The variable CUP_CASES asks for that many times as many random cases.
 
 mod cases;

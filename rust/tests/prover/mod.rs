@@ -1,5 +1,5 @@
-//! A repository of the toolchain's in a folder of its own: the crates of this one, and a crate of
-//! cases beside them.
+//! A repository of the toolchain's in a folder of its own: of the crates of this one those with the
+//! definitions, and a crate of cases beside them.
 
 pub mod antt;
 
@@ -8,6 +8,8 @@ use std::fs;
 use std::path::{Path, PathBuf};
 use std::process::Command;
 
+/// The crate with the definitions of what the calls answer: the cases see it, and what it sees.
+const OWNER: &str = "calls";
 /// Where the table of the calls' worked examples stands. The cases use what it uses and open what
 /// it opens.
 const TABLE: &str = "crates/examples/specs/Calls.antt";
@@ -71,7 +73,8 @@ pub struct Repository {
 }
 
 impl Repository {
-    /// Copies of the crates that are listed, with their definitions, sources and proofs.
+    /// Copies of the crate with the definitions and of those that it sees, with their definitions, sources
+    /// and proofs. The cases need no other, and one that is not proved as it stands would be proved here.
     pub fn beside_the_crates() -> Repository {
         let root = Path::new(env!("CARGO_MANIFEST_DIR")).join("..");
         let table = fs::read_to_string(root.join(TABLE)).expect(TABLE);
@@ -82,9 +85,13 @@ impl Repository {
             uses: uses_of(&table),
             opened: opened_by(&table),
         };
+        let listed = fs::read_to_string(root.join("crates.txt")).expect("crates.txt");
+        let crates = with_those_it_sees(OWNER, &listed);
         repository.clear();
-        repository.copy_crates(&root);
-        repository.add_cases(&root);
+        for name in &crates {
+            repository.copy_crate(&root, name);
+        }
+        repository.add_cases(&listed, &crates);
         repository
     }
 
@@ -96,26 +103,26 @@ impl Repository {
         fs::create_dir(&self.folder).expect("a folder of its own");
     }
 
-    fn copy_crates(&self, root: &Path) {
-        copy(&root.join("crates"), &self.folder.join("crates"));
-        // What the toolchain has proved already, by the contents of the files, it does not prove again.
-        for proved in ["target/rlib", "target/stamp"] {
-            if root.join(proved).is_dir() {
-                copy(&root.join(proved), &self.folder.join(proved));
+    /// What the toolchain has proved already, by the contents of the files, it does not prove again.
+    fn copy_crate(&self, root: &Path, name: &str) {
+        let places = [
+            format!("crates/{name}"),
+            format!("target/rlib/{name}.rlib"),
+            format!("target/stamp/{name}"),
+        ];
+        for place in places {
+            if root.join(&place).exists() {
+                copy(&root.join(&place), &self.folder.join(&place));
             }
         }
     }
 
-    /// Lists a crate of cases, without code, that sees all libraries; a program cannot be seen.
-    fn add_cases(&self, root: &Path) {
-        let listed = fs::read_to_string(root.join("crates.txt")).expect("crates.txt");
-        let is_library = |name: &&str| root.join("crates").join(name).join("src/lib.rt").is_file();
-        let names = listed.lines().filter_map(name_of).filter(is_library);
-        let names: Vec<&str> = names.collect();
-        self.write(
-            "crates.txt",
-            &format!("{listed}cases: {}\n", names.join(" ")),
-        );
+    /// Lists the crates that are copied, and a crate of cases, without code, that sees them all.
+    fn add_cases(&self, listed: &str, crates: &[&str]) {
+        let is_copied = |line: &&str| name_of(line).is_some_and(|name| crates.contains(&name));
+        let copied: Vec<&str> = listed.lines().filter(is_copied).collect();
+        let lines = format!("{}\ncases: {}\n", copied.join("\n"), crates.join(" "));
+        self.write("crates.txt", &lines);
         self.write("crates/cases/src/lib.rt", "// Cases alone: no code.\n");
         self.write("crates/cases/specs/Lib.antt", "pub mod Cases\n");
     }
@@ -168,6 +175,14 @@ fn name_of(line: &str) -> Option<&str> {
         .filter(|name| !name.starts_with('#'))
 }
 
+/// A crate, and those that it sees by its line of crates.txt.
+fn with_those_it_sees<'l>(name: &'l str, listed: &'l str) -> Vec<&'l str> {
+    let is_its = |line: &&str| name_of(line) == Some(name);
+    let line = listed.lines().find(is_its).expect("a line of the crate");
+    let (_, seen) = line.split_once(':').expect("what it sees");
+    seen.split_whitespace().chain([name]).collect()
+}
+
 /// The lines of a module that bring names in.
 fn uses_of(table: &str) -> String {
     let lines = table.lines().filter(|line| line.starts_with("use "));
@@ -183,14 +198,16 @@ fn opened_by(table: &str) -> String {
     names.split_whitespace().collect::<Vec<_>>().join(" ")
 }
 
+/// Copies a file, or a folder with all that is in it.
 fn copy(from: &Path, to: &Path) {
+    if !from.is_dir() {
+        fs::create_dir_all(to.parent().expect("a folder")).expect("a folder of its own");
+        fs::copy(from, to).expect("a copy");
+        return;
+    }
     fs::create_dir_all(to).expect("a folder of its own");
     for entry in fs::read_dir(from).expect("a folder") {
-        let entry = entry.expect("an entry");
-        let (from, to) = (entry.path(), to.join(entry.file_name()));
-        match entry.file_type().expect("a type").is_dir() {
-            true => copy(&from, &to),
-            false => fs::copy(&from, &to).map(|_| ()).expect("a copy"),
-        }
+        let name = entry.expect("an entry").file_name();
+        copy(&from.join(&name), &to.join(&name));
     }
 }
