@@ -6,10 +6,9 @@ use mathlib.Core.List.{List, [], _∷_, _++_}
 use Prim.Native.Nat.{ℕ, _+_}
 use lib.Dec.{eqb}
 use lib.ListN.{take}
-use Rattle.machine.specs.declared.Engine.{Engine}
 use Rattle.machine.specs.declared.State.{State}
 use Rattle.calls.specs.Calls.{runOf, bufferOfRun}
-use Rattle.calls.specs.Lists.{Call, answerOf, bufferOf, AllBy}
+use Rattle.calls.specs.Lists.{Call, answerOf, bufferOf}
 use Rattle.calls.specs.declared.Ran.{Ran}
 
 pub record Made : Type 0 where
@@ -48,10 +47,6 @@ writtenBytes (made ∷ later) = take (made .answer .written) (made .buffer) ++ w
 unfoldable pub callsOf : List Made → List Call
 callsOf [] = []
 callsOf (made ∷ later) = made .call ∷ callsOf later
-
--- every call of a session is made by one engine
-abbrev pub AllMadeBy : Engine → List Made → Type 0
-AllMadeBy engine made = AllBy engine (callsOf made)
 
 -- the session of a list of calls: what each answers and leaves in its buffer, of the state that the call before it returned
 unfoldable pub madeBy : State → List Call → List Made

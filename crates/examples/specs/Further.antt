@@ -32,12 +32,12 @@ use Rattle.machine.specs.Instant.{tickOf, instant, eventsOf}
 use Rattle.machine.specs.Status.{bars, barring, statusAt, integratorAt, statusOf, integratorOf, isPaused}
 use Rattle.machine.specs.Runs.{after, events, positionOf}
 use Rattle.machine.specs.Plain.{settled, plainStart, plainTick, plainPosition, plainOutputs, plainInstant, plainStatus, plainIntegrator}
-use Rattle.machine.specs.Plain.{lazyCount, plainFrom, plainAfter}
+use Rattle.machine.specs.Plain.{plainEventsOf, plainEventsFrom, plainEvents, lazyCount, plainFrom, plainAfter}
 use Rattle.machine.specs.SoundTest.{planSound, runningUnused, integratorSound, runningSound, isSound}
 use Rattle.machine.specs.declared.Running.{Running}
 use Rattle.machine.specs.declared.State.{State}
 use Rattle.machine.specs.declared.Engine.the-variants.{Lazy, Eager}
-use Rattle.examples.specs.P1toP9.{pumpFile}
+use Rattle.examples.specs.P1toP9.{cupEvents, pumpFile}
 
 -- M and −M
 abbrev m : ℤ
@@ -187,9 +187,13 @@ input value =
 
 pub further : List Case
 further =
+    -- the cup by the plain machine: its events; status, clock and instants; positions
+    case (List ℕ) (plainEvents cupPlan 64) cupEvents
+    ∷ case (List ℕ) (plainStatus cupPlan (plainAfter cupPlan 64) ∷ plainAfter cupPlan 64 .clock ∷ plainAfter cupPlan 64 .instants ∷ []) (1 ∷ 6 ∷ 2 ∷ [])
+    ∷ case (List ℤ) (plainAfter cupPlan 64 .x) (pos 18 ∷ pos 24 ∷ replicate 30 (pos 0))
     -- the cup at its end: finished names no integrator; outputs, slopes and due ticks by the plain machine and by the lazy engine; and what the
     -- lazy engine moves at each of the two instants, with the plain machine's due ticks
-    case ℕ (plainIntegrator cupPlan (plainAfter cupPlan 64)) 0
+    ∷ case ℕ (plainIntegrator cupPlan (plainAfter cupPlan 64)) 0
     ∷ case ℕ (integratorOf cupPlan (lazily cupPlan 64)) 0
     ∷ case (List ℤ) (plainAfter cupPlan 64 .q) (pos 12 ∷ replicate 31 (pos 0))
     ∷ case (List ℤ) (plainAfter cupPlan 64 .s) (negsuc 2 ∷ pos 12 ∷ replicate 30 (pos 0))
@@ -228,7 +232,7 @@ further =
     ∷ case ℕ (statusOf (pump (negsuc 1073741822) 1 (negsuc 1) (pos 65536)) (lazily (pump (negsuc 1073741822) 1 (negsuc 1) (pos 65536)) 0)) 2
     -- finished goes before range: the value would be beyond M, but its tick is above the horizon
     ∷ case ℕ (statusOf (pump (pos 1073741823) 100 (pos 9) (pos 65536)) (startOf (pump (pos 1073741823) 100 (pos 9) (pos 65536)))) 1
-    -- the due integrator 0 is no operand of a node of kind 2 whose B is 0, so the node's listener is not reached; by kind 0 it is, through
+    -- the due integrator 0 is no operand of a node of kind 2 whose B is 0, so the integrator that the node feeds is not reached; by kind 0 it is, through
     -- a second node too
     ∷ case Bool (accepted limitFile) true
     ∷ case Bool (reached (planIn limitFile) (startOf (planIn limitFile) .d) 4 1) false
@@ -329,11 +333,11 @@ unfolding further ceilDiv limited within countOf numberAt bytesOf signedOf unsig
     startDue startOf startState idleState isDue setsInput isCommanded changes dependsWith linkReaches reached positionAt settingOf
     settings moves eventBytes eventsAt outputs slopeThen xThen dueThen takenAt tickOf instant eventsOf bars barring statusAt integratorAt
     statusOf integratorOf isPaused after events positionOf settled plainStart plainTick plainPosition plainOutputs plainInstant
-    plainStatus plainIntegrator lazyCount plainFrom plainAfter planSound runningUnused integratorSound runningSound isSound
+    plainStatus plainIntegrator plainEventsOf plainEventsFrom plainEvents lazyCount plainFrom plainAfter planSound runningUnused integratorSound runningSound isSound
 further-right =
     refl & refl & refl & refl & refl & refl & refl & refl & refl & refl & refl & refl & refl & refl & refl & refl & refl & refl & refl & refl &
     refl & refl & refl & refl & refl & refl & refl & refl & refl & refl & refl & refl & refl & refl & refl & refl & refl & refl & refl & refl &
     refl & refl & refl & refl & refl & refl & refl & refl & refl & refl & refl & refl & refl & refl & refl & refl & refl & refl & refl & refl &
     refl & refl & refl & refl & refl & refl & refl & refl & refl & refl & refl & refl & refl & refl & refl & refl & refl & refl & refl & refl &
     refl & refl & refl & refl & refl & refl & refl & refl & refl & refl & refl & refl & refl & refl & refl & refl & refl & refl & refl & refl &
-    refl & refl & refl & refl & refl & end
+    refl & refl & refl & refl & refl & refl & refl & refl & end

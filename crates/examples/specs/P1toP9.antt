@@ -2,7 +2,7 @@
 -- example and what it says of it. Further worked examples of the machine stand in Further.antt.
 use mathlib.Core.Path.{refl}
 use mathlib.Core.List.{List, [], _∷_, _++_}
-use Prim.Native.Nat.{ℕ, _+_}
+use Prim.Native.Nat.{ℕ}
 use lib.IntN.{ℤ, pos, negsuc}
 use lib.ListN.{replicate}
 use Rattle.integers.specs.Division.{ceilDiv}
@@ -10,7 +10,7 @@ use Rattle.integers.specs.Range.{limited, within}
 use Rattle.bitset.specs.Mask.{countOf}
 use Rattle.words.specs.Word.{numberAt, bytesOf, signedOf, unsignedOf, wordOf, flat}
 use Rattle.plan.specs.Lists.{int, table, row, joined, every, some, all, firstFrom}
-use Rattle.plan.specs.Format.{M, sections, horizonIn, offsetIn, lengthIn, startIn, countIn, part, sectionIn, columnOf, columnIn, planIn}
+use Rattle.plan.specs.Format.{sections, horizonIn, offsetIn, lengthIn, startIn, countIn, part, sectionIn, columnOf, columnIn, planIn}
 use Rattle.plan.specs.Tests.{longEnough, offsetsKept, countKept, sizesKept, horizonKept, ascends, counts, countsKept, integratorKept, inputKept}
 use Rattle.plan.specs.Tests.{linkLimits, linkOrdered, commandLimits, commandOrdered}
 use Rattle.plan.specs.Refusals.{numberOf, isClean, orElse, firstFinding, horizonFinding, integratorsFinding, inputsFinding, nodesFinding}
@@ -21,7 +21,7 @@ use Rattle.plan.specs.Cases.{Case, case, AllRight, end, _&_}
 use Rattle.plan.specs.Files.{fileOf, cupFile, cupPlan}
 use Rattle.plan.specs.declared.Plan.{Plan}
 use Rattle.machine.specs.Values.{nodeOf, valueWith, valueOf, sumOver, rateOf}
-use Rattle.machine.specs.Due.{never, upperLevel, lowerLevel, distance, ticksTo, dueTick, dueOf}
+use Rattle.machine.specs.Due.{upperLevel, lowerLevel, distance, ticksTo, dueTick, dueOf}
 use Rattle.machine.specs.Next.{nextCommand, commandTick, leastDue, nextTick}
 use Rattle.machine.specs.Start.{startSlope, startDue, startOf, startState}
 use Rattle.machine.specs.Reach.{isDue, setsInput, isCommanded, changes, dependsWith, linkReaches, reached}
@@ -29,8 +29,6 @@ use Rattle.machine.specs.Instant.{positionAt, settingOf, settings, moves, event
 use Rattle.machine.specs.Instant.{tickOf, instant, eventsOf}
 use Rattle.machine.specs.Status.{bars, barring, statusAt, statusOf, isPaused}
 use Rattle.machine.specs.Runs.{after, events, positionOf}
-use Rattle.machine.specs.Plain.{settled, plainStart, plainTick, plainPosition, plainOutputs, plainInstant, plainEventsOf, plainStatus, plainFrom}
-use Rattle.machine.specs.Plain.{plainEventsFrom, plainAfter, plainEvents}
 use Rattle.machine.specs.SoundTest.{planSound, runningUnused, integratorSound, runningSound, isSound}
 use Rattle.machine.specs.declared.Engine.{Engine}
 use Rattle.machine.specs.declared.Engine.the-variants.{Lazy, Eager}
@@ -75,7 +73,7 @@ cupText =
     ++ (54 ∷ 32 ∷ 50 ∷ 32 ∷ 45 ∷ 51 ∷ 10 ∷ [])
     ++ (101 ∷ 110 ∷ 100 ∷ 32 ∷ 49 ∷ 32 ∷ 54 ∷ 32 ∷ 50 ∷ 32 ∷ 51 ∷ 10 ∷ [])
 
-abbrev cupEvents : List ℕ
+abbrev pub cupEvents : List ℕ
 cupEvents = 4 ∷ 0 ∷ 0 ∷ 0 ∷ 0 ∷ 0 ∷ 0 ∷ 0 ∷ 12 ∷ 0 ∷ 0 ∷ 0 ∷ 6 ∷ 0 ∷ 0 ∷ 0 ∷ 2 ∷ 0 ∷ 0 ∷ 0 ∷ 253 ∷ 255 ∷ 255 ∷ 255 ∷ []
 
 -- the listing of the whole run, and what the program's loop prints in its one turn of budget 64
@@ -110,18 +108,6 @@ p1-lazy-positions = case (List ℤ) (table 2 (λ i. positionedOf (ran Lazy 64 cu
 abbrev p1-eager-positions : Case
 p1-eager-positions = case (List ℤ) (table 2 (λ i. positionedOf (ran Eager 64 cupFile .state) i .value)) (pos 18 ∷ pos 24 ∷ [])
 
--- the plain machine, which counts no updates
-abbrev p1-plain-events : Case
-p1-plain-events = case (List ℕ) (plainEvents cupPlan 64) cupEvents
-
-abbrev p1-plain-end : Case
-p1-plain-end =
-    let plain = plainAfter cupPlan 64 in
-    case (List ℕ) (plainStatus cupPlan plain ∷ plain .clock ∷ plain .instants ∷ []) (1 ∷ 6 ∷ 2 ∷ [])
-
-abbrev p1-plain-positions : Case
-p1-plain-positions = case (List ℤ) (plainAfter cupPlan 64 .x) (pos 18 ∷ pos 24 ∷ replicate 30 (pos 0))
-
 -- ---- P2 to P5
 
 -- the file of ten ticks of an integrator of this start and quantum, with one input and a link from it of this coefficient
@@ -140,9 +126,9 @@ p2-rising = case ℕ (due (pos 0) (pos 0) 10 (pos 3)) 4
 abbrev p3-falling : Case
 p3-falling = case ℕ (due (pos 18) (pos 12) 10 (negsuc 2)) 6
 
--- "s=0: never."
+-- "s=0: never.", which is 2^32 − 1
 abbrev p4-still : Case
-p4-still = case ℕ (due (pos 0) (pos 0) 10 (pos 0)) never
+p4-still = case ℕ (due (pos 0) (pos 0) 10 (pos 0)) 4294967295
 
 -- "x=q=0, D=10: s=9 gives 2, s=10 gives 1, s=11 gives 1 with next output 11."
 abbrev p5-below : Case
@@ -197,16 +183,16 @@ abbrev dueValue : List ℕ → ℤ
 dueValue file = positionAt (loadOf file .state .run) 1 0
 
 abbrev p9-m : Case
-p9-m = case ℤ (dueValue passingFile) (pos M)
+p9-m = case ℤ (dueValue passingFile) (pos 1073741824)
 
 abbrev p9-m-passes : Case
 p9-m-passes = case ℕ (ran Lazy 0 passingFile .status) 0
 
 abbrev p9-m-taken : Case
-p9-m-taken = case ℤ (int (ran Lazy 1 passingFile .state .run .q) 0) (pos M)
+p9-m-taken = case ℤ (int (ran Lazy 1 passingFile .state .run .q) 0) (pos 1073741824)
 
 abbrev p9-above-m : Case
-p9-above-m = case ℤ (dueValue barredFile) (pos (M + 1))
+p9-above-m = case ℤ (dueValue barredFile) (pos 1073741825)
 
 abbrev p9-above-m-bars : Case
 p9-above-m-bars = case ℕ (ran Lazy 1 barredFile .status) 2
@@ -217,7 +203,7 @@ p9-above-m-not-taken = case ℕ (ran Lazy 1 barredFile .state .run .instants) 0
 pub p1-to-p9 : List Case
 p1-to-p9 =
     p1-accepted ∷ p1-plan ∷ p1-file ∷ p1-pairs ∷ p1-listing ∷ p1-printed ∷ p1-end ∷ p1-lazy-events ∷ p1-eager-events ∷ p1-eager-end
-    ∷ p1-lazy-positions ∷ p1-eager-positions ∷ p1-plain-events ∷ p1-plain-end ∷ p1-plain-positions
+    ∷ p1-lazy-positions ∷ p1-eager-positions
     ∷ p2-rising ∷ p3-falling ∷ p4-still ∷ p5-below ∷ p5-at ∷ p5-above ∷ p5-next-output ∷ p6-sums ∷ p6-slopes ∷ p7-product ∷ p8-comparison
     ∷ p9-m ∷ p9-m-passes ∷ p9-m-taken ∷ p9-above-m ∷ p9-above-m-bars ∷ p9-above-m-not-taken ∷ []
 
@@ -231,10 +217,9 @@ unfolding p1-to-p9 ceilDiv limited within countOf numberAt bytesOf signedOf unsi
     nodeOf valueWith valueOf sumOver rateOf upperLevel lowerLevel distance ticksTo dueTick dueOf nextCommand commandTick leastDue nextTick
     startSlope startDue startOf startState isDue setsInput isCommanded changes dependsWith linkReaches reached positionAt settingOf
     settings moves eventBytes eventsAt outputs slopeThen xThen dueThen takenAt tickOf instant eventsOf bars barring statusAt statusOf
-    isPaused after events positionOf settled plainStart plainTick plainPosition plainOutputs plainInstant plainEventsOf plainStatus
-    plainFrom plainEventsFrom plainAfter plainEvents planSound runningUnused integratorSound runningSound isSound digitsIn decimal
-    signedDecimal eventLine endLine lineAt linesOf loadOf roomOf declineOf runNumber ranState ranEvents runOf bufferOfRun positionNumber
-    positionedOf eventLines closing listedBy listingOf turnState turnMore turnText firstText turnsFrom printedIn
+    isPaused after events positionOf planSound runningUnused integratorSound runningSound isSound digitsIn decimal signedDecimal eventLine
+    endLine lineAt linesOf loadOf roomOf declineOf runNumber ranState ranEvents runOf bufferOfRun positionNumber positionedOf eventLines
+    closing listedBy listingOf turnState turnMore turnText firstText turnsFrom printedIn
 p1-to-p9-right =
     refl & refl & refl & refl & refl & refl & refl & refl & refl & refl & refl & refl & refl & refl & refl & refl & refl & refl & refl & refl &
-    refl & refl & refl & refl & refl & refl & refl & refl & refl & refl & refl & refl & end
+    refl & refl & refl & refl & refl & refl & refl & refl & refl & end

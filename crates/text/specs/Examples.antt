@@ -33,7 +33,7 @@ minus-hundred : signedDecimal (negℤ (pos 100)) ≡ 45 ∷ 49 ∷ 48 ∷ 48 ∷
 unfolding signedDecimal decimal digitsIn
 minus-hundred = refl
 
--- P1: "4 0 12", "6 2 -3" from the bytes of two events, and "end 1 6 2 3"
+-- the cup of document 01: "4 0 12", "6 2 -3" from the bytes of two events, and "end 1 6 2 3"
 cup : linesOf (flat (4 ∷ 0 ∷ 12 ∷ 6 ∷ 2 ∷ wordOf (negℤ (pos 3)) ∷ [])) 2 ++ endLine 1 6 2 3
     ≡ 52 ∷ 32 ∷ 48 ∷ 32 ∷ 49 ∷ 50 ∷ 10 ∷ 54 ∷ 32 ∷ 50 ∷ 32 ∷ 45 ∷ 51 ∷ 10
     ∷ 101 ∷ 110 ∷ 100 ∷ 32 ∷ 49 ∷ 32 ∷ 54 ∷ 32 ∷ 50 ∷ 32 ∷ 51 ∷ 10 ∷ []

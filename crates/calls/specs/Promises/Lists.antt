@@ -13,7 +13,7 @@ use Rattle.plan.specs.declared.Plan.{Plan}
 use Rattle.machine.specs.Next.{nextTick}
 use Rattle.machine.specs.Instant.{moves, eventsOf}
 use Rattle.machine.specs.Status.{statusOf, integratorOf}
-use Rattle.machine.specs.Plain.{Plain, plainAfter, plainEvents, plainStatus, plainIntegrator}
+use Rattle.machine.specs.Plain.{Plain, plainAfter, plainEvents, plainStatus, plainIntegrator, lazyCount}
 use Rattle.machine.specs.Updates.{growth, growthUpTo, eagerInstants, lazyMoves, movedNow}
 use Rattle.machine.specs.declared.State.{State}
 use Rattle.machine.specs.declared.Engine.{Engine}
@@ -102,7 +102,14 @@ ListsMean = (st : State) (c : Call) (calls : List Call) → FoldPromise st c cal
 -- ticks"; over the instants 1 to k, n times those that eager calls took, and the number due or reached over those that lazy calls took
 pub record GrowthPromise (p : Plan) (engine : ℕ → Engine) (k : ℕ) (m : Plain) : Type 0 where
   pub lazy : growth p Lazy m ≡ countOf (moves p Lazy (m .d) (nextTick p (m .d) (m .next))) (p .n)
+  pub due-or-reached : lazyCount p m ≡ countOf (moves p Lazy (m .d) (nextTick p (m .d) (m .next))) (p .n)
   pub parts : growthUpTo p engine k ≡ p .n * eagerInstants engine k + lazyMoves p engine k
+  -- an instant that an eager call took counts in the first part alone, one that a lazy call took in the second alone
+  pub none : (eagerInstants engine 0 ≡ 0) × (lazyMoves p engine 0 ≡ 0)
+  pub by-eager : engine (k + 1) ≡ Eager
+      → (eagerInstants engine (k + 1) ≡ eagerInstants engine k + 1) × (lazyMoves p engine (k + 1) ≡ lazyMoves p engine k)
+  pub by-lazy : engine (k + 1) ≡ Lazy
+      → (eagerInstants engine (k + 1) ≡ eagerInstants engine k) × (lazyMoves p engine (k + 1) ≡ lazyMoves p engine k + lazyCount p (plainAfter p k))
 
 abbrev pub GrowthMeans : Type 0
 GrowthMeans = (p : Plan) (engine : ℕ → Engine) (k : ℕ) (m : Plain) → GrowthPromise p engine k m

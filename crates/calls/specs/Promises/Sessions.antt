@@ -12,8 +12,8 @@ use Rattle.machine.specs.Updates.{growthUpTo, eagerInstants, lazyMoves}
 use Rattle.machine.specs.declared.State.{State}
 use Rattle.machine.specs.declared.Engine.the-variants.{Lazy, Eager}
 use Rattle.calls.specs.Calls.{loadOf, positionedOf}
-use Rattle.calls.specs.Lists.{Call, afterCalls, budgetSum, joinedBytes, engineAt}
-use Rattle.calls.specs.Sessions.{Made, Session, lastState, acceptedSum, writtenBytes, callsOf, AllMadeBy, madeBy}
+use Rattle.calls.specs.Lists.{Call, afterCalls, budgetSum, joinedBytes, engineAt, AllBy}
+use Rattle.calls.specs.Sessions.{Made, Session, lastState, acceptedSum, writtenBytes, callsOf, madeBy}
 use Rattle.calls.specs.Promises.Lists.{CallPromise, SameAsPlain, EndAlike, ListPromise}
 use Rattle.calls.specs.declared.Loaded.{Loaded}
 use Rattle.calls.specs.declared.Positioned.{Positioned}
@@ -30,9 +30,9 @@ pub record SessionPromise (p : Plan) (st : State) (made : List Made) : Type 0 wh
   pub alike : (others : List Made) → Session st others → acceptedSum others ≡ acceptedSum made
       → EndAlike (lastState st others) (lastState st made) (writtenBytes others) (writtenBytes made)
   -- "Among lists with an equal sum, none has fewer updates than an all-lazy one or more than an all-eager one."
-  pub fewest : (others : List Made) → Session st others → AllMadeBy Lazy others → acceptedSum others ≡ acceptedSum made
+  pub fewest : (others : List Made) → Session st others → AllBy Lazy (callsOf others) → acceptedSum others ≡ acceptedSum made
       → lastState st others .run .updates ≤ lastState st made .run .updates
-  pub most : (others : List Made) → Session st others → AllMadeBy Eager others → acceptedSum others ≡ acceptedSum made
+  pub most : (others : List Made) → Session st others → AllBy Eager (callsOf others) → acceptedSum others ≡ acceptedSum made
       → lastState st made .run .updates ≤ lastState st others .run .updates
   -- each call's own answer and buffer
   pub each : (earlier : List Made) (m : Made) (later : List Made) → made ≡ earlier ++ (m ∷ later)

@@ -1,13 +1,17 @@
 -- What the accepted budgets of a list add up to, the call that an instant belongs to, and how updates grow. Assumes nothing.
-use mathlib.Core.Path.{_≡_, refl}
-use Prim.Native.Nat.{_-_}
+use mathlib.Core.Path.{_≡_, refl, subst}
+use Prim.Native.Nat.{ℕ, suc, _+_, _-_}
 use native.Mathlib.Nat.{zero-add}
 use native.Mathlib.Omega.{arith}
 use borrow.Author.Tests.{eq-eqb, ne-eqb, le-leb, lt-leb}
+use Rattle.bitset.specs.Mask.{countOf}
+use Rattle.plan.specs.declared.Plan.{Plan}
 use Rattle.machine.specs.Instant.{moves}
-use Rattle.machine.specs.Plain.{plainTick, lazyCount}
-use Rattle.machine.specs.Updates.{growth}
+use Rattle.machine.specs.Plain.{plainTick, plainAfter, lazyCount}
+use Rattle.machine.specs.Updates.{growth, isEager, eagerInstants, lazyMoves}
 use Rattle.machine.specs.Laws.Instants.{growth-parts}
+use Rattle.machine.specs.declared.Engine.{Engine}
+use Rattle.machine.specs.declared.Engine.the-variants.{Lazy, Eager}
 use Rattle.calls.specs.Lists.{fedBy, budgetSum, engineAt}
 use Rattle.calls.specs.Promises.Lists.{ListsMean, GrowthMeans}
 
@@ -22,6 +26,30 @@ lists-mean st c calls =
       declined = λ i e l. let all : i - 0 ≡ i = omega arith in rw (ne-eqb _ 0 e, lt-leb i 0 l, all);
     }
 
+-- what one more instant adds to the two parts of the count
+module _ (p : Plan) (engine : ℕ → Engine) (k : ℕ) where
+  one-eager : engine (k + 1) ≡ Eager
+      → (eagerInstants engine (suc k) ≡ eagerInstants engine k + 1) × (lazyMoves p engine (suc k) ≡ lazyMoves p engine k)
+  unfolding eagerInstants lazyMoves isEager countOf
+  one-eager e = rw e (omega arith, omega arith)
+
+  one-lazy : engine (k + 1) ≡ Lazy
+      → (eagerInstants engine (suc k) ≡ eagerInstants engine k) × (lazyMoves p engine (suc k) ≡ lazyMoves p engine k + lazyCount p (plainAfter p k))
+  unfolding eagerInstants lazyMoves isEager countOf
+  one-lazy e = rw e (refl, refl)
+
 pub growth-means : GrowthMeans
-unfolding growth lazyCount moves plainTick
-growth-means p engine k m = record { lazy = refl; parts = growth-parts p engine k }
+unfolding growth lazyCount moves plainTick eagerInstants lazyMoves countOf
+growth-means p engine k m =
+    let next : suc k ≡ k + 1 = omega arith in
+    record {
+      lazy = refl;
+      due-or-reached = refl;
+      parts = growth-parts p engine k;
+      none = (refl, refl);
+      by-eager =
+          λ e. subst (λ i. (eagerInstants engine i ≡ eagerInstants engine k + 1) × (lazyMoves p engine i ≡ lazyMoves p engine k)) next (one-eager p engine k e);
+      by-lazy =
+          λ e. subst (λ i. (eagerInstants engine i ≡ eagerInstants engine k) × (lazyMoves p engine i ≡ lazyMoves p engine k + lazyCount p (plainAfter p k)))
+          next (one-lazy p engine k e);
+    }

@@ -5,7 +5,7 @@ use mathlib.Core.List.{List, [], _++_}
 use Prim.Native.Nat.{ℕ, _+_, _/_, _≤_}
 use native.Mathlib.Omega.{arith}
 use lib.Dec.{eqb}
-use lib.ListN.{length, take, length-append, length-take}
+use lib.ListN.{length, length-append, length-take}
 use Rattle.words.specs.Word.{Bytes}
 use Rattle.plan.specs.declared.Plan.{Plan}
 use Rattle.machine.specs.Instant.{positionAt, tickOf}
@@ -83,7 +83,9 @@ pub texts-fit : TextsFit
 texts-fit = (turn-fits, first-fits)
 
 pub long-refused : LongRefused
-long-refused input h e = omega (arith, limits .accepted-files (take 4493 input) e .longest, length-take 4493 input)
+long-refused input h e =
+    let longest = rw length-take at (limits .accepted-files _ e .longest) in
+    omega (arith, longest)
 
 number-texts : NumberTexts
 unfolding signedDecimal
