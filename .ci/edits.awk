@@ -1,6 +1,6 @@
-# What an edit file says it shows, as a line for each name: 'function NAME' or 'definition NAME', then 'bodies N'. Fails, with the reason on a line that starts with
-# 'fault', where a replacement has no name of its own, where two wrong bodies are of one function, where a wrong body has no replacement, where a file has more than one wrong
-# definition, or where a line is none of those that are read. Definitions that have to change together are named together, with a comma between.
+# What an edit file says it shows, as a line for each name: 'function NAME', 'law FILE NAME' or 'definition NAME', then 'bodies N' and 'definitions N'. Fails, with the reason on a
+# line that starts with 'fault', where a replacement has no name of its own, where two wrong bodies are of one function, where two wrong definitions name one law or are of one definition,
+# where a wrong body or definition has no replacement, or where a line is none of those that are read. Definitions that have to change together are named together, with a comma between.
 function fault(why) {
     print "fault " why
     failed = 1
@@ -17,15 +17,36 @@ function close_name() {
 function close_body() {
     close_name()
     if (body != "" && own == "") fault("the wrong body " body " has no replacement")
+    if (wrong != "" && (law == "" || definition == "")) fault("the wrong definition " wrong " has no law or no replacement")
+}
+function title(line) {
+    close_body()
+    line = rest(line)
+    if (line !~ /^[a-zA-Z0-9_]+$/) fault("a title in it is no name")
+    if (line in titles) fault("it has two titles " line)
+    titles[line] = 1
+    return line
 }
 /^body: / {
-    close_body()
-    body = rest($0)
-    if (body !~ /^[a-z0-9_]+$/) fault("a wrong body's title is no name")
-    if (body in titles) fault("it has two wrong bodies called " body)
-    titles[body] = 1
+    body = title($0)
+    if (definitions > 0) fault("a wrong definition stands among wrong bodies")
     bodies++
     own = ""
+    next
+}
+/^wrong: / {
+    wrong = title($0)
+    if (bodies > 0 || single != "") fault("a wrong definition stands among others that are not grouped")
+    definitions++
+    law = definition = ""
+    next
+}
+/^law: / {
+    if (wrong == "" || law != "") fault("a law in it stands under no 'wrong:', or is the second")
+    law = rest($0)
+    if (law !~ /^[A-Za-z0-9\/]+ [^ ]+$/) fault("a law in it is no file and name")
+    if (law in laws) fault("two wrong definitions in it name the law " law)
+    laws[law] = 1
     next
 }
 /^function: / {
@@ -45,9 +66,12 @@ function close_body() {
     name = rest($0)
     names++
     if (name !~ /[^ ]$/) fault("a definition's name in it is none")
-    if (body != "") fault("a wrong definition stands among wrong bodies")
-    if (definition != "" && definition != name) fault("it changes two definitions, " definition " and " name)
+    if (bodies > 0) fault("a wrong definition stands among wrong bodies")
+    if (definition != "" && definition != name) fault("a wrong definition in it is of two definitions, " definition " and " name)
+    if (wrong != "" && definition == "" && name in changed) fault("it has two wrong definitions of " name)
+    changed[name] = 1
     definition = name
+    if (wrong == "") single = name
     next
 }
 /^file: / { next }
@@ -69,9 +93,13 @@ END {
     close_body()
     if (failed) exit 1
     if (names == 0) fault("it names nothing")
-    if (definition != "" && bodies > 0) fault("a wrong definition stands among wrong bodies")
     if (failed) exit 1
     for (name in owners) print "function " name
-    if (definition != "") print "definition " definition
+    for (name in laws) print "law " name
+    if (single != "") {
+        print "definition " single
+        definitions = 1
+    }
     print "bodies " bodies + 0
+    print "definitions " definitions + 0
 }
