@@ -54,7 +54,7 @@ bufferOfWrite st buffer = cond (eqb (writeNumber st (length buffer)) 0) (over (e
 -- ---- runs: 10, 11, 12
 -- "A run's buffer is shorter than budget×(n+m)×12 bytes": the room that a run asks
 unfoldable pub roomOf : Plan → ℕ → ℕ
-roomOf p budget = budget * (p .n + p .m) * 12
+roomOf p budget = budget * (p .counts .n + p .counts .m) * 12
 
 -- what is left to decline once the state is sound: "A run's budget is above 1,024", then the buffer
 unfoldable pub declineOf : Plan → ℕ → ℕ → ℕ
@@ -88,7 +88,7 @@ module _ (engine : Engine) (st : State) (budget : ℕ) where
 
 -- ---- position call: 10, 14
 unfoldable pub positionNumber : State → ℕ → ℕ
-positionNumber st i = cond (isSound st) (cond (ltb i (st .plan .n)) 0 14) 10
+positionNumber st i = cond (isSound st) (cond (ltb i (st .plan .counts .n)) 0 14) 10
 
 -- "Position call: x+s×(c−l) for a numbered integrator."
 unfoldable pub positionedOf : State → ℕ → Positioned

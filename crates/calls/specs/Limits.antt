@@ -56,16 +56,16 @@ pub record AnswerLimits (st : State) : Type 0 where
 
 -- of what a rate is made of, with outputs q and input values u within ±M, for a plan that keeps its rules
 pub record RateLimits (p : Plan) (q u : List ℤ) : Type 0 where
-  pub sources : (1 ≤ p .n + p .m + p .k) × (p .n + p .m + p .k ≤ 56)
-  pub operands : (j : ℕ) → j < p .k → (nat (p .lefts) j ≤ 54) × (nat (p .rights) j ≤ 54)
+  pub sources : (1 ≤ p .counts .n + p .counts .m + p .counts .k) × (p .counts .n + p .counts .m + p .counts .k ≤ 56)
+  pub operands : (j : ℕ) → j < p .counts .k → (nat (p .nodes .a) j ≤ 54) × (nat (p .nodes .b) j ≤ 54)
   -- the value of every source, so of a node's operands; their difference and product before the clip
   pub values : (i : ℕ) → ∣ valueOf p q u i ∣ ≤ M
   pub differences : (i j : ℕ) → ∣ valueOf p q u i -ℤ valueOf p q u j ∣ ≤ 2 ^ 31
   pub products : (i j : ℕ) → ∣ valueOf p q u i *ℤ valueOf p q u j ∣ ≤ 2 ^ 60
   -- the links of an integrator, what each adds, and the sum so far
-  pub own-links : (i : ℕ) → countOf (λ e. eqb (nat (p .targets) e) i) (p .links) ≤ 56
-  pub terms : (e : ℕ) → e < p .links → ∣ int (p .coefficients) e *ℤ valueOf p q u (nat (p .sources) e) ∣ ≤ 2 ^ 54
-  pub sums : (i e : ℕ) → e ≤ p .links → ∣ sumOver p q u i e ∣ ≤ 56 * 2 ^ 54
+  pub own-links : (i : ℕ) → countOf (λ e. eqb (nat (p .links .targets) e) i) (p .counts .links) ≤ 56
+  pub terms : (e : ℕ) → e < p .counts .links → ∣ int (p .links .coefficients) e *ℤ valueOf p q u (nat (p .links .sources) e) ∣ ≤ 2 ^ 54
+  pub sums : (i e : ℕ) → e ≤ p .counts .links → ∣ sumOver p q u i e ∣ ≤ 56 * 2 ^ 54
   pub rate : (i : ℕ) → ∣ rateOf p q u i ∣ ≤ 56 * 2 ^ 38
 
 -- of integrator i's levels, its distance to the level ahead and the ticks to it, for x strictly between the levels
@@ -86,33 +86,33 @@ module _ (p : Plan) (r : Running) where
     pub levels : LevelLimits p (r .q) i (int (r .x) i) (int (r .s) i)
     pub position : ∣ positionOf r i ∣ < 2 ^ 31
     -- before its due tick it stays strictly between its levels
-    pub above : (t : ℕ) → r .clock ≤ t → t < nat (r .d) i → lowerLevel p (r .q) i <ℤ positionAt r t i
-    pub below : (t : ℕ) → r .clock ≤ t → t < nat (r .d) i → positionAt r t i <ℤ upperLevel p (r .q) i
+    pub above : (t : ℕ) → r .clocks .clock ≤ t → t < nat (r .d) i → lowerLevel p (r .q) i <ℤ positionAt r t i
+    pub below : (t : ℕ) → r .clocks .clock ≤ t → t < nat (r .d) i → positionAt r t i <ℤ upperLevel p (r .q) i
     pub slope : ∣ int (r .s) i ∣ ≤ 56 * 2 ^ 38
     pub due : (nat (r .d) i ≡ never) ⊎ (nat (r .d) i ≤ 2000000000 + (2 ^ 31 - 1))
     -- of one that moves: a tick, which never is not
     pub moving : (int (r .s) i ≡ pos 0 → ⊥) → nat (r .d) i < never
     -- up to the due tick
-    pub elapsed : (t : ℕ) → r .clock ≤ t → t ≤ nat (r .d) i → ∣ int (r .s) i *ℤ pos (t - nat (r .l) i) ∣ < 2 ^ 32 + 2 ^ 44
+    pub elapsed : (t : ℕ) → r .clocks .clock ≤ t → t ≤ nat (r .d) i → ∣ int (r .s) i *ℤ pos (t - nat (r .l) i) ∣ < 2 ^ 32 + 2 ^ 44
     pub value : ∣ positionAt r (nat (r .d) i) i ∣ < 2 ^ 32 + 2 ^ 44
 
   -- of the numbers that the listing program prints, by their digits: tick, source and value of an event; clock, instants and updates
   pub record PrintedLimits : Type 0 where
     pub tick : statusOf p r ≡ 0 → tickOf p r < 10 ^ 10
-    pub source : p .n + p .m ≤ 10 ^ 2
-    pub output : statusOf p r ≡ 0 → (i : ℕ) → i < p .n → nat (r .d) i ≡ tickOf p r → ∣ positionAt r (tickOf p r) i ∣ < 10 ^ 10
-    pub setting : (e : ℕ) → e < p .commands → ∣ int (p .values) e ∣ < 10 ^ 10
-    pub clock : r .clock < 10 ^ 10
-    pub instants : r .instants < 10 ^ 10
-    pub updates : r .updates < 10 ^ 11
+    pub source : p .counts .n + p .counts .m ≤ 10 ^ 2
+    pub output : statusOf p r ≡ 0 → (i : ℕ) → i < p .counts .n → nat (r .d) i ≡ tickOf p r → ∣ positionAt r (tickOf p r) i ∣ < 10 ^ 10
+    pub setting : (e : ℕ) → e < p .counts .commands → ∣ int (p .commands .values) e ∣ < 10 ^ 10
+    pub clock : r .clocks .clock < 10 ^ 10
+    pub instants : r .clocks .instants < 10 ^ 10
+    pub updates : r .clocks .updates < 10 ^ 11
 
   pub record StateLimits : Type 0 where
     pub rates : RateLimits p (r .q) (r .inputs)
-    pub integrators : (i : ℕ) → i < p .n → IntegratorLimits i
-    pub tick : statusOf p r ≡ 0 → (r .clock < tickOf p r) × (tickOf p r ≤ p .horizon)
-    pub next : r .next ≤ 64
-    pub instants : r .instants ≤ 2000000000
-    pub updates : r .updates ≤ 32 * 2000000000
+    pub integrators : (i : ℕ) → i < p .counts .n → IntegratorLimits i
+    pub tick : statusOf p r ≡ 0 → (r .clocks .clock < tickOf p r) × (tickOf p r ≤ p .horizon)
+    pub next : r .clocks .next ≤ 64
+    pub instants : r .clocks .instants ≤ 2000000000
+    pub updates : r .clocks .updates ≤ 32 * 2000000000
     -- the bytes of an instant's events, of a run's, and of the listing program's runs
     pub instant : length (eventsOf p r) ≤ 480
     pub bytes : (engine : Engine) (budget : ℕ) → length (events p engine budget r) ≤ roomOf p budget

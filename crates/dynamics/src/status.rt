@@ -3,10 +3,11 @@ ghost use mathlib.Core.Path.{_≡_};
 ghost use Prim.Native.Nat.{_^_, _≤_, _<_};
 ghost use Rattle.plan.specs.Lists.{firstFrom};
 ghost use Rattle.dynamics.specs.Standing.{barsIn, standingOf, DueReach};
-use crate::ticks::position;
 use bitset::lowest;
 use bitset::rest;
+use crate::ticks::position;
 use machine::State;
+use plan::INTEGRATORS;
 
 // A status of document 01, and its integrator.
 pub struct Standing {
@@ -19,9 +20,9 @@ fn lowest_barring<'a>(
     n: usize,
     due: u32,
     t: u32,
-    x: &'a [i64; 32],
-    s: &'a [i64; 32],
-    l: &'a [u32; 32],
+    x: &'a [i64; INTEGRATORS],
+    s: &'a [i64; INTEGRATORS],
+    l: &'a [u32; INTEGRATORS],
 ) -> usize
     requires { ⌜ (n ≤ 32) × (due < 2 ^ n) × DueReach due t (now x) (now s) (now l) ⌝ }
     ensures { λ r. ⌜ r ≡ firstFrom (barsIn due t (now (x .entry)) (now (s .entry)) (now (l .entry))) 0 n ⌝ }
@@ -44,9 +45,9 @@ pub fn standing_at<'a>(
     n: usize,
     t: u32,
     due: u32,
-    x: &'a [i64; 32],
-    s: &'a [i64; 32],
-    l: &'a [u32; 32],
+    x: &'a [i64; INTEGRATORS],
+    s: &'a [i64; INTEGRATORS],
+    l: &'a [u32; INTEGRATORS],
 ) -> Standing
     requires { ⌜ (n ≤ 32) × (due < 2 ^ n) × ((t ≤ horizon) → DueReach due t (now x) (now s) (now l)) ⌝ }
     ensures { λ r. ⌜ r ≡ standingOf horizon n t (firstFrom (barsIn due t (now (x .entry)) (now (s .entry)) (now (l .entry))) 0 n) ⌝ }

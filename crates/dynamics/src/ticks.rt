@@ -10,6 +10,8 @@ ghost use Rattle.machine.specs.Next.{leastDue};
 ghost use Rattle.dynamics.specs.Ticks.{tickAt, TicksReady, DueReady, PositionReady};
 use integers::divide_up;
 use machine::State;
+use plan::COMMANDS;
+use plan::INTEGRATORS;
 
 // The tick at which a move of `speed` a tick, begun at `from`, has gone `distance`: the distance is worked out first, then divided, as in source document 002 (M5).
 fn tick_at(from: u32, distance: i64, speed: i64) -> u32
@@ -45,7 +47,7 @@ pub fn position(x: i64, s: i64, l: u32, t: u32) -> i64
 }
 
 // The least of the first n due ticks, or never.
-pub fn least_due(n: usize, d: &[u32; 32]) -> u32
+pub fn least_due(n: usize, d: &[u32; INTEGRATORS]) -> u32
     requires { ⌜ n ≤ 32 ⌝ }
     ensures { λ r. ⌜ r ≡ leastDue (now (d .entry)) n ⌝ }
 {
@@ -61,7 +63,7 @@ pub fn least_due(n: usize, d: &[u32; 32]) -> u32
 }
 
 // "the next command is the first with tick above c, or the command count if none"
-pub fn next_command(commands: usize, ticks: &[u32; 64], clock: u32) -> usize
+pub fn next_command(commands: usize, ticks: &[u32; COMMANDS], clock: u32) -> usize
     requires { ⌜ commands ≤ 64 ⌝ }
     ensures { λ r. ⌜ r ≡ firstFrom (λ e. ltb clock (nat (now (ticks .entry)) e)) 0 commands ⌝ }
 {
@@ -75,9 +77,9 @@ pub fn next_command(commands: usize, ticks: &[u32; 64], clock: u32) -> usize
 // "Next instant t: the least of all d and the next command's tick."
 pub fn next_tick<'a>(
     n: usize,
-    d: &'a [u32; 32],
+    d: &'a [u32; INTEGRATORS],
     commands: usize,
-    ticks: &'a [u32; 64],
+    ticks: &'a [u32; COMMANDS],
     next: usize,
 ) -> u32
     requires { ⌜ (n ≤ 32) × (commands ≤ 64) ⌝ }

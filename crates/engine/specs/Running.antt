@@ -23,4 +23,4 @@ endedOf p engine budget r =
 -- a sound state, and room for the events of each instant
 pub record RunReady (st : State) (budget size : ℕ) : Type 0 where
   pub sound : Sound st
-  pub room : budget * (st .plan .n + st .plan .m) * 12 ≤ size
+  pub room : budget * (st .plan .counts .n + st .plan .counts .m) * 12 ≤ size

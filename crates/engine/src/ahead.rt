@@ -4,6 +4,8 @@ ghost use Rattle.engine.specs.Ahead.{aheadOf, AheadReady};
 use bitset::equal_to;
 use dynamics::next_tick;
 use dynamics::standing_at;
+use plan::COMMANDS;
+use plan::INTEGRATORS;
 
 pub struct Ahead {
     pub tick: u32,
@@ -17,11 +19,11 @@ pub fn look_ahead<'a>(
     n: usize,
     commands: usize,
     next: usize,
-    ticks: &'a [u32; 64],
-    x: &'a [i64; 32],
-    s: &'a [i64; 32],
-    l: &'a [u32; 32],
-    d: &'a [u32; 32],
+    ticks: &'a [u32; COMMANDS],
+    x: &'a [i64; INTEGRATORS],
+    s: &'a [i64; INTEGRATORS],
+    l: &'a [u32; INTEGRATORS],
+    d: &'a [u32; INTEGRATORS],
 ) -> Ahead
     requires { ⌜ AheadReady n commands next (now ticks) (now x) (now s) (now l) (now d) ⌝ }
     ensures { λ r. ⌜ r ≡ aheadOf horizon n commands next (now (ticks .entry)) (now (x .entry)) (now (s .entry)) (now (l .entry)) (now (d .entry)) ⌝ }

@@ -5,8 +5,6 @@ ghost use Rattle.machine.specs.Runs.{events};
 ghost use Rattle.steps.specs.Events.{putAt};
 ghost use Rattle.engine.specs.Running.{endedOf, RunReady};
 use crate::ahead::look_ahead;
-use instant::Clocks;
-use instant::Counts;
 use instant::take_instant;
 use machine::Engine;
 use machine::Running;
@@ -29,25 +27,18 @@ pub fn run(st: State, engine: Engine, budget: u64, buf: &mut [u8]) -> Ended
     ensures { λ w. ⌜ w ≡ endedOf (st .plan) engine budget (st .run) ⌝ }
     ensures { λ _. ⌜ now (buf .exit) ≡ putAt (now (buf .entry)) 0 (events (st .plan) engine budget (st .run)) ⌝ }
 {
-    let counts = Counts {
-        horizon: st.plan.horizon,
-        n: st.plan.n,
-        m: st.plan.m,
-        k: st.plan.k,
-        links: st.plan.links,
-        commands: st.plan.commands,
-    };
+    let counts = st.plan.counts;
     let r = st.run;
-    let ranges = link_ranges(counts.n, counts.links, &st.plan.targets);
+    let ranges = link_ranges(counts.n, counts.links, &st.plan.links.targets);
     let reach = reach_table(
         counts.n + counts.m,
         counts.k,
         counts.links,
-        &st.plan.kinds,
-        &st.plan.lefts,
-        &st.plan.rights,
-        &st.plan.targets,
-        &st.plan.sources,
+        &st.plan.nodes.kinds,
+        &st.plan.nodes.a,
+        &st.plan.nodes.b,
+        &st.plan.links.targets,
+        &st.plan.links.sources,
     );
     let mut values = source_values(
         counts.n,
@@ -55,11 +46,11 @@ pub fn run(st: State, engine: Engine, budget: u64, buf: &mut [u8]) -> Ended
         counts.k,
         &st.run.q,
         &st.run.inputs,
-        &st.plan.kinds,
-        &st.plan.lefts,
-        &st.plan.rights,
-        &st.plan.lows,
-        &st.plan.highs,
+        &st.plan.nodes.kinds,
+        &st.plan.nodes.a,
+        &st.plan.nodes.b,
+        &st.plan.nodes.lows,
+        &st.plan.nodes.highs,
     );
     let mut x = r.x;
     let mut q = r.q;
@@ -67,20 +58,15 @@ pub fn run(st: State, engine: Engine, budget: u64, buf: &mut [u8]) -> Ended
     let mut l = r.l;
     let mut d = r.d;
     let mut inputs = r.inputs;
-    let mut clocks = Clocks {
-        clock: r.clock,
-        next: r.next,
-        instants: r.instants,
-        updates: r.updates,
-    };
+    let mut clocks = r.clocks;
     let mut end: usize = 0;
     let mut taken: u64 = 0;
     let mut ahead = look_ahead(
-        counts.horizon,
+        st.plan.horizon,
         counts.n,
         counts.commands,
         clocks.next,
-        &st.plan.ticks,
+        &st.plan.commands.ticks,
         &x,
         &s,
         &l,
@@ -89,23 +75,24 @@ pub fn run(st: State, engine: Engine, budget: u64, buf: &mut [u8]) -> Ended
     while taken < budget && ahead.status == 0 {
         let step = take_instant(
             engine,
+            st.plan.horizon,
             counts,
             ahead.tick,
             ahead.due,
-            &st.plan.starts,
-            &st.plan.quanta,
-            &st.plan.firsts,
-            &st.plan.kinds,
-            &st.plan.lefts,
-            &st.plan.rights,
-            &st.plan.lows,
-            &st.plan.highs,
-            &st.plan.targets,
-            &st.plan.sources,
-            &st.plan.coefficients,
-            &st.plan.ticks,
-            &st.plan.numbers,
-            &st.plan.values,
+            &st.plan.integrators.starts,
+            &st.plan.integrators.quanta,
+            &st.plan.inputs.firsts,
+            &st.plan.nodes.kinds,
+            &st.plan.nodes.a,
+            &st.plan.nodes.b,
+            &st.plan.nodes.lows,
+            &st.plan.nodes.highs,
+            &st.plan.links.targets,
+            &st.plan.links.sources,
+            &st.plan.links.coefficients,
+            &st.plan.commands.ticks,
+            &st.plan.commands.inputs,
+            &st.plan.commands.values,
             &ranges,
             &reach,
             &mut x,
@@ -122,11 +109,11 @@ pub fn run(st: State, engine: Engine, budget: u64, buf: &mut [u8]) -> Ended
         clocks = step.clocks;
         end = step.end;
         ahead = look_ahead(
-            counts.horizon,
+            st.plan.horizon,
             counts.n,
             counts.commands,
             clocks.next,
-            &st.plan.ticks,
+            &st.plan.commands.ticks,
             &x,
             &s,
             &l,
@@ -141,10 +128,7 @@ pub fn run(st: State, engine: Engine, budget: u64, buf: &mut [u8]) -> Ended
         l,
         d,
         inputs,
-        clock: clocks.clock,
-        next: clocks.next,
-        instants: clocks.instants,
-        updates: clocks.updates,
+        clocks,
     };
     Ended {
         status: ahead.status,

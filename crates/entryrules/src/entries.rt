@@ -8,6 +8,8 @@ ghost use Rattle.integers.specs.Range.{within};
 ghost use Rattle.plan.specs.Format.{M};
 ghost use Rattle.plan.specs.Tests.{horizonKept, integratorTest, kindKept, linkTest, commandTest, ascends, follows};
 use machine::State;
+use plan::COMMANDS;
+use plan::LINKS;
 
 const LARGEST_HORIZON: u32 = 2000000000;
 
@@ -143,7 +145,7 @@ fn tick_ascends(a: u32, b: usize, c: u32, d: usize) -> bool
 }
 
 // "Strictly ascending by target, then source": link e stands above its predecessor.
-pub fn link_ordered<'a>(targets: &'a [usize; 256], sources: &'a [usize; 256], e: usize) -> bool
+pub fn link_ordered<'a>(targets: &'a [usize; LINKS], sources: &'a [usize; LINKS], e: usize) -> bool
     requires { ⌜ e < 256 ⌝ }
     ensures { λ r. ⌜ r ≡ follows (now (targets .entry)) (now (sources .entry)) e ⌝ }
 {
@@ -154,12 +156,12 @@ pub fn link_ordered<'a>(targets: &'a [usize; 256], sources: &'a [usize; 256], e:
 }
 
 // "Strictly ascending by tick, then input": command e stands above its predecessor.
-pub fn command_ordered<'a>(ticks: &'a [u32; 64], numbers: &'a [usize; 64], e: usize) -> bool
+pub fn command_ordered<'a>(ticks: &'a [u32; COMMANDS], inputs: &'a [usize; COMMANDS], e: usize) -> bool
     requires { ⌜ e < 64 ⌝ }
-    ensures { λ r. ⌜ r ≡ follows (now (ticks .entry)) (now (numbers .entry)) e ⌝ }
+    ensures { λ r. ⌜ r ≡ follows (now (ticks .entry)) (now (inputs .entry)) e ⌝ }
 {
     if e == 0 {
         return true;
     }
-    tick_ascends(ticks[e - 1], numbers[e - 1], ticks[e], numbers[e])
+    tick_ascends(ticks[e - 1], inputs[e - 1], ticks[e], inputs[e])
 }

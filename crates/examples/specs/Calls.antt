@@ -57,10 +57,7 @@ unsound = record {
     l = loaded .run .l;
     d = loaded .run .d;
     inputs = loaded .run .inputs;
-    clock = 4;
-    next = 0;
-    instants = 0;
-    updates = 0;
+    clocks = record { clock = 4; next = 0; instants = 0; updates = 0 };
   };
 }
 
@@ -94,7 +91,7 @@ examples =
     ∷ case (List ℕ) (loadOf cupFile .state .run .d) (4 ∷ 4294967295 ∷ replicate 30 0)
     ∷ case ℕ (loadOf (fileOf 10 (0 ∷ 1 ∷ 0 ∷ 0 ∷ []) [] [] [] []) .number) 5
     ∷ case ℕ (loadOf (fileOf 10 (0 ∷ 1 ∷ 0 ∷ 0 ∷ []) [] [] [] []) .entry) 1
-    ∷ case ℕ (loadOf (fileOf 10 (0 ∷ 1 ∷ 0 ∷ 0 ∷ []) [] [] [] []) .state .plan .n) 1
+    ∷ case ℕ (loadOf (fileOf 10 (0 ∷ 1 ∷ 0 ∷ 0 ∷ []) [] [] [] []) .state .plan .counts .n) 1
     ∷ case ℕ (loadOf (fileOf 10 (0 ∷ 1 ∷ 0 ∷ 0 ∷ []) [] [] [] []) .state .plan .horizon) 1
     -- section view: a part of the file, or nothing
     ∷ case (List ℕ) (sectionOf cupFile 1) (3 ∷ 0 ∷ 0 ∷ 0 ∷ [])
@@ -104,7 +101,7 @@ examples =
     ∷ case ℕ (writeOf loaded (filled 99) .number) 13
     ∷ case ℕ (writeOf loaded (filled 99) .length) 0
     ∷ case (List ℕ) (bufferOfWrite loaded (filled 3)) (filled 3)
-    ∷ case ℕ (writeOf unsound (filled 0) .state .run .clock) 4
+    ∷ case ℕ (writeOf unsound (filled 0) .state .run .clocks .clock) 4
     ∷ case ℕ (writeOf loaded (filled 99) .state .plan .horizon) 10
     ∷ case ℕ (writeOf loaded (filled 100) .number) 0
     ∷ case (List ℕ) (bufferOfWrite loaded (filled 100)) cupFile
@@ -126,8 +123,8 @@ examples =
     ∷ case ℕ (runOf Lazy loaded 0 [] .number) 0
     ∷ case ℕ (runOf Lazy loaded 0 [] .status) 0
     ∷ case ℕ (runOf Lazy loaded 1 (filled 36) .status) 0
-    ∷ case ℕ (runOf Lazy loaded 1 (filled 36) .state .run .clock) 4
-    ∷ case ℕ (runOf Lazy loaded 1 (filled 35) .state .run .clock) 0
+    ∷ case ℕ (runOf Lazy loaded 1 (filled 36) .state .run .clocks .clock) 4
+    ∷ case ℕ (runOf Lazy loaded 1 (filled 35) .state .run .clocks .clock) 0
     ∷ case ℕ (declineOf cupPlan 1024 36864) 0
     -- range with its integrator, nothing written; declined, every figure is 0
     ∷ case ℕ (runOf Eager barred 1 (filled 36) .number) 0
@@ -139,7 +136,7 @@ examples =
     ∷ case ℕ (runOf Eager barred 1 (filled 35) .integrator) 0
     -- position call: 10 before 14; the state handed in comes back, and a declined value is 0
     ∷ case ℤ (positionedOf unsound 0 .value) (pos 0)
-    ∷ case ℕ (positionedOf unsound 0 .state .run .clock) 4
+    ∷ case ℕ (positionedOf unsound 0 .state .run .clocks .clock) 4
     ∷ case ℤ (positionedOf barred 1 .value) (pos 1073741823)
     ∷ case ℕ (positionedOf barred 1 .state .plan .horizon) 10
     ∷ case ℕ (positionedOf unsound 2 .number) 10
@@ -149,8 +146,8 @@ examples =
     -- a list of calls: what it feeds the plain machine, its bytes, its clock, whose its instants are, and its updates, 2 lazy and 2 eager
     ∷ case ℕ (budgetSum loaded mixed) 5
     ∷ case (List ℕ) (joinedBytes loaded mixed) cupEvents
-    ∷ case ℕ (afterCalls loaded mixed .run .clock) 6
-    ∷ case ℕ (afterCalls loaded mixed .run .updates) 4
+    ∷ case ℕ (afterCalls loaded mixed .run .clocks .clock) 6
+    ∷ case ℕ (afterCalls loaded mixed .run .clocks .updates) 4
     ∷ case Engine (engineAt loaded mixed 1) Lazy
     ∷ case Engine (engineAt loaded mixed 2) Eager
     ∷ case Engine (engineAt loaded mixed 3) Lazy
@@ -158,18 +155,18 @@ examples =
     ∷ case ℕ (growthUpTo cupPlan (engineAt loaded (allBy Lazy mixed)) 2) 3
     ∷ case ℕ (eagerInstants (engineAt loaded mixed) 2) 1
     ∷ case ℕ (lazyMoves cupPlan (engineAt loaded mixed) 2) 2
-    ∷ case ℕ (afterCalls loaded (cutAt loaded mixed 1) .run .instants) 1
-    ∷ case ℕ (afterCalls loaded (cutAt loaded mixed 2) .run .instants) 2
+    ∷ case ℕ (afterCalls loaded (cutAt loaded mixed 1) .run .clocks .instants) 1
+    ∷ case ℕ (afterCalls loaded (cutAt loaded mixed 2) .run .clocks .instants) 2
     ∷ case ℕ (movedNow cupPlan (afterCalls loaded (cutAt loaded mixed 2) .run)) 2
     -- a cut inside a call, and the rest of the list from there
-    ∷ case ℕ (afterCalls loaded (cutAt loaded single 1) .run .instants) 1
+    ∷ case ℕ (afterCalls loaded (cutAt loaded single 1) .run .clocks .instants) 1
     ∷ case ℕ (movedNow cupPlan (afterCalls loaded (cutAt loaded single 1) .run)) 2
     ∷ case ℕ (movedNow cupPlan (afterCalls loaded (cutAt loaded single 2) .run)) 1
-    ∷ case ℕ (afterCalls (afterCalls loaded (cutAt loaded single 1)) (restAt loaded single 1) .run .instants) 2
-    ∷ case ℕ (afterCalls (afterCalls loaded (cutAt loaded mixed 2)) (restAt loaded mixed 2) .run .updates) 4
+    ∷ case ℕ (afterCalls (afterCalls loaded (cutAt loaded single 1)) (restAt loaded single 1) .run .clocks .instants) 2
+    ∷ case ℕ (afterCalls (afterCalls loaded (cutAt loaded mixed 2)) (restAt loaded mixed 2) .run .clocks .updates) 4
     ∷ case ℕ (budgetSum loaded (restAt loaded mixed 2)) 3
     -- made all lazy
-    ∷ case ℕ (afterCalls loaded (allBy Lazy mixed) .run .updates) 3
+    ∷ case ℕ (afterCalls loaded (allBy Lazy mixed) .run .clocks .updates) 3
     ∷ case ℕ (movedNow cupPlan (afterCalls loaded (allBy Lazy mixed) .run)) 1
     ∷ case ℕ (plainAfter cupPlan 5 .instants) 2
     ∷ []

@@ -113,10 +113,7 @@ figures x0 x1 s0 s1 l0 l1 d0 d1 clock next instants updates = record {
   l = l0 ∷ l1 ∷ replicate 30 0;
   d = d0 ∷ d1 ∷ replicate 30 0;
   inputs = pos 3 ∷ replicate 7 (pos 0);
-  clock = clock;
-  next = next;
-  instants = instants;
-  updates = updates;
+  clocks = record { clock = clock; next = next; instants = instants; updates = updates };
 }
 
 abbrev sound : Running → Bool
@@ -131,10 +128,7 @@ placed x q = record {
   l = 4 ∷ 4 ∷ replicate 30 0;
   d = 8 ∷ 88 ∷ replicate 30 0;
   inputs = pos 3 ∷ replicate 7 (pos 0);
-  clock = 4;
-  next = 0;
-  instants = 1;
-  updates = 2;
+  clocks = record { clock = 4; next = 0; instants = 1; updates = 2 };
 }
 
 -- and with another horizon, another count of inputs and other starts in its plan
@@ -142,25 +136,18 @@ abbrev planned : ℕ → ℕ → List ℤ → State
 planned horizon inputs starts = record {
   plan = record {
     horizon = horizon;
-    n = cupPlan .n;
-    m = inputs;
-    k = cupPlan .k;
+    counts = record {
+      n = cupPlan .counts .n;
+      m = inputs;
+      k = cupPlan .counts .k;
+      links = cupPlan .counts .links;
+      commands = cupPlan .counts .commands;
+    };
+    integrators = record { starts = starts; quanta = cupPlan .integrators .quanta };
+    inputs = cupPlan .inputs;
+    nodes = cupPlan .nodes;
     links = cupPlan .links;
     commands = cupPlan .commands;
-    starts = starts;
-    quanta = cupPlan .quanta;
-    firsts = cupPlan .firsts;
-    kinds = cupPlan .kinds;
-    lefts = cupPlan .lefts;
-    rights = cupPlan .rights;
-    lows = cupPlan .lows;
-    highs = cupPlan .highs;
-    targets = cupPlan .targets;
-    sources = cupPlan .sources;
-    coefficients = cupPlan .coefficients;
-    ticks = cupPlan .ticks;
-    numbers = cupPlan .numbers;
-    values = cupPlan .values;
   };
   run = placed (pos 12 ∷ replicate 31 (pos 0)) (pos 12 ∷ replicate 31 (pos 0));
 }
@@ -178,10 +165,7 @@ input value =
         l = start .l;
         d = start .d;
         inputs = value ∷ pos 2 ∷ replicate 6 (pos 0);
-        clock = start .clock;
-        next = start .next;
-        instants = start .instants;
-        updates = start .updates;
+        clocks = start .clocks;
       };
     }
 

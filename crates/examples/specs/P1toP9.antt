@@ -87,7 +87,7 @@ p1-printed = case (List ℕ) (printedIn 1 cupFile) cupText
 abbrev p1-end : Case
 p1-end =
     let answer = ran Lazy 64 cupFile in
-    case (List ℕ) (answer .status ∷ answer .state .run .clock ∷ answer .state .run .instants ∷ answer .state .run .updates ∷ []) (1 ∷ 6 ∷ 2 ∷ 3 ∷ [])
+    case (List ℕ) (answer .status ∷ answer .state .run .clocks .clock ∷ answer .state .run .clocks .instants ∷ answer .state .run .clocks .updates ∷ []) (1 ∷ 6 ∷ 2 ∷ 3 ∷ [])
 
 abbrev p1-lazy-events : Case
 p1-lazy-events = case (List ℕ) (bufferOfRun Lazy (loadOf cupFile .state) 64 buffer) (cupEvents ++ replicate 2280 7)
@@ -99,7 +99,7 @@ p1-eager-events = case (List ℕ) (bufferOfRun Eager (loadOf cupFile .state) 64 
 abbrev p1-eager-end : Case
 p1-eager-end =
     let answer = ran Eager 64 cupFile in
-    case (List ℕ) (answer .status ∷ answer .state .run .clock ∷ answer .state .run .instants ∷ answer .state .run .updates ∷ []) (1 ∷ 6 ∷ 2 ∷ 4 ∷ [])
+    case (List ℕ) (answer .status ∷ answer .state .run .clocks .clock ∷ answer .state .run .clocks .instants ∷ answer .state .run .clocks .updates ∷ []) (1 ∷ 6 ∷ 2 ∷ 4 ∷ [])
 
 -- "At clock 6 the positions are 18 and 24."
 abbrev p1-lazy-positions : Case
@@ -154,7 +154,7 @@ sumsFile =
 abbrev p6-sums : Case
 p6-sums =
     let p = loadOf sumsFile .state .plan in
-    case (List ℤ) (table 4 (λ i. sumOver p (p .starts) (p .firsts) i (p .links))) (negsuc 0 ∷ negsuc 65535 ∷ pos 65535 ∷ pos 65536 ∷ [])
+    case (List ℤ) (table 4 (λ i. sumOver p (p .integrators .starts) (p .inputs .firsts) i (p .counts .links))) (negsuc 0 ∷ negsuc 65535 ∷ pos 65535 ∷ pos 65536 ∷ [])
 
 abbrev p6-slopes : Case
 p6-slopes = case (List ℤ) (loadOf sumsFile .state .run .s) (negsuc 0 ∷ negsuc 0 ∷ pos 0 ∷ pos 1 ∷ replicate 28 (pos 0))
@@ -198,7 +198,7 @@ abbrev p9-above-m-bars : Case
 p9-above-m-bars = case ℕ (ran Lazy 1 barredFile .status) 2
 
 abbrev p9-above-m-not-taken : Case
-p9-above-m-not-taken = case ℕ (ran Lazy 1 barredFile .state .run .instants) 0
+p9-above-m-not-taken = case ℕ (ran Lazy 1 barredFile .state .run .clocks .instants) 0
 
 pub p1-to-p9 : List Case
 p1-to-p9 =

@@ -69,25 +69,12 @@ valveFile =
 abbrev valvePlan : Plan
 valvePlan = record {
   horizon = 500;
-  n = 2;
-  m = 1;
-  k = 2;
-  links = 1;
-  commands = 0;
-  starts = negsuc 0 ∷ pos 5 ∷ replicate 30 (pos 0);
-  quanta = pos 7 ∷ pos 8 ∷ replicate 30 (pos 0);
-  firsts = negsuc 1073741823 ∷ replicate 7 (pos 0);
-  kinds = 3 ∷ 2 ∷ replicate 14 0;
-  lefts = 0 ∷ 3 ∷ replicate 14 0;
-  rights = 1 ∷ replicate 15 0;
-  lows = negsuc 0 ∷ negsuc 1073741823 ∷ replicate 14 (pos 0);
-  highs = pos 4 ∷ pos 9 ∷ replicate 14 (pos 0);
-  targets = 1 ∷ replicate 255 0;
-  sources = 4 ∷ replicate 255 0;
-  coefficients = negsuc 16777215 ∷ replicate 255 (pos 0);
-  ticks = replicate 64 0;
-  numbers = replicate 64 0;
-  values = replicate 64 (pos 0);
+  counts = record { n = 2; m = 1; k = 2; links = 1; commands = 0 };
+  integrators = record { starts = negsuc 0 ∷ pos 5 ∷ replicate 30 (pos 0); quanta = pos 7 ∷ pos 8 ∷ replicate 30 (pos 0) };
+  inputs = record { firsts = negsuc 1073741823 ∷ replicate 7 (pos 0) };
+  nodes = record { kinds = 3 ∷ 2 ∷ replicate 14 0; a = 0 ∷ 3 ∷ replicate 14 0; b = 1 ∷ replicate 15 0; lows = negsuc 0 ∷ negsuc 1073741823 ∷ replicate 14 (pos 0); highs = pos 4 ∷ pos 9 ∷ replicate 14 (pos 0) };
+  links = record { targets = 1 ∷ replicate 255 0; sources = 4 ∷ replicate 255 0; coefficients = negsuc 16777215 ∷ replicate 255 (pos 0) };
+  commands = record { ticks = replicate 64 0; inputs = replicate 64 0; values = replicate 64 (pos 0) };
 }
 
 pub examples : List Case

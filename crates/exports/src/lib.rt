@@ -14,10 +14,12 @@ use directory::section_in;
 use entryrules::SECTIONS;
 use machine::State;
 use plan::Finding;
+use plan::SOURCES;
 use planfile::read_plan;
 use planrules::entry_of;
 use planrules::number_of;
 use planwriter::write_plan;
+use rates::RANGES;
 use rates::link_ranges;
 use reach::reach_table;
 use simulator::Loaded;
@@ -122,9 +124,9 @@ pub extern "C" fn cup_echo(state: State) -> State
 // The tables that a run works out once: where each integrator's links begin, what a change of each source reaches, and the value of each source.
 #[repr(C)]
 pub struct Tables {
-    pub ranges: [usize; 33],
-    pub reach: [u64; 64],
-    pub values: [i64; 64],
+    pub ranges: [usize; RANGES],
+    pub reach: [u64; SOURCES],
+    pub values: [i64; SOURCES],
 }
 
 // The tables of a sound state, else all 0. For tests.
@@ -134,25 +136,25 @@ pub extern "C" fn cup_tables(state: State) -> Tables
 {
     if !is_sound(state) {
         return Tables {
-            ranges: [0; 33],
-            reach: [0; 64],
-            values: [0; 64],
+            ranges: [0; RANGES],
+            reach: [0; SOURCES],
+            values: [0; SOURCES],
         };
     }
-    let n = state.plan.n;
-    let m = state.plan.m;
-    let k = state.plan.k;
-    let links = state.plan.links;
-    let ranges = link_ranges(n, links, &state.plan.targets);
+    let n = state.plan.counts.n;
+    let m = state.plan.counts.m;
+    let k = state.plan.counts.k;
+    let links = state.plan.counts.links;
+    let ranges = link_ranges(n, links, &state.plan.links.targets);
     let reach = reach_table(
         n + m,
         k,
         links,
-        &state.plan.kinds,
-        &state.plan.lefts,
-        &state.plan.rights,
-        &state.plan.targets,
-        &state.plan.sources,
+        &state.plan.nodes.kinds,
+        &state.plan.nodes.a,
+        &state.plan.nodes.b,
+        &state.plan.links.targets,
+        &state.plan.links.sources,
     );
     let values = source_values(
         n,
@@ -160,11 +162,11 @@ pub extern "C" fn cup_tables(state: State) -> Tables
         k,
         &state.run.q,
         &state.run.inputs,
-        &state.plan.kinds,
-        &state.plan.lefts,
-        &state.plan.rights,
-        &state.plan.lows,
-        &state.plan.highs,
+        &state.plan.nodes.kinds,
+        &state.plan.nodes.a,
+        &state.plan.nodes.b,
+        &state.plan.nodes.lows,
+        &state.plan.nodes.highs,
     );
     Tables {
         ranges,

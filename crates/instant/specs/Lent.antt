@@ -6,11 +6,13 @@ use Prim.Native.Nat.{ℕ, _+_, _*_, _≤_}
 use lib.IntN.{ℤ}
 use lib.ListN.{length}
 use Rattle.bitset.specs.Mask.{maskOf, allOf, union}
+use Rattle.plan.specs.declared.Counts.{Counts}
 use Rattle.plan.specs.declared.Plan.{Plan}
 use Rattle.machine.specs.Reach.{isDue}
 use Rattle.machine.specs.Instant.{tickOf, instant, eventsOf}
 use Rattle.machine.specs.Status.{isPaused}
 use Rattle.machine.specs.Sound.{SoundRunning, RunningShaped}
+use Rattle.machine.specs.declared.Clocks.{Clocks}
 use Rattle.machine.specs.declared.Running.{Running}
 use Rattle.machine.specs.declared.Engine.{Engine}
 use Rattle.machine.specs.declared.Engine.the-variants.{Lazy, Eager}
@@ -18,37 +20,22 @@ use Rattle.values.specs.Sources.{valuesOf}
 use Rattle.rates.specs.Links.{rangesOf}
 use Rattle.reach.specs.Table.{reachTable}
 use Rattle.steps.specs.Events.{putAt}
-use Rattle.instant.specs.declared.instants.Counts.{Counts}
-use Rattle.instant.specs.declared.instants.Clocks.{Clocks}
 
-abbrev pub planOf : Counts → List ℤ → List ℤ → List ℤ → List ℕ → List ℕ → List ℕ → List ℤ → List ℤ → List ℕ → List ℕ → List ℤ → List ℕ
+abbrev pub planOf : ℕ → Counts → List ℤ → List ℤ → List ℤ → List ℕ → List ℕ → List ℕ → List ℤ → List ℤ → List ℕ → List ℕ → List ℤ → List ℕ
     → List ℕ → List ℤ → Plan
-planOf c starts quanta firsts kinds lefts rights lows highs targets sources coefficients ticks numbers values =
+planOf horizon counts starts quanta firsts kinds a b lows highs targets sources coefficients ticks numbers values =
     record {
-      horizon = c .horizon;
-      n = c .n;
-      m = c .m;
-      k = c .k;
-      links = c .links;
-      commands = c .commands;
-      starts = starts;
-      quanta = quanta;
-      firsts = firsts;
-      kinds = kinds;
-      lefts = lefts;
-      rights = rights;
-      lows = lows;
-      highs = highs;
-      targets = targets;
-      sources = sources;
-      coefficients = coefficients;
-      ticks = ticks;
-      numbers = numbers;
-      values = values;
+      horizon = horizon;
+      counts = counts;
+      integrators = record { starts = starts; quanta = quanta };
+      inputs = record { firsts = firsts };
+      nodes = record { kinds = kinds; a = a; b = b; lows = lows; highs = highs };
+      links = record { targets = targets; sources = sources; coefficients = coefficients };
+      commands = record { ticks = ticks; inputs = numbers; values = values };
     }
 
 abbrev pub runningOf : List ℤ → List ℤ → List ℤ → List ℕ → List ℕ → List ℤ → Clocks → Running
-runningOf x q s l d inputs c =
+runningOf x q s l d inputs clocks =
     record {
       x = x;
       q = q;
@@ -56,10 +43,7 @@ runningOf x q s l d inputs c =
       l = l;
       d = d;
       inputs = inputs;
-      clock = c .clock;
-      next = c .next;
-      instants = c .instants;
-      updates = c .updates;
+      clocks = clocks;
     }
 
 -- "The lazy engine moves those due or reached, the eager engine all", on masks
@@ -73,11 +57,11 @@ pub record InstantReady (p : Plan) (r : Running) (t due : ℕ) (ranges reach : L
   pub sound : SoundRunning p r
   pub paused : isPaused p r ≡ true
   pub tick : t ≡ tickOf p r
-  pub due-set : due ≡ maskOf (isDue (r .d) t) (p .n)
+  pub due-set : due ≡ maskOf (isDue (r .d) t) (p .counts .n)
   pub ranges-are : ranges ≡ rangesOf p
   pub reach-is : reach ≡ reachTable p
   pub values-are : values ≡ valuesOf p (r .q) (r .inputs)
-  pub room : at + (p .n + p .m) * 12 ≤ size
+  pub room : at + (p .counts .n + p .counts .m) * 12 ≤ size
 
 -- what it leaves: the machine's figures after the instant, the values of all sources by these, the events from byte `at` on and nothing else changed in the buffer, and
 -- the place behind the events

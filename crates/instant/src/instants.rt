@@ -7,31 +7,22 @@ use bitset::all;
 use bitset::count;
 use bitset::joined;
 use bitset::union;
+use machine::Clocks;
 use machine::Engine;
 use moves::move_all;
+use plan::COMMANDS;
+use plan::Counts;
+use plan::INPUTS;
+use plan::INTEGRATORS;
+use plan::LINKS;
+use plan::NODES;
+use plan::SOURCES;
+use rates::RANGES;
 use reach::reached_by;
 use steps::obey_commands;
 use steps::set_outputs;
 use steps::write_events;
 use values::work_nodes;
-
-// The numbers of a plan beside its arrays.
-pub struct Counts {
-    pub horizon: u32,
-    pub n: usize,
-    pub m: usize,
-    pub k: usize,
-    pub links: usize,
-    pub commands: usize,
-}
-
-// The running figures beside the arrays.
-pub struct Clocks {
-    pub clock: u32,
-    pub next: usize,
-    pub instants: u64,
-    pub updates: u64,
-}
 
 // What an instant leaves, and the place behind its events.
 pub struct Taken {
@@ -56,41 +47,42 @@ fn moved_set(engine: Engine, n: usize, due: u32, reached: u32) -> u32
 // contract can name the plan whole.
 pub fn take_instant<'a>(
     engine: Engine,
+    horizon: u32,
     counts: Counts,
     t: u32,
     due: u32,
-    starts: &'a [i64; 32],
-    quanta: &'a [i64; 32],
-    firsts: &'a [i64; 8],
-    kinds: &'a [usize; 16],
-    lefts: &'a [usize; 16],
-    rights: &'a [usize; 16],
-    lows: &'a [i64; 16],
-    highs: &'a [i64; 16],
-    targets: &'a [usize; 256],
-    sources: &'a [usize; 256],
-    coefficients: &'a [i64; 256],
-    ticks: &'a [u32; 64],
-    numbers: &'a [usize; 64],
-    settings: &'a [i64; 64],
-    ranges: &'a [usize; 33],
-    reach: &'a [u64; 64],
-    x: &mut [i64; 32],
-    q: &mut [i64; 32],
-    s: &mut [i64; 32],
-    l: &mut [u32; 32],
-    d: &mut [u32; 32],
-    inputs: &mut [i64; 8],
-    values: &mut [i64; 64],
+    starts: &'a [i64; INTEGRATORS],
+    quanta: &'a [i64; INTEGRATORS],
+    firsts: &'a [i64; INPUTS],
+    kinds: &'a [usize; NODES],
+    a: &'a [usize; NODES],
+    b: &'a [usize; NODES],
+    lows: &'a [i64; NODES],
+    highs: &'a [i64; NODES],
+    targets: &'a [usize; LINKS],
+    sources: &'a [usize; LINKS],
+    coefficients: &'a [i64; LINKS],
+    ticks: &'a [u32; COMMANDS],
+    numbers: &'a [usize; COMMANDS],
+    settings: &'a [i64; COMMANDS],
+    ranges: &'a [usize; RANGES],
+    reach: &'a [u64; SOURCES],
+    x: &mut [i64; INTEGRATORS],
+    q: &mut [i64; INTEGRATORS],
+    s: &mut [i64; INTEGRATORS],
+    l: &mut [u32; INTEGRATORS],
+    d: &mut [u32; INTEGRATORS],
+    inputs: &mut [i64; INPUTS],
+    values: &mut [i64; SOURCES],
     clocks: Clocks,
     buf: &mut [u8],
     at: usize,
 ) -> Taken
-    requires { ⌜ InstantReady (planOf counts (now starts) (now quanta) (now firsts) (now kinds) (now lefts) (now rights) (now lows) (now highs) (now targets)
+    requires { ⌜ InstantReady (planOf horizon counts (now starts) (now quanta) (now firsts) (now kinds) (now a) (now b) (now lows) (now highs) (now targets)
         (now sources) (now coefficients) (now ticks) (now numbers) (now settings)) (runningOf (now x) (now q) (now s) (now l) (now d) (now inputs) clocks)
         t due (now ranges) (now reach) (now values) at (length (now buf)) ⌝ }
-    ensures { λ w. ⌜ InstantTaken (planOf counts (now (starts .entry)) (now (quanta .entry)) (now (firsts .entry)) (now (kinds .entry)) (now (lefts .entry))
-        (now (rights .entry)) (now (lows .entry)) (now (highs .entry)) (now (targets .entry)) (now (sources .entry)) (now (coefficients .entry))
+    ensures { λ w. ⌜ InstantTaken (planOf horizon counts (now (starts .entry)) (now (quanta .entry)) (now (firsts .entry)) (now (kinds .entry)) (now (a .entry))
+        (now (b .entry)) (now (lows .entry)) (now (highs .entry)) (now (targets .entry)) (now (sources .entry)) (now (coefficients .entry))
         (now (ticks .entry)) (now (numbers .entry)) (now (settings .entry))) engine
         (runningOf (now (x .entry)) (now (q .entry)) (now (s .entry)) (now (l .entry)) (now (d .entry)) (now (inputs .entry)) clocks) at (now (buf .entry))
         (runningOf (now (x .exit)) (now (q .exit)) (now (s .exit)) (now (l .exit)) (now (d .exit)) (now (inputs .exit)) (w .clocks))
@@ -117,8 +109,8 @@ pub fn take_instant<'a>(
         counts.k,
         base,
         kinds,
-        lefts,
-        rights,
+        a,
+        b,
         lows,
         highs,
         values,
@@ -138,11 +130,13 @@ pub fn take_instant<'a>(
         l,
         d,
     );
+    let instants = clocks.instants + 1;
+    let updates = clocks.updates + (count(moved) as u64);
     let after = Clocks {
         clock: t,
         next: commanded.next,
-        instants: clocks.instants + 1,
-        updates: clocks.updates + (count(moved) as u64),
+        instants,
+        updates,
     };
     Taken { clocks: after, end }
 }

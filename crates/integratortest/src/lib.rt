@@ -4,6 +4,7 @@ ghost use Prim.Native.Nat.{_≤_};
 ghost use Rattle.plan.specs.Lists.{nat, int, every};
 ghost use Rattle.integratortest.specs.Figures.{figuresSound, FiguresReady, AllReady};
 use dynamics::due_tick;
+use plan::INTEGRATORS;
 
 // "l ≤ c < d; .. |x−q| < D; s and d keep Rate and Due", of one integrator whose links make `rate`. x may be any number of 64 bits, so it is compared with
 // the levels and nothing is taken from it.
@@ -42,13 +43,13 @@ fn integrator_sound(
 pub fn integrators_sound<'a>(
     n: usize,
     clock: u32,
-    quanta: &'a [i64; 32],
-    rates: &'a [i64; 32],
-    x: &'a [i64; 32],
-    q: &'a [i64; 32],
-    s: &'a [i64; 32],
-    l: &'a [u32; 32],
-    d: &'a [u32; 32],
+    quanta: &'a [i64; INTEGRATORS],
+    rates: &'a [i64; INTEGRATORS],
+    x: &'a [i64; INTEGRATORS],
+    q: &'a [i64; INTEGRATORS],
+    s: &'a [i64; INTEGRATORS],
+    l: &'a [u32; INTEGRATORS],
+    d: &'a [u32; INTEGRATORS],
 ) -> bool
     requires { ⌜ (n ≤ 32) × AllReady n clock (now quanta) (now rates) (now q) ⌝ }
     ensures { λ r. ⌜ r ≡ every (λ i. figuresSound clock (int (now (quanta .entry)) i) (int (now (rates .entry)) i) (int (now (x .entry)) i)

@@ -20,7 +20,7 @@ eventLines bytes = linesOf bytes (length bytes / 12)
 
 -- "then "end", status, clock, instants, updates"
 unfoldable pub closing : Plan → Running → List ℕ
-closing p r = endLine (statusOf p r) (r .clock) (r .instants) (r .updates)
+closing p r = endLine (statusOf p r) (r .clocks .clock) (r .clocks .instants) (r .clocks .updates)
 
 -- The lines of a lazy run from r on with a budget b, and the end line of where it ends. With the horizon for a budget the run always ends with
 -- status 1 or 2 (`ListingStops`), since each instant moves the clock on.

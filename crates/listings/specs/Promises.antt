@@ -26,7 +26,7 @@ ListingStops = (st : State) → Sound st → statusOf (st .plan) (after (st .pla
 pub record TurnPromise (st : State) : Type 0 where
   pub sound : Sound (turnState st)
   pub plan : turnState st .plan ≡ st .plan
-  pub moves : turnMore st ≡ true → (st .run .clock < turnState st .run .clock) × (turnState st .run .clock ≤ st .plan .horizon)
+  pub moves : turnMore st ≡ true → (st .run .clocks .clock < turnState st .run .clocks .clock) × (turnState st .run .clocks .clock ≤ st .plan .horizon)
 
 abbrev pub TurnsEnd : Type 0
 TurnsEnd = (st : State) → Sound st → TurnPromise st

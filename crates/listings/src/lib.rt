@@ -67,13 +67,13 @@ pub fn take_turn(state: State, events: &mut [u8], text: &mut [u8]) -> Turn
             state: reached,
         };
     }
-    let clock = reached.run.clock as u64;
+    let clock = reached.run.clocks.clock as u64;
     let end = write_end(
         &mut text[lines..],
         ran.status as u64,
         clock,
-        reached.run.instants,
-        reached.run.updates,
+        reached.run.clocks.instants,
+        reached.run.clocks.updates,
     );
     Turn {
         length: lines + end,

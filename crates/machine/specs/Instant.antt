@@ -24,11 +24,11 @@ positionAt r t i = int (r .x) i +ℤ int (r .s) i *ℤ pos (t - nat (r .l) i)
 -- the value of input j after those of the first e commands that are of tick t
 unfoldable pub settingOf : Plan → List ℤ → ℕ → ℕ → ℕ → ℤ
 settingOf p u t j zero = int u j
-settingOf p u t j (suc e) = cond (setsInput p t j e) (int (p .values) e) (settingOf p u t j e)
+settingOf p u t j (suc e) = cond (setsInput p t j e) (int (p .commands .values) e) (settingOf p u t j e)
 
 -- 2. "Commands of tick t set their inputs."
 unfoldable pub settings : Plan → List ℤ → ℕ → List ℤ
-settings p u t = row (pos 0) 8 (p .m) (λ j. settingOf p u t j (p .commands))
+settings p u t = row (pos 0) 8 (p .counts .m) (λ j. settingOf p u t j (p .counts .commands))
 
 -- 5. "The lazy engine moves those due or reached, the eager engine all"
 unfoldable pub moves : Plan → Engine → List ℕ → ℕ → ℕ → Bool
@@ -46,12 +46,12 @@ eventBytes t source value = flat (t ∷ source ∷ wordOf value ∷ [])
 
 -- at tick t, with the due ticks d before it, and the outputs q and input values u after it
 unfoldable pub eventsAt : Plan → ℕ → List ℕ → List ℤ → List ℤ → List ℕ
-eventsAt p t d q u = joined (λ i. cond (changes p d t i) (eventBytes t i (valueWith p q u zero i)) []) (p .n + p .m)
+eventsAt p t d q u = joined (λ i. cond (changes p d t i) (eventBytes t i (valueWith p q u zero i)) []) (p .counts .n + p .counts .m)
 
 module _ (p : Plan) (r : Running) (t : ℕ) where
   -- 1. "The due integrators (d = t) take q = x+s×(t−l)." The others keep theirs.
   unfoldable pub outputs : List ℤ
-  outputs = row (pos 0) 32 (p .n) (λ i. cond (isDue (r .d) t i) (positionAt r t i) (int (r .q) i))
+  outputs = row (pos 0) 32 (p .counts .n) (λ i. cond (isDue (r .d) t i) (positionAt r t i) (int (r .q) i))
 
   -- 3. and 5. the new slope, by the new outputs and inputs and the node values worked out from them
   unfoldable pub slopeThen : ℕ → ℤ
@@ -70,22 +70,19 @@ module _ (p : Plan) (r : Running) (t : ℕ) where
   unfoldable pub takenAt : (ℕ → Bool) → Running
   takenAt moved =
       record {
-        x = row (pos 0) 32 (p .n) (λ i. cond (moved i) (xThen i) (int (r .x) i));
+        x = row (pos 0) 32 (p .counts .n) (λ i. cond (moved i) (xThen i) (int (r .x) i));
         q = outputs;
-        s = row (pos 0) 32 (p .n) (λ i. cond (moved i) (slopeThen i) (int (r .s) i));
-        l = row 0 32 (p .n) (λ i. cond (moved i) t (nat (r .l) i));
-        d = row 0 32 (p .n) (λ i. cond (moved i) (dueThen i) (nat (r .d) i));
+        s = row (pos 0) 32 (p .counts .n) (λ i. cond (moved i) (slopeThen i) (int (r .s) i));
+        l = row 0 32 (p .counts .n) (λ i. cond (moved i) t (nat (r .l) i));
+        d = row 0 32 (p .counts .n) (λ i. cond (moved i) (dueThen i) (nat (r .d) i));
         inputs = settings p (r .inputs) t;
-        clock = t;
-        next = nextCommand p t;
-        instants = r .instants + 1;
-        updates = r .updates + countOf moved (p .n);
+        clocks = record { clock = t; next = nextCommand p t; instants = r .clocks .instants + 1; updates = r .clocks .updates + countOf moved (p .counts .n) };
       }
 
 module _ (p : Plan) where
   -- the tick of the next instant
   unfoldable pub tickOf : Running → ℕ
-  tickOf r = nextTick p (r .d) (r .next)
+  tickOf r = nextTick p (r .d) (r .clocks .next)
 
   unfoldable pub instant : Engine → Running → Running
   instant engine r = takenAt p r (tickOf r) (moves p engine (r .d) (tickOf r))

@@ -9,10 +9,10 @@ use Rattle.machine.specs.Due.{never}
 
 -- "the next command is the first with tick above c, or the command count if none"
 unfoldable pub nextCommand : Plan → ℕ → ℕ
-nextCommand p clock = firstFrom (λ e. ltb clock (nat (p .ticks) e)) 0 (p .commands)
+nextCommand p clock = firstFrom (λ e. ltb clock (nat (p .commands .ticks) e)) 0 (p .counts .commands)
 
 unfoldable pub commandTick : Plan → ℕ → ℕ
-commandTick p next = cond (ltb next (p .commands)) (nat (p .ticks) next) never
+commandTick p next = cond (ltb next (p .counts .commands)) (nat (p .commands .ticks) next) never
 
 -- the least of the first n due ticks, or never
 unfoldable pub leastDue : List ℕ → ℕ → ℕ
@@ -20,4 +20,4 @@ leastDue d zero = never
 leastDue d (suc i) = min (leastDue d i) (nat d i)
 
 unfoldable pub nextTick : Plan → List ℕ → ℕ → ℕ
-nextTick p d next = min (leastDue d (p .n)) (commandTick p next)
+nextTick p d next = min (leastDue d (p .counts .n)) (commandTick p next)

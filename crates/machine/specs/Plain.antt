@@ -34,8 +34,8 @@ module _ (p : Plan) where
       record {
         x = x;
         q = q;
-        s = row (pos 0) 32 (p .n) slope;
-        d = row 0 32 (p .n) (λ i. dueOf p q i t (int x i) (slope i));
+        s = row (pos 0) 32 (p .counts .n) slope;
+        d = row 0 32 (p .counts .n) (λ i. dueOf p q i t (int x i) (slope i));
         inputs = u;
         clock = t;
         next = nextCommand p t;
@@ -44,7 +44,7 @@ module _ (p : Plan) where
 
   -- "Start: x = q = start"
   unfoldable pub plainStart : Plain
-  plainStart = settled (p .starts) (p .starts) (p .firsts) 0 0
+  plainStart = settled (p .integrators .starts) (p .integrators .starts) (p .inputs .firsts) 0 0
 
   -- "Next instant t"
   unfoldable pub plainTick : Plain → ℕ
@@ -55,12 +55,12 @@ module _ (p : Plan) where
   plainPosition m i = int (m .x) i +ℤ int (m .s) i *ℤ pos (plainTick m - m .clock)
 
   unfoldable pub plainOutputs : Plain → List ℤ
-  plainOutputs m = row (pos 0) 32 (p .n) (λ i. cond (isDue (m .d) (plainTick m) i) (plainPosition m i) (int (m .q) i))
+  plainOutputs m = row (pos 0) 32 (p .counts .n) (λ i. cond (isDue (m .d) (plainTick m) i) (plainPosition m i) (int (m .q) i))
 
   -- one instant: all move, the due ones take their position as output, the commands of the tick set their inputs
   unfoldable pub plainInstant : Plain → Plain
   plainInstant m =
-      settled (row (pos 0) 32 (p .n) (plainPosition m)) (plainOutputs m) (settings p (m .inputs) (plainTick m)) (plainTick m) (m .instants + 1)
+      settled (row (pos 0) 32 (p .counts .n) (plainPosition m)) (plainOutputs m) (settings p (m .inputs) (plainTick m)) (plainTick m) (m .instants + 1)
 
   unfoldable pub plainEventsOf : Plain → List ℕ
   plainEventsOf m = eventsAt p (plainTick m) (m .d) (plainOutputs m) (settings p (m .inputs) (plainTick m))
@@ -73,7 +73,7 @@ module _ (p : Plan) where
 
   -- "the number that step 5 moves for the lazy engine, with the plain machine's due ticks": those due or reached
   unfoldable pub lazyCount : Plain → ℕ
-  lazyCount m = countOf (λ i. isDue (m .d) (plainTick m) i || reached p (m .d) (plainTick m) i) (p .n)
+  lazyCount m = countOf (λ i. isDue (m .d) (plainTick m) i || reached p (m .d) (plainTick m) i) (p .counts .n)
 
   -- "From Start it takes B instants, or fewer if its status is first 1 or 2."
   unfoldable pub plainFrom : ℕ → Plain → Plain

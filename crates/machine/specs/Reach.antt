@@ -13,45 +13,45 @@ isDue d t i = eqb (nat d i) t
 
 -- command e is one "of tick t" and sets input j
 unfoldable pub setsInput : Plan → ℕ → ℕ → ℕ → Bool
-setsInput p t j e = eqb (nat (p .ticks) e) t && eqb (nat (p .numbers) e) j
+setsInput p t j e = eqb (nat (p .commands .ticks) e) t && eqb (nat (p .commands .inputs) e) j
 
 unfoldable pub isCommanded : Plan → ℕ → ℕ → Bool
-isCommanded p t j = some (setsInput p t j) (p .commands)
+isCommanded p t j = some (setsInput p t j) (p .counts .commands)
 
 -- with the due ticks d, at tick t
 module _ (p : Plan) (d : List ℕ) (t : ℕ) where
   -- source i is a due integrator or a commanded input
   unfoldable pub changes : ℕ → Bool
-  changes i = cond (ltb i (p .n)) (isDue d t i) (ltb i (p .n + p .m) && isCommanded p t (i - p .n))
+  changes i = cond (ltb i (p .counts .n)) (isDue d t i) (ltb i (p .counts .n + p .counts .m) && isCommanded p t (i - p .counts .n))
 
   -- Source i is one, or a node that depends on one, where only the first j nodes are looked at: "dependence is followed down through
   -- lower-numbered nodes". Kind 2 names nothing by B.
   unfoldable pub dependsWith : ℕ → ℕ → Bool
   dependsWith zero i = changes i
   dependsWith (suc j) i =
-      cond (eqb i (p .n + p .m + j))
-      (dependsWith j (nat (p .lefts) j) || (not (eqb (nat (p .kinds) j) 2) && dependsWith j (nat (p .rights) j)))
+      cond (eqb i (p .counts .n + p .counts .m + j))
+      (dependsWith j (nat (p .nodes .a) j) || (not (eqb (nat (p .nodes .kinds) j) 2) && dependsWith j (nat (p .nodes .b) j)))
       (dependsWith j i)
 
   -- link e is integrator i's own, and names a source that changes or depends on one that does
   unfoldable pub linkReaches : ℕ → ℕ → Bool
-  linkReaches i e = eqb (nat (p .targets) e) i && dependsWith (p .k) (nat (p .sources) e)
+  linkReaches i e = eqb (nat (p .links .targets) e) i && dependsWith (p .counts .k) (nat (p .links .sources) e)
 
   -- "An integrator is reached if a link of its own names a due integrator, a commanded input, or a node that depends on one"
   unfoldable pub reached : ℕ → Bool
-  reached i = some (linkReaches i) (p .links)
+  reached i = some (linkReaches i) (p .counts .links)
 
   -- The same in document 01's words. A source changes that is "a due integrator, a commanded input":
   pub data Changed : ℕ → Type 0 where
-    due : {i : ℕ} → i < p .n → nat d i ≡ t → Changed i
-    commanded : {i : ℕ} (j e : ℕ) → i ≡ p .n + j → j < p .m → e < p .commands → nat (p .ticks) e ≡ t → nat (p .numbers) e ≡ j → Changed i
+    due : {i : ℕ} → i < p .counts .n → nat d i ≡ t → Changed i
+    commanded : {i : ℕ} (j e : ℕ) → i ≡ p .counts .n + j → j < p .counts .m → e < p .counts .commands → nat (p .commands .ticks) e ≡ t → nat (p .commands .inputs) e ≡ j → Changed i
 
   -- "or a node that depends on one", by A, or by B where its kind uses it
   pub data Depends : ℕ → Type 0 where
     itself : {i : ℕ} → Changed i → Depends i
-    left : {i : ℕ} (j : ℕ) → i ≡ p .n + p .m + j → j < p .k → Depends (nat (p .lefts) j) → Depends i
-    right : {i : ℕ} (j : ℕ) → i ≡ p .n + p .m + j → j < p .k → (nat (p .kinds) j ≡ 2 → ⊥) → Depends (nat (p .rights) j) → Depends i
+    left : {i : ℕ} (j : ℕ) → i ≡ p .counts .n + p .counts .m + j → j < p .counts .k → Depends (nat (p .nodes .a) j) → Depends i
+    right : {i : ℕ} (j : ℕ) → i ≡ p .counts .n + p .counts .m + j → j < p .counts .k → (nat (p .nodes .kinds) j ≡ 2 → ⊥) → Depends (nat (p .nodes .b) j) → Depends i
 
   -- "a link of its own names" such a source
   pub data Reached : ℕ → Type 0 where
-    link : {i : ℕ} (e : ℕ) → e < p .links → nat (p .targets) e ≡ i → Depends (nat (p .sources) e) → Reached i
+    link : {i : ℕ} (e : ℕ) → e < p .counts .links → nat (p .links .targets) e ≡ i → Depends (nat (p .links .sources) e) → Reached i

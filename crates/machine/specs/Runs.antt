@@ -22,4 +22,4 @@ module _ (p : Plan) (engine : Engine) where
 
 -- "Position call: x+s×(c−l) for a numbered integrator."
 unfoldable pub positionOf : Running → ℕ → ℤ
-positionOf r i = positionAt r (r .clock) i
+positionOf r i = positionAt r (r .clocks .clock) i

@@ -18,22 +18,22 @@ use Rattle.machine.specs.declared.State.{State}
 
 -- "unused entries are 0": those of the running figures; Unused.antt of the crate `plan` has those of the plan
 pub record RunningUnused (p : Plan) (r : Running) : Type 0 where
-  pub x : UnusedInt (p .n) (r .x)
-  pub q : UnusedInt (p .n) (r .q)
-  pub s : UnusedInt (p .n) (r .s)
-  pub l : UnusedNat (p .n) (r .l)
-  pub d : UnusedNat (p .n) (r .d)
-  pub inputs : UnusedInt (p .m) (r .inputs)
+  pub x : UnusedInt (p .counts .n) (r .x)
+  pub q : UnusedInt (p .counts .n) (r .q)
+  pub s : UnusedInt (p .counts .n) (r .s)
+  pub l : UnusedNat (p .counts .n) (r .l)
+  pub d : UnusedNat (p .counts .n) (r .d)
+  pub inputs : UnusedInt (p .counts .m) (r .inputs)
 
 -- what is asked of integrator i
 pub record SoundIntegrator (p : Plan) (r : Running) (i : ℕ) : Type 0 where
   -- "l ≤ c < d"
-  pub moved : nat (r .l) i ≤ r .clock
-  pub ahead : r .clock < nat (r .d) i
+  pub moved : nat (r .l) i ≤ r .clocks .clock
+  pub ahead : r .clocks .clock < nat (r .d) i
   -- "|q| ≤ M"
   pub output : ∣ int (r .q) i ∣ ≤ M
   -- "|x−q| < D"
-  pub near : pos ∣ int (r .x) i -ℤ int (r .q) i ∣ <ℤ int (p .quanta) i
+  pub near : pos ∣ int (r .x) i -ℤ int (r .q) i ∣ <ℤ int (p .integrators .quanta) i
   -- "s and d keep Rate and Due"
   pub rate : int (r .s) i ≡ rateOf p (r .q) (r .inputs) i
   pub due : nat (r .d) i ≡ dueOf p (r .q) i (nat (r .l) i) (int (r .x) i) (int (r .s) i)
@@ -42,15 +42,15 @@ pub record SoundRunning (p : Plan) (r : Running) : Type 0 where
   -- "its plan keeps all rules above"
   pub plan : PlanRules p
   -- "c ≤ horizon"
-  pub clock : r .clock ≤ p .horizon
-  pub integrators : (i : ℕ) → i < p .n → SoundIntegrator p r i
+  pub clock : r .clocks .clock ≤ p .horizon
+  pub integrators : (i : ℕ) → i < p .counts .n → SoundIntegrator p r i
   -- "inputs are within ±M"
-  pub inputs : (j : ℕ) → j < p .m → Within M (int (r .inputs) j)
+  pub inputs : (j : ℕ) → j < p .counts .m → Within M (int (r .inputs) j)
   -- "the next command is the first with tick above c, or the command count if none"
-  pub next : r .next ≡ nextCommand p (r .clock)
+  pub next : r .clocks .next ≡ nextCommand p (r .clocks .clock)
   -- "instants ≤ c; updates ≤ n×instants"
-  pub instants : r .instants ≤ r .clock
-  pub updates : r .updates ≤ p .n * r .instants
+  pub instants : r .clocks .instants ≤ r .clocks .clock
+  pub updates : r .clocks .updates ≤ p .counts .n * r .clocks .instants
   -- "unused entries are 0"
   pub plan-unused : PlanUnused p
   pub running-unused : RunningUnused p r

@@ -25,13 +25,13 @@ planSound p = countsKept p && isClean (planFinding p) && planUnused p
 module _ (p : Plan) (r : Running) where
   unfoldable pub runningUnused : Bool
   runningUnused =
-      unusedInt (p .n) (r .x) && unusedInt (p .n) (r .q) && unusedInt (p .n) (r .s)
-      && unusedNat (p .n) (r .l) && unusedNat (p .n) (r .d) && unusedInt (p .m) (r .inputs)
+      unusedInt (p .counts .n) (r .x) && unusedInt (p .counts .n) (r .q) && unusedInt (p .counts .n) (r .s)
+      && unusedNat (p .counts .n) (r .l) && unusedNat (p .counts .n) (r .d) && unusedInt (p .counts .m) (r .inputs)
 
   -- "|x−q| < D" is tested as x strictly between the levels, since x may be any 64-bit number
   unfoldable pub integratorSound : ℕ → Bool
   integratorSound i =
-      leb (nat (r .l) i) (r .clock) && ltb (r .clock) (nat (r .d) i)
+      leb (nat (r .l) i) (r .clocks .clock) && ltb (r .clocks .clock) (nat (r .d) i)
       && within M (int (r .q) i)
       && ltZ (lowerLevel p (r .q) i) (int (r .x) i) && ltZ (int (r .x) i) (upperLevel p (r .q) i)
       && eqb ∣ int (r .s) i -ℤ rateOf p (r .q) (r .inputs) i ∣ 0
@@ -39,11 +39,11 @@ module _ (p : Plan) (r : Running) where
 
   unfoldable pub runningSound : Bool
   runningSound =
-      leb (r .clock) (p .horizon)
-      && every integratorSound (p .n)
-      && every (λ j. within M (int (r .inputs) j)) (p .m)
-      && eqb (r .next) (nextCommand p (r .clock))
-      && leb (r .instants) (r .clock) && leb (r .updates) (p .n * r .instants)
+      leb (r .clocks .clock) (p .horizon)
+      && every integratorSound (p .counts .n)
+      && every (λ j. within M (int (r .inputs) j)) (p .counts .m)
+      && eqb (r .clocks .next) (nextCommand p (r .clocks .clock))
+      && leb (r .clocks .instants) (r .clocks .clock) && leb (r .clocks .updates) (p .counts .n * r .clocks .instants)
       && runningUnused
 
 unfoldable pub isSound : State → Bool

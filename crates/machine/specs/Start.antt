@@ -12,24 +12,21 @@ use Rattle.machine.specs.declared.State.{State}
 
 module _ (p : Plan) where
   unfoldable pub startSlope : ℕ → ℤ
-  startSlope i = rateOf p (p .starts) (p .firsts) i
+  startSlope i = rateOf p (p .integrators .starts) (p .inputs .firsts) i
 
   unfoldable pub startDue : ℕ → ℕ
-  startDue i = dueOf p (p .starts) i 0 (int (p .starts) i) (startSlope i)
+  startDue i = dueOf p (p .integrators .starts) i 0 (int (p .integrators .starts) i) (startSlope i)
 
   unfoldable pub startOf : Running
   startOf =
       record {
-        x = p .starts;
-        q = p .starts;
-        s = row (pos 0) 32 (p .n) startSlope;
-        l = row 0 32 (p .n) (λ i. 0);
-        d = row 0 32 (p .n) startDue;
-        inputs = p .firsts;
-        clock = 0;
-        next = nextCommand p 0;
-        instants = 0;
-        updates = 0;
+        x = p .integrators .starts;
+        q = p .integrators .starts;
+        s = row (pos 0) 32 (p .counts .n) startSlope;
+        l = row 0 32 (p .counts .n) (λ i. 0);
+        d = row 0 32 (p .counts .n) startDue;
+        inputs = p .inputs .firsts;
+        clocks = record { clock = 0; next = nextCommand p 0; instants = 0; updates = 0 };
       }
 
   -- the state that a plan is loaded as

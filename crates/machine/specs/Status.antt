@@ -20,11 +20,11 @@ bars d t value i = isDue d t i && not (within M (value i))
 
 -- the lowest integrator that bars the instant at t, or n where none does
 unfoldable pub barring : Plan → List ℕ → ℕ → (ℕ → ℤ) → ℕ
-barring p d t value = firstFrom (bars d t value) 0 (p .n)
+barring p d t value = firstFrom (bars d t value) 0 (p .counts .n)
 
 -- the status, by the due ticks, the next instant's tick and the values that due integrators would take there
 unfoldable pub statusAt : Plan → List ℕ → ℕ → (ℕ → ℤ) → ℕ
-statusAt p d t value = cond (eqb t never || ltb (p .horizon) t) 1 (cond (ltb (barring p d t value) (p .n)) 2 0)
+statusAt p d t value = cond (eqb t never || ltb (p .horizon) t) 1 (cond (ltb (barring p d t value) (p .counts .n)) 2 0)
 
 -- "integrator (0 unless range)"
 unfoldable pub integratorAt : Plan → List ℕ → ℕ → (ℕ → ℤ) → ℕ

@@ -14,7 +14,7 @@ use Rattle.machine.specs.declared.Engine.the-variants.{Lazy, Eager}
 -- ticks": from the plain machine before the instant
 unfoldable pub growth : Plan → Engine → Plain → ℕ
 growth p Lazy m = lazyCount p m
-growth p Eager m = p .n
+growth p Eager m = p .counts .n
 
 -- the growth over the instants 1 to k
 unfoldable pub growthUpTo : Plan → (ℕ → Engine) → ℕ → ℕ
@@ -37,4 +37,4 @@ lazyMoves p engine (suc k) = lazyMoves p engine k + cond (isEager (engine (k + 1
 
 -- "the number of integrators with l = c"
 unfoldable pub movedNow : Plan → Running → ℕ
-movedNow p r = countOf (λ i. eqb (nat (r .l) i) (r .clock)) (p .n)
+movedNow p r = countOf (λ i. eqb (nat (r .l) i) (r .clocks .clock)) (p .counts .n)

@@ -29,23 +29,23 @@ module _ (p : Plan) (q u : List ℤ) where
   -- The value of source i once the first j nodes are worked out: "integrators 0 to n−1, inputs n to n+m−1, nodes from n+m"; "Integrators
   -- give q, inputs their value, nodes their value." A node that is not worked out yet counts as 0.
   unfoldable pub valueWith : ℕ → ℕ → ℤ
-  valueWith zero i = cond (ltb i (p .n)) (int q i) (cond (ltb i (p .n + p .m)) (int u (i - p .n)) (pos 0))
+  valueWith zero i = cond (ltb i (p .counts .n)) (int q i) (cond (ltb i (p .counts .n + p .counts .m)) (int u (i - p .counts .n)) (pos 0))
   valueWith (suc j) i =
-      cond (eqb i (p .n + p .m + j))
-      (nodeOf (nat (p .kinds) j) (int (p .lows) j) (int (p .highs) j) (valueWith j (nat (p .lefts) j)) (valueWith j (nat (p .rights) j)))
+      cond (eqb i (p .counts .n + p .counts .m + j))
+      (nodeOf (nat (p .nodes .kinds) j) (int (p .nodes .lows) j) (int (p .nodes .highs) j) (valueWith j (nat (p .nodes .a) j)) (valueWith j (nat (p .nodes .b) j)))
       (valueWith j i)
 
   -- "Node values are worked out in node order."
   unfoldable pub valueOf : ℕ → ℤ
-  valueOf i = valueWith (p .k) i
+  valueOf i = valueWith (p .counts .k) i
 
   -- the sum of coefficient × source value over those of the first e links that are integrator i's
   unfoldable pub sumOver : ℕ → ℕ → ℤ
   sumOver i zero = pos 0
   sumOver i (suc e) =
       sumOver i e
-      +ℤ cond (eqb (nat (p .targets) e) i) (int (p .coefficients) e *ℤ valueOf (nat (p .sources) e)) (pos 0)
+      +ℤ cond (eqb (nat (p .links .targets) e) i) (int (p .links .coefficients) e *ℤ valueOf (nat (p .links .sources) e)) (pos 0)
 
   -- "s = floor(sum of coefficient × source value over its links / 65,536)"
   unfoldable pub rateOf : ℕ → ℤ
-  rateOf i = floored (sumOver i (p .links))
+  rateOf i = floored (sumOver i (p .counts .links))

@@ -4,22 +4,29 @@ ghost use lib.IntN.{pos};
 ghost use Rattle.plan.specs.Format.{M};
 ghost use Rattle.machine.specs.Due.{never};
 ghost use Rattle.machine.specs.Start.{idleState};
+use plan::INPUTS;
+use plan::INTEGRATORS;
 use plan::Plan;
 
-// Per integrator position x, output q, slope s, last-moved tick l and due tick d, 0 in the unused entries; the input values; the
-// clock, the number of the next command, instants and updates.
+// The clock, the number of the next command, instants and updates.
 #[repr(C)]
-pub struct Running {
-    pub x: [i64; 32],
-    pub q: [i64; 32],
-    pub s: [i64; 32],
-    pub l: [u32; 32],
-    pub d: [u32; 32],
-    pub inputs: [i64; 8],
+pub struct Clocks {
     pub clock: u32,
     pub next: usize,
     pub instants: u64,
     pub updates: u64,
+}
+
+// Per integrator position x, output q, slope s, last-moved tick l and due tick d, 0 in the unused entries; the input values; the clock and the counts.
+#[repr(C)]
+pub struct Running {
+    pub x: [i64; INTEGRATORS],
+    pub q: [i64; INTEGRATORS],
+    pub s: [i64; INTEGRATORS],
+    pub l: [u32; INTEGRATORS],
+    pub d: [u32; INTEGRATORS],
+    pub inputs: [i64; INPUTS],
+    pub clocks: Clocks,
 }
 
 #[repr(C)]
@@ -58,19 +65,21 @@ impl State {
         ensures { λ r. ⌜ r ≡ idleState ⌝ }
     {
         let plan = Plan::idle();
-        let mut d = [0; 32];
+        let mut d = [0; INTEGRATORS];
         d[0] = State::NEVER;
         let run = Running {
-            x: [0; 32],
-            q: [0; 32],
-            s: [0; 32],
-            l: [0; 32],
+            x: [0; INTEGRATORS],
+            q: [0; INTEGRATORS],
+            s: [0; INTEGRATORS],
+            l: [0; INTEGRATORS],
             d,
-            inputs: [0; 8],
-            clock: 0,
-            next: 0,
-            instants: 0,
-            updates: 0,
+            inputs: [0; INPUTS],
+            clocks: Clocks {
+                clock: 0,
+                next: 0,
+                instants: 0,
+                updates: 0,
+            },
         };
         Self { plan, run }
     }

@@ -6,6 +6,10 @@ use bitset::lowest;
 use bitset::rest;
 use dynamics::due_tick;
 use dynamics::position;
+use plan::INTEGRATORS;
+use plan::LINKS;
+use plan::SOURCES;
+use rates::RANGES;
 use rates::rate;
 
 // `values` holds the outputs and inputs as they are after all commands and simultaneous outputs, and the nodes worked out from them. An integrator that was
@@ -13,15 +17,15 @@ use rates::rate;
 fn move_one<'a>(
     i: usize,
     t: u32,
-    ranges: &'a [usize; 33],
-    sources: &'a [usize; 256],
-    coefficients: &'a [i64; 256],
-    quanta: &'a [i64; 32],
-    values: &'a [i64; 64],
-    x: &mut [i64; 32],
-    s: &mut [i64; 32],
-    l: &mut [u32; 32],
-    d: &mut [u32; 32],
+    ranges: &'a [usize; RANGES],
+    sources: &'a [usize; LINKS],
+    coefficients: &'a [i64; LINKS],
+    quanta: &'a [i64; INTEGRATORS],
+    values: &'a [i64; SOURCES],
+    x: &mut [i64; INTEGRATORS],
+    s: &mut [i64; INTEGRATORS],
+    l: &mut [u32; INTEGRATORS],
+    d: &mut [u32; INTEGRATORS],
 )
     requires { ⌜ Movable t (now ranges) (now sources) (now coefficients) (now quanta) (now values) i (moving (now x) (now s) (now l) (now d)) ⌝ }
     ensures { λ _. ⌜ moving (now (x .exit)) (now (s .exit)) (now (l .exit)) (now (d .exit))
@@ -40,15 +44,15 @@ fn move_one<'a>(
 pub fn move_all<'a>(
     moved: u32,
     t: u32,
-    ranges: &'a [usize; 33],
-    sources: &'a [usize; 256],
-    coefficients: &'a [i64; 256],
-    quanta: &'a [i64; 32],
-    values: &'a [i64; 64],
-    x: &mut [i64; 32],
-    s: &mut [i64; 32],
-    l: &mut [u32; 32],
-    d: &mut [u32; 32],
+    ranges: &'a [usize; RANGES],
+    sources: &'a [usize; LINKS],
+    coefficients: &'a [i64; LINKS],
+    quanta: &'a [i64; INTEGRATORS],
+    values: &'a [i64; SOURCES],
+    x: &mut [i64; INTEGRATORS],
+    s: &mut [i64; INTEGRATORS],
+    l: &mut [u32; INTEGRATORS],
+    d: &mut [u32; INTEGRATORS],
 )
     requires { ⌜ AllMovable t (now ranges) (now sources) (now coefficients) (now quanta) (now values) moved (moving (now x) (now s) (now l) (now d)) ⌝ }
     ensures { λ _. ⌜ moving (now (x .exit)) (now (s .exit)) (now (l .exit)) (now (d .exit))

@@ -27,8 +27,8 @@ abbrev pub inputEntry : List ℤ → ℕ → List ℕ
 inputEntry firsts j = wordOf (int firsts j) ∷ []
 
 abbrev pub nodeEntry : List ℕ → List ℕ → List ℕ → List ℤ → List ℤ → ℕ → List ℕ
-nodeEntry kinds lefts rights lows highs j =
-    nat kinds j ∷ nat lefts j ∷ nat rights j ∷ wordOf (int lows j) ∷ wordOf (int highs j) ∷ []
+nodeEntry kinds a b lows highs j =
+    nat kinds j ∷ nat a j ∷ nat b j ∷ wordOf (int lows j) ∷ wordOf (int highs j) ∷ []
 
 abbrev pub tripleEntry : List ℕ → List ℕ → List ℤ → ℕ → List ℕ
 tripleEntry xs ys zs e = nat xs e ∷ nat ys e ∷ wordOf (int zs e) ∷ []
@@ -48,25 +48,25 @@ module _ (p : Plan) where
   headerWords = p .horizon ∷ joined (pairEntry (counts p)) sections
 
   unfoldable pub integratorWords : ℕ → List ℕ
-  integratorWords i = integratorEntry (p .starts) (p .quanta) i
+  integratorWords i = integratorEntry (p .integrators .starts) (p .integrators .quanta) i
 
   unfoldable pub inputWords : ℕ → List ℕ
-  inputWords j = inputEntry (p .firsts) j
+  inputWords j = inputEntry (p .inputs .firsts) j
 
   unfoldable pub nodeWords : ℕ → List ℕ
-  nodeWords j = nodeEntry (p .kinds) (p .lefts) (p .rights) (p .lows) (p .highs) j
+  nodeWords j = nodeEntry (p .nodes .kinds) (p .nodes .a) (p .nodes .b) (p .nodes .lows) (p .nodes .highs) j
 
   unfoldable pub linkWords : ℕ → List ℕ
-  linkWords e = tripleEntry (p .targets) (p .sources) (p .coefficients) e
+  linkWords e = tripleEntry (p .links .targets) (p .links .sources) (p .links .coefficients) e
 
   unfoldable pub commandWords : ℕ → List ℕ
-  commandWords e = tripleEntry (p .ticks) (p .numbers) (p .values) e
+  commandWords e = tripleEntry (p .commands .ticks) (p .commands .inputs) (p .commands .values) e
 
   -- the header, then the sections one behind the other
   unfoldable pub fileWords : List ℕ
   fileWords =
-      headerWords ++ (joined integratorWords (p .n) ++ (joined inputWords (p .m) ++ (joined nodeWords (p .k)
-      ++ (joined linkWords (p .links) ++ joined commandWords (p .commands)))))
+      headerWords ++ (joined integratorWords (p .counts .n) ++ (joined inputWords (p .counts .m) ++ (joined nodeWords (p .counts .k)
+      ++ (joined linkWords (p .counts .links) ++ joined commandWords (p .counts .commands)))))
 
   unfoldable pub encode : List ℕ
   encode = flat fileWords

@@ -35,23 +35,10 @@ cupFile =
 abbrev pub cupPlan : Plan
 cupPlan = record {
   horizon = 10;
-  n = 2;
-  m = 1;
-  k = 0;
-  links = 2;
-  commands = 1;
-  starts = replicate 32 (pos 0);
-  quanta = pos 10 ∷ pos 1000 ∷ replicate 30 (pos 0);
-  firsts = pos 3 ∷ replicate 7 (pos 0);
-  kinds = replicate 16 0;
-  lefts = replicate 16 0;
-  rights = replicate 16 0;
-  lows = replicate 16 (pos 0);
-  highs = replicate 16 (pos 0);
-  targets = 0 ∷ 1 ∷ replicate 254 0;
-  sources = 2 ∷ 0 ∷ replicate 254 0;
-  coefficients = pos 65536 ∷ pos 65536 ∷ replicate 254 (pos 0);
-  ticks = 6 ∷ replicate 63 0;
-  numbers = replicate 64 0;
-  values = negsuc 2 ∷ replicate 63 (pos 0);
+  counts = record { n = 2; m = 1; k = 0; links = 2; commands = 1 };
+  integrators = record { starts = replicate 32 (pos 0); quanta = pos 10 ∷ pos 1000 ∷ replicate 30 (pos 0) };
+  inputs = record { firsts = pos 3 ∷ replicate 7 (pos 0) };
+  nodes = record { kinds = replicate 16 0; a = replicate 16 0; b = replicate 16 0; lows = replicate 16 (pos 0); highs = replicate 16 (pos 0) };
+  links = record { targets = 0 ∷ 1 ∷ replicate 254 0; sources = 2 ∷ 0 ∷ replicate 254 0; coefficients = pos 65536 ∷ pos 65536 ∷ replicate 254 (pos 0) };
+  commands = record { ticks = 6 ∷ replicate 63 0; inputs = replicate 64 0; values = negsuc 2 ∷ replicate 63 (pos 0) };
 }

@@ -82,45 +82,32 @@ unfoldable pub planIn : List ℕ → Plan
 planIn file =
     record {
       horizon = horizonIn file;
-      n = countIn file 0;
-      m = countIn file 1;
-      k = countIn file 2;
-      links = countIn file 3;
-      commands = countIn file 4;
+      counts = record { n = countIn file 0; m = countIn file 1; k = countIn file 2; links = countIn file 3; commands = countIn file 4 };
       -- "Integrators, .. 8 bytes: signed start ..; quantum"
-      starts = signedsIn file 0 0;
-      quanta = unsignedsIn file 0 1;
+      integrators = record { starts = signedsIn file 0 0; quanta = unsignedsIn file 0 1 };
       -- "Inputs, .. 4 bytes: signed first value"
-      firsts = signedsIn file 1 0;
+      inputs = record { firsts = signedsIn file 1 0 };
       -- "Nodes, .. 20 bytes: kind, A, B, signed lo, signed hi"
-      kinds = wordsIn file 2 0;
-      lefts = wordsIn file 2 1;
-      rights = wordsIn file 2 2;
-      lows = signedsIn file 2 3;
-      highs = signedsIn file 2 4;
+      nodes = record { kinds = wordsIn file 2 0; a = wordsIn file 2 1; b = wordsIn file 2 2; lows = signedsIn file 2 3; highs = signedsIn file 2 4 };
       -- "Links, .. 12 bytes: target integrator, source, signed coefficient"
-      targets = wordsIn file 3 0;
-      sources = wordsIn file 3 1;
-      coefficients = signedsIn file 3 2;
+      links = record { targets = wordsIn file 3 0; sources = wordsIn file 3 1; coefficients = signedsIn file 3 2 };
       -- "Commands, .. 12 bytes: tick .., input number .., signed value"
-      ticks = wordsIn file 4 0;
-      numbers = wordsIn file 4 1;
-      values = signedsIn file 4 2;
+      commands = record { ticks = wordsIn file 4 0; inputs = wordsIn file 4 1; values = signedsIn file 4 2 };
     }
 
 -- the arrays of a plan have their full width, as those of a struct have
 pub record Shaped (p : Plan) : Type 0 where
-  pub starts : length (p .starts) ≡ 32
-  pub quanta : length (p .quanta) ≡ 32
-  pub firsts : length (p .firsts) ≡ 8
-  pub kinds : length (p .kinds) ≡ 16
-  pub lefts : length (p .lefts) ≡ 16
-  pub rights : length (p .rights) ≡ 16
-  pub lows : length (p .lows) ≡ 16
-  pub highs : length (p .highs) ≡ 16
-  pub targets : length (p .targets) ≡ 256
-  pub sources : length (p .sources) ≡ 256
-  pub coefficients : length (p .coefficients) ≡ 256
-  pub ticks : length (p .ticks) ≡ 64
-  pub numbers : length (p .numbers) ≡ 64
-  pub values : length (p .values) ≡ 64
+  pub starts : length (p .integrators .starts) ≡ 32
+  pub quanta : length (p .integrators .quanta) ≡ 32
+  pub firsts : length (p .inputs .firsts) ≡ 8
+  pub kinds : length (p .nodes .kinds) ≡ 16
+  pub a : length (p .nodes .a) ≡ 16
+  pub b : length (p .nodes .b) ≡ 16
+  pub lows : length (p .nodes .lows) ≡ 16
+  pub highs : length (p .nodes .highs) ≡ 16
+  pub targets : length (p .links .targets) ≡ 256
+  pub sources : length (p .links .sources) ≡ 256
+  pub coefficients : length (p .links .coefficients) ≡ 256
+  pub ticks : length (p .commands .ticks) ≡ 64
+  pub inputs : length (p .commands .inputs) ≡ 64
+  pub values : length (p .commands .values) ≡ 64

@@ -19,27 +19,27 @@ pub record HeaderPlaces (file : List ℕ) : Type 0 where
 -- where each number of a file stands whose sections are of the right size: the counts by the lengths, and the entries behind their sections'
 -- offsets
 pub record EntryPlaces (file : List ℕ) (p : Plan) : Type 0 where
-  pub n : word file 8 ≡ 8 * p .n
-  pub m : word file 16 ≡ 4 * p .m
-  pub k : word file 24 ≡ 20 * p .k
-  pub links : word file 32 ≡ 12 * p .links
-  pub commands : word file 40 ≡ 12 * p .commands
+  pub n : word file 8 ≡ 8 * p .counts .n
+  pub m : word file 16 ≡ 4 * p .counts .m
+  pub k : word file 24 ≡ 20 * p .counts .k
+  pub links : word file 32 ≡ 12 * p .counts .links
+  pub commands : word file 40 ≡ 12 * p .counts .commands
   -- "signed start ..; quantum"
-  pub starts : (i : ℕ) → i < p .n → int (p .starts) i ≡ signedWord file (word file 4 + 8 * i)
-  pub quanta : (i : ℕ) → i < p .n → int (p .quanta) i ≡ pos (word file (word file 4 + 8 * i + 4))
+  pub starts : (i : ℕ) → i < p .counts .n → int (p .integrators .starts) i ≡ signedWord file (word file 4 + 8 * i)
+  pub quanta : (i : ℕ) → i < p .counts .n → int (p .integrators .quanta) i ≡ pos (word file (word file 4 + 8 * i + 4))
   -- "signed first value"
-  pub firsts : (j : ℕ) → j < p .m → int (p .firsts) j ≡ signedWord file (word file 12 + 4 * j)
+  pub firsts : (j : ℕ) → j < p .counts .m → int (p .inputs .firsts) j ≡ signedWord file (word file 12 + 4 * j)
   -- "kind, A, B, signed lo, signed hi"
-  pub kinds : (j : ℕ) → j < p .k → nat (p .kinds) j ≡ word file (word file 20 + 20 * j)
-  pub lefts : (j : ℕ) → j < p .k → nat (p .lefts) j ≡ word file (word file 20 + 20 * j + 4)
-  pub rights : (j : ℕ) → j < p .k → nat (p .rights) j ≡ word file (word file 20 + 20 * j + 8)
-  pub lows : (j : ℕ) → j < p .k → int (p .lows) j ≡ signedWord file (word file 20 + 20 * j + 12)
-  pub highs : (j : ℕ) → j < p .k → int (p .highs) j ≡ signedWord file (word file 20 + 20 * j + 16)
+  pub kinds : (j : ℕ) → j < p .counts .k → nat (p .nodes .kinds) j ≡ word file (word file 20 + 20 * j)
+  pub a : (j : ℕ) → j < p .counts .k → nat (p .nodes .a) j ≡ word file (word file 20 + 20 * j + 4)
+  pub b : (j : ℕ) → j < p .counts .k → nat (p .nodes .b) j ≡ word file (word file 20 + 20 * j + 8)
+  pub lows : (j : ℕ) → j < p .counts .k → int (p .nodes .lows) j ≡ signedWord file (word file 20 + 20 * j + 12)
+  pub highs : (j : ℕ) → j < p .counts .k → int (p .nodes .highs) j ≡ signedWord file (word file 20 + 20 * j + 16)
   -- "target integrator, source, signed coefficient"
-  pub targets : (e : ℕ) → e < p .links → nat (p .targets) e ≡ word file (word file 28 + 12 * e)
-  pub sources : (e : ℕ) → e < p .links → nat (p .sources) e ≡ word file (word file 28 + 12 * e + 4)
-  pub coefficients : (e : ℕ) → e < p .links → int (p .coefficients) e ≡ signedWord file (word file 28 + 12 * e + 8)
+  pub targets : (e : ℕ) → e < p .counts .links → nat (p .links .targets) e ≡ word file (word file 28 + 12 * e)
+  pub sources : (e : ℕ) → e < p .counts .links → nat (p .links .sources) e ≡ word file (word file 28 + 12 * e + 4)
+  pub coefficients : (e : ℕ) → e < p .counts .links → int (p .links .coefficients) e ≡ signedWord file (word file 28 + 12 * e + 8)
   -- "tick .., input number .., signed value"
-  pub ticks : (e : ℕ) → e < p .commands → nat (p .ticks) e ≡ word file (word file 36 + 12 * e)
-  pub numbers : (e : ℕ) → e < p .commands → nat (p .numbers) e ≡ word file (word file 36 + 12 * e + 4)
-  pub values : (e : ℕ) → e < p .commands → int (p .values) e ≡ signedWord file (word file 36 + 12 * e + 8)
+  pub ticks : (e : ℕ) → e < p .counts .commands → nat (p .commands .ticks) e ≡ word file (word file 36 + 12 * e)
+  pub inputs : (e : ℕ) → e < p .counts .commands → nat (p .commands .inputs) e ≡ word file (word file 36 + 12 * e + 4)
+  pub values : (e : ℕ) → e < p .counts .commands → int (p .commands .values) e ≡ signedWord file (word file 36 + 12 * e + 8)

@@ -58,19 +58,19 @@ module _ (p : Plan) where
   horizonFinding = unless (horizonKept (p .horizon)) Horizon
 
   unfoldable pub integratorsFinding : Finding
-  integratorsFinding = firstFinding (λ i. unless (integratorKept p i) (Integrator i)) 0 (p .n)
+  integratorsFinding = firstFinding (λ i. unless (integratorKept p i) (Integrator i)) 0 (p .counts .n)
 
   unfoldable pub inputsFinding : Finding
-  inputsFinding = firstFinding (λ j. unless (inputKept p j) (Input j)) 0 (p .m)
+  inputsFinding = firstFinding (λ j. unless (inputKept p j) (Input j)) 0 (p .counts .m)
 
   unfoldable pub nodesFinding : Finding
-  nodesFinding = firstFinding (λ j. unless (nodeKept p j) (Node j)) 0 (p .k)
+  nodesFinding = firstFinding (λ j. unless (nodeKept p j) (Node j)) 0 (p .counts .k)
 
   unfoldable pub linksFinding : Finding
-  linksFinding = firstFinding (λ e. unless (linkLimits p e && linkOrdered p e) (Link e)) 0 (p .links)
+  linksFinding = firstFinding (λ e. unless (linkLimits p e && linkOrdered p e) (Link e)) 0 (p .counts .links)
 
   unfoldable pub commandsFinding : Finding
-  commandsFinding = firstFinding (λ e. unless (commandLimits p e && commandOrdered p e) (Command e)) 0 (p .commands)
+  commandsFinding = firstFinding (λ e. unless (commandLimits p e && commandOrdered p e) (Command e)) 0 (p .counts .commands)
 
   -- the rules 4 to 9 of a plan, in order
   unfoldable pub planFinding : Finding

@@ -43,53 +43,53 @@ module _ (p : Plan) where
   CountsRule = (k : ℕ) → k < sections → CountRule k (nat (counts p) k)
 
   pub record IntegratorRule (i : ℕ) : Type 0 where
-    pub start : Within M (int (p .starts) i)
-    pub least : pos 1 ≤ℤ int (p .quanta) i
-    pub most : int (p .quanta) i ≤ℤ pos M
+    pub start : Within M (int (p .integrators .starts) i)
+    pub least : pos 1 ≤ℤ int (p .integrators .quanta) i
+    pub most : int (p .integrators .quanta) i ≤ℤ pos M
 
   abbrev pub InputRule : ℕ → Type 0
-  InputRule j = Within M (int (p .firsts) j)
+  InputRule j = Within M (int (p .inputs .firsts) j)
 
   -- "A and B, where used, name integrators, inputs or lower-numbered nodes": the sources below the node's own number
   abbrev pub Below : ℕ → ℕ → Type 0
-  Below j source = source < p .n + p .m + j
+  Below j source = source < p .counts .n + p .counts .m + j
 
   pub record NodeRule (j : ℕ) : Type 0 where
-    pub kind : nat (p .kinds) j ≤ 3
-    pub left : Below j (nat (p .lefts) j)
+    pub kind : nat (p .nodes .kinds) j ≤ 3
+    pub left : Below j (nat (p .nodes .a) j)
     -- "B is 0 and names nothing" in kind 2; the others use it
-    pub right : (nat (p .kinds) j ≡ 2 → ⊥) → Below j (nat (p .rights) j)
-    pub unused : nat (p .kinds) j ≡ 2 → nat (p .rights) j ≡ 0
+    pub right : (nat (p .nodes .kinds) j ≡ 2 → ⊥) → Below j (nat (p .nodes .b) j)
+    pub unused : nat (p .nodes .kinds) j ≡ 2 → nat (p .nodes .b) j ≡ 0
     -- kinds 0 and 1 "with lo and hi 0"
-    pub plain : nat (p .kinds) j ≤ 1 → (int (p .lows) j ≡ pos 0) × (int (p .highs) j ≡ pos 0)
+    pub plain : nat (p .nodes .kinds) j ≤ 1 → (int (p .nodes .lows) j ≡ pos 0) × (int (p .nodes .highs) j ≡ pos 0)
     -- "For kinds 2 and 3 lo and hi lie within ±M."
-    pub limits : 2 ≤ nat (p .kinds) j → Within M (int (p .lows) j) × Within M (int (p .highs) j)
+    pub limits : 2 ≤ nat (p .nodes .kinds) j → Within M (int (p .nodes .lows) j) × Within M (int (p .nodes .highs) j)
     -- kind 2 is "a limited to lo..hi, lo ≤ hi"
-    pub order : nat (p .kinds) j ≡ 2 → int (p .lows) j ≤ℤ int (p .highs) j
+    pub order : nat (p .nodes .kinds) j ≡ 2 → int (p .nodes .lows) j ≤ℤ int (p .nodes .highs) j
 
   pub record LinkRule (e : ℕ) : Type 0 where
-    pub target : nat (p .targets) e < p .n
-    pub source : nat (p .sources) e < p .n + p .m + p .k
-    pub nonzero : int (p .coefficients) e ≡ pos 0 → ⊥
-    pub coefficient : Within 16777216 (int (p .coefficients) e)
-    pub order : Ascends (p .targets) (p .sources) e
+    pub target : nat (p .links .targets) e < p .counts .n
+    pub source : nat (p .links .sources) e < p .counts .n + p .counts .m + p .counts .k
+    pub nonzero : int (p .links .coefficients) e ≡ pos 0 → ⊥
+    pub coefficient : Within 16777216 (int (p .links .coefficients) e)
+    pub order : Ascends (p .links .targets) (p .links .sources) e
 
   pub record CommandRule (e : ℕ) : Type 0 where
-    pub least : 1 ≤ nat (p .ticks) e
-    pub most : nat (p .ticks) e ≤ p .horizon
-    pub number : nat (p .numbers) e < p .m
-    pub value : Within M (int (p .values) e)
-    pub order : Ascends (p .ticks) (p .numbers) e
+    pub least : 1 ≤ nat (p .commands .ticks) e
+    pub most : nat (p .commands .ticks) e ≤ p .horizon
+    pub number : nat (p .commands .inputs) e < p .counts .m
+    pub value : Within M (int (p .commands .values) e)
+    pub order : Ascends (p .commands .ticks) (p .commands .inputs) e
 
   -- "its plan keeps all rules above"
   pub record PlanRules : Type 0 where
     pub counts : CountsRule
     pub horizon : HorizonRule
-    pub integrators : (i : ℕ) → i < p .n → IntegratorRule i
-    pub inputs : (j : ℕ) → j < p .m → InputRule j
-    pub nodes : (j : ℕ) → j < p .k → NodeRule j
-    pub links : (e : ℕ) → e < p .links → LinkRule e
-    pub commands : (e : ℕ) → e < p .commands → CommandRule e
+    pub integrators : (i : ℕ) → i < p .counts .n → IntegratorRule i
+    pub inputs : (j : ℕ) → j < p .counts .m → InputRule j
+    pub nodes : (j : ℕ) → j < p .counts .k → NodeRule j
+    pub links : (e : ℕ) → e < p .counts .links → LinkRule e
+    pub commands : (e : ℕ) → e < p .counts .commands → CommandRule e
 
 module _ (file : List ℕ) where
   -- The rules by refusal number, 1 to 9; the first stands for number 0 and asks nothing. Each is asked of an entry; rules 1 to 4 have one,
@@ -112,7 +112,7 @@ module _ (file : List ℕ) where
   abbrev pub ruleEntries : List ℕ
   ruleEntries =
       let p = planIn file in
-      0 ∷ 1 ∷ 1 ∷ 1 ∷ 1 ∷ p .n ∷ p .m ∷ p .k ∷ p .links ∷ p .commands ∷ []
+      0 ∷ 1 ∷ 1 ∷ 1 ∷ 1 ∷ p .counts .n ∷ p .counts .m ∷ p .counts .k ∷ p .counts .links ∷ p .counts .commands ∷ []
 
   -- entry e keeps the rule of refusal number k, and every entry keeps it
   abbrev pub Rule : ℕ → ℕ → Type 0

@@ -67,34 +67,34 @@ follows xs ys e = eqb e 0 || ascends (nat xs (e - 1)) (nat ys (e - 1)) (nat xs e
 module _ (p : Plan) where
   -- the counts in the order of the sections
   unfoldable pub counts : List ℕ
-  counts = p .n ∷ p .m ∷ p .k ∷ p .links ∷ p .commands ∷ []
+  counts = p .counts .n ∷ p .counts .m ∷ p .counts .k ∷ p .counts .links ∷ p .counts .commands ∷ []
 
   unfoldable pub countsKept : Bool
   countsKept = every (λ k. countKept k (nat counts k)) sections
 
   unfoldable pub integratorKept : ℕ → Bool
-  integratorKept i = integratorTest (int (p .starts) i) (int (p .quanta) i)
+  integratorKept i = integratorTest (int (p .integrators .starts) i) (int (p .integrators .quanta) i)
 
   -- "signed first value within ±M"
   unfoldable pub inputKept : ℕ → Bool
-  inputKept j = within M (int (p .firsts) j)
+  inputKept j = within M (int (p .inputs .firsts) j)
 
   unfoldable pub nodeKept : ℕ → Bool
   nodeKept j =
-      kindKept (p .n + p .m + j) (nat (p .kinds) j) (nat (p .lefts) j) (nat (p .rights) j) (int (p .lows) j) (int (p .highs) j)
+      kindKept (p .counts .n + p .counts .m + j) (nat (p .nodes .kinds) j) (nat (p .nodes .a) j) (nat (p .nodes .b) j) (int (p .nodes .lows) j) (int (p .nodes .highs) j)
 
   -- "Links may name any source."
   unfoldable pub linkLimits : ℕ → Bool
   linkLimits e =
-      linkTest (p .n) (p .n + p .m + p .k) (nat (p .targets) e) (nat (p .sources) e) (int (p .coefficients) e)
+      linkTest (p .counts .n) (p .counts .n + p .counts .m + p .counts .k) (nat (p .links .targets) e) (nat (p .links .sources) e) (int (p .links .coefficients) e)
 
   -- "Strictly ascending by target, then source."
   unfoldable pub linkOrdered : ℕ → Bool
-  linkOrdered e = follows (p .targets) (p .sources) e
+  linkOrdered e = follows (p .links .targets) (p .links .sources) e
 
   unfoldable pub commandLimits : ℕ → Bool
-  commandLimits e = commandTest (p .horizon) (p .m) (nat (p .ticks) e) (nat (p .numbers) e) (int (p .values) e)
+  commandLimits e = commandTest (p .horizon) (p .counts .m) (nat (p .commands .ticks) e) (nat (p .commands .inputs) e) (int (p .commands .values) e)
 
   -- "Strictly ascending by tick, then input."
   unfoldable pub commandOrdered : ℕ → Bool
-  commandOrdered e = follows (p .ticks) (p .numbers) e
+  commandOrdered e = follows (p .commands .ticks) (p .commands .inputs) e

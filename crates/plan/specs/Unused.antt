@@ -19,20 +19,20 @@ UnusedInt k xs = (i : ℕ) → k ≤ i → int xs i ≡ pos 0
 
 -- those of a plan
 pub record PlanUnused (p : Plan) : Type 0 where
-  pub starts : UnusedInt (p .n) (p .starts)
-  pub quanta : UnusedInt (p .n) (p .quanta)
-  pub firsts : UnusedInt (p .m) (p .firsts)
-  pub kinds : UnusedNat (p .k) (p .kinds)
-  pub lefts : UnusedNat (p .k) (p .lefts)
-  pub rights : UnusedNat (p .k) (p .rights)
-  pub lows : UnusedInt (p .k) (p .lows)
-  pub highs : UnusedInt (p .k) (p .highs)
-  pub targets : UnusedNat (p .links) (p .targets)
-  pub sources : UnusedNat (p .links) (p .sources)
-  pub coefficients : UnusedInt (p .links) (p .coefficients)
-  pub ticks : UnusedNat (p .commands) (p .ticks)
-  pub numbers : UnusedNat (p .commands) (p .numbers)
-  pub values : UnusedInt (p .commands) (p .values)
+  pub starts : UnusedInt (p .counts .n) (p .integrators .starts)
+  pub quanta : UnusedInt (p .counts .n) (p .integrators .quanta)
+  pub firsts : UnusedInt (p .counts .m) (p .inputs .firsts)
+  pub kinds : UnusedNat (p .counts .k) (p .nodes .kinds)
+  pub a : UnusedNat (p .counts .k) (p .nodes .a)
+  pub b : UnusedNat (p .counts .k) (p .nodes .b)
+  pub lows : UnusedInt (p .counts .k) (p .nodes .lows)
+  pub highs : UnusedInt (p .counts .k) (p .nodes .highs)
+  pub targets : UnusedNat (p .counts .links) (p .links .targets)
+  pub sources : UnusedNat (p .counts .links) (p .links .sources)
+  pub coefficients : UnusedInt (p .counts .links) (p .links .coefficients)
+  pub ticks : UnusedNat (p .counts .commands) (p .commands .ticks)
+  pub inputs : UnusedNat (p .counts .commands) (p .commands .inputs)
+  pub values : UnusedInt (p .counts .commands) (p .commands .values)
 
 -- ---- the tests
 unfoldable pub unusedNat : ℕ → List ℕ → Bool
@@ -43,8 +43,8 @@ unusedInt k xs = all (λ z. eqb ∣ z ∣ 0) (drop k xs)
 
 unfoldable pub planUnused : Plan → Bool
 planUnused p =
-    unusedInt (p .n) (p .starts) && unusedInt (p .n) (p .quanta) && unusedInt (p .m) (p .firsts)
-    && unusedNat (p .k) (p .kinds) && unusedNat (p .k) (p .lefts) && unusedNat (p .k) (p .rights)
-    && unusedInt (p .k) (p .lows) && unusedInt (p .k) (p .highs)
-    && unusedNat (p .links) (p .targets) && unusedNat (p .links) (p .sources) && unusedInt (p .links) (p .coefficients)
-    && unusedNat (p .commands) (p .ticks) && unusedNat (p .commands) (p .numbers) && unusedInt (p .commands) (p .values)
+    unusedInt (p .counts .n) (p .integrators .starts) && unusedInt (p .counts .n) (p .integrators .quanta) && unusedInt (p .counts .m) (p .inputs .firsts)
+    && unusedNat (p .counts .k) (p .nodes .kinds) && unusedNat (p .counts .k) (p .nodes .a) && unusedNat (p .counts .k) (p .nodes .b)
+    && unusedInt (p .counts .k) (p .nodes .lows) && unusedInt (p .counts .k) (p .nodes .highs)
+    && unusedNat (p .counts .links) (p .links .targets) && unusedNat (p .counts .links) (p .links .sources) && unusedInt (p .counts .links) (p .links .coefficients)
+    && unusedNat (p .counts .commands) (p .commands .ticks) && unusedNat (p .counts .commands) (p .commands .inputs) && unusedInt (p .counts .commands) (p .commands .values)

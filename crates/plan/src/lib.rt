@@ -2,35 +2,78 @@
 ghost use mathlib.Core.Path.{_≡_};
 ghost use Rattle.plan.specs.Idle.{idlePlan};
 
-// Source numbers: integrators 0 to n−1, inputs n to n+m−1, nodes from n+m.
+// The most integrators, inputs, nodes, links and commands of a plan: the widths of its arrays.
+pub const INTEGRATORS: usize = 32;
+
+pub const INPUTS: usize = 8;
+
+pub const NODES: usize = 16;
+
+pub const LINKS: usize = 256;
+
+pub const COMMANDS: usize = 64;
+
+// The width of a table with an entry for each source. Integrators have the source numbers 0 to n−1, inputs n to n+m−1, nodes those from n+m on: 56 at the
+// most.
+pub const SOURCES: usize = 64;
+
+// How many entries each section has: n integrators, m inputs, k nodes, links, commands.
 #[repr(C)]
-pub struct Plan {
-    pub horizon: u32,
-    // counts of integrators, inputs, nodes, links and commands
+pub struct Counts {
     pub n: usize,
     pub m: usize,
     pub k: usize,
     pub links: usize,
     pub commands: usize,
-    // integrators
-    pub starts: [i64; 32],
-    pub quanta: [i64; 32],
-    // inputs
-    pub firsts: [i64; 8],
-    // nodes: kind, A, B, lo and hi
-    pub kinds: [usize; 16],
-    pub lefts: [usize; 16],
-    pub rights: [usize; 16],
-    pub lows: [i64; 16],
-    pub highs: [i64; 16],
-    // links
-    pub targets: [usize; 256],
-    pub sources: [usize; 256],
-    pub coefficients: [i64; 256],
-    // commands
-    pub ticks: [u32; 64],
-    pub numbers: [usize; 64],
-    pub values: [i64; 64],
+}
+
+#[repr(C)]
+pub struct Integrators {
+    pub starts: [i64; INTEGRATORS],
+    pub quanta: [i64; INTEGRATORS],
+}
+
+// The first value of each input.
+#[repr(C)]
+pub struct Inputs {
+    pub firsts: [i64; INPUTS],
+}
+
+// "kind, A, B, signed lo, signed hi": A and B are source numbers.
+#[repr(C)]
+pub struct Nodes {
+    pub kinds: [usize; NODES],
+    pub a: [usize; NODES],
+    pub b: [usize; NODES],
+    pub lows: [i64; NODES],
+    pub highs: [i64; NODES],
+}
+
+// "target integrator, source, signed coefficient"
+#[repr(C)]
+pub struct Links {
+    pub targets: [usize; LINKS],
+    pub sources: [usize; LINKS],
+    pub coefficients: [i64; LINKS],
+}
+
+// "tick .., input number .., signed value"
+#[repr(C)]
+pub struct Commands {
+    pub ticks: [u32; COMMANDS],
+    pub inputs: [usize; COMMANDS],
+    pub values: [i64; COMMANDS],
+}
+
+#[repr(C)]
+pub struct Plan {
+    pub horizon: u32,
+    pub counts: Counts,
+    pub integrators: Integrators,
+    pub inputs: Inputs,
+    pub nodes: Nodes,
+    pub links: Links,
+    pub commands: Commands,
 }
 
 // What a check of a plan file, or of a part of it, finds: nothing, or the first of document 01's refusals 1 to 9. Those of an
@@ -53,29 +96,41 @@ impl Plan {
     pub fn idle() -> Self
         ensures { λ r. ⌜ r ≡ idlePlan ⌝ }
     {
-        let mut quanta = [0; 32];
+        let mut quanta = [0; INTEGRATORS];
         quanta[0] = 1;
         Self {
             horizon: 1,
-            n: 1,
-            m: 0,
-            k: 0,
-            links: 0,
-            commands: 0,
-            starts: [0; 32],
-            quanta,
-            firsts: [0; 8],
-            kinds: [0; 16],
-            lefts: [0; 16],
-            rights: [0; 16],
-            lows: [0; 16],
-            highs: [0; 16],
-            targets: [0; 256],
-            sources: [0; 256],
-            coefficients: [0; 256],
-            ticks: [0; 64],
-            numbers: [0; 64],
-            values: [0; 64],
+            counts: Counts {
+                n: 1,
+                m: 0,
+                k: 0,
+                links: 0,
+                commands: 0,
+            },
+            integrators: Integrators {
+                starts: [0; INTEGRATORS],
+                quanta,
+            },
+            inputs: Inputs {
+                firsts: [0; INPUTS],
+            },
+            nodes: Nodes {
+                kinds: [0; NODES],
+                a: [0; NODES],
+                b: [0; NODES],
+                lows: [0; NODES],
+                highs: [0; NODES],
+            },
+            links: Links {
+                targets: [0; LINKS],
+                sources: [0; LINKS],
+                coefficients: [0; LINKS],
+            },
+            commands: Commands {
+                ticks: [0; COMMANDS],
+                inputs: [0; COMMANDS],
+                values: [0; COMMANDS],
+            },
         }
     }
 }

@@ -9,6 +9,17 @@ use crate::readers::read_links;
 use crate::readers::read_nodes;
 use directory::count_in;
 use directory::section_in;
+use plan::COMMANDS;
+use plan::Commands;
+use plan::Counts;
+use plan::INPUTS;
+use plan::INTEGRATORS;
+use plan::Inputs;
+use plan::Integrators;
+use plan::LINKS;
+use plan::Links;
+use plan::NODES;
+use plan::Nodes;
 use plan::Plan;
 use words::read_u32;
 
@@ -17,70 +28,77 @@ pub fn decode(file: &[u8]) -> Plan
     requires { ⌜ Directory (now file) ⌝ }
     ensures { λ r. ⌜ r ≡ planIn (now (file .entry)) ⌝ }
 {
-    let integrators = count_in(file, 0);
-    let inputs = count_in(file, 1);
-    let nodes = count_in(file, 2);
-    let link_count = count_in(file, 3);
-    let command_count = count_in(file, 4);
-    let mut starts = [0; 32];
-    let mut quanta = [0; 32];
-    read_integrators(section_in(file, 0), integrators, &mut starts, &mut quanta);
-    let mut firsts = [0; 8];
-    read_inputs(section_in(file, 1), inputs, &mut firsts);
-    let mut kinds = [0; 16];
-    let mut lefts = [0; 16];
-    let mut rights = [0; 16];
-    let mut lows = [0; 16];
-    let mut highs = [0; 16];
+    let n = count_in(file, 0);
+    let m = count_in(file, 1);
+    let k = count_in(file, 2);
+    let links = count_in(file, 3);
+    let commands = count_in(file, 4);
+    let mut starts = [0; INTEGRATORS];
+    let mut quanta = [0; INTEGRATORS];
+    read_integrators(section_in(file, 0), n, &mut starts, &mut quanta);
+    let mut firsts = [0; INPUTS];
+    read_inputs(section_in(file, 1), m, &mut firsts);
+    let mut kinds = [0; NODES];
+    let mut a = [0; NODES];
+    let mut b = [0; NODES];
+    let mut lows = [0; NODES];
+    let mut highs = [0; NODES];
     read_nodes(
         section_in(file, 2),
-        nodes,
+        k,
         &mut kinds,
-        &mut lefts,
-        &mut rights,
+        &mut a,
+        &mut b,
         &mut lows,
         &mut highs,
     );
-    let mut targets = [0; 256];
-    let mut sources = [0; 256];
-    let mut coefficients = [0; 256];
+    let mut targets = [0; LINKS];
+    let mut sources = [0; LINKS];
+    let mut coefficients = [0; LINKS];
     read_links(
         section_in(file, 3),
-        link_count,
+        links,
         &mut targets,
         &mut sources,
         &mut coefficients,
     );
-    let mut ticks = [0; 64];
-    let mut numbers = [0; 64];
-    let mut values = [0; 64];
+    let mut ticks = [0; COMMANDS];
+    let mut inputs = [0; COMMANDS];
+    let mut values = [0; COMMANDS];
     read_commands(
         section_in(file, 4),
-        command_count,
+        commands,
         &mut ticks,
-        &mut numbers,
+        &mut inputs,
         &mut values,
     );
     Plan {
         horizon: read_u32(file, 0) as u32,
-        n: integrators,
-        m: inputs,
-        k: nodes,
-        links: link_count,
-        commands: command_count,
-        starts,
-        quanta,
-        firsts,
-        kinds,
-        lefts,
-        rights,
-        lows,
-        highs,
-        targets,
-        sources,
-        coefficients,
-        ticks,
-        numbers,
-        values,
+        counts: Counts {
+            n,
+            m,
+            k,
+            links,
+            commands,
+        },
+        integrators: Integrators { starts, quanta },
+        inputs: Inputs { firsts },
+        nodes: Nodes {
+            kinds,
+            a,
+            b,
+            lows,
+            highs,
+        },
+        links: Links {
+            targets,
+            sources,
+            coefficients,
+        },
+        commands: Commands {
+            ticks,
+            inputs,
+            values,
+        },
     }
 }

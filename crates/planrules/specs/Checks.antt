@@ -30,11 +30,11 @@ inputsCheck m firsts = checked (inputAt firsts) Input m
 
 -- `base` is n + m, the source number of node 0
 abbrev pub nodeAt : ℕ → List ℕ → List ℕ → List ℕ → List ℤ → List ℤ → ℕ → Bool
-nodeAt base kinds lefts rights lows highs e =
-    kindKept (base + e) (nat kinds e) (nat lefts e) (nat rights e) (int lows e) (int highs e)
+nodeAt base kinds a b lows highs e =
+    kindKept (base + e) (nat kinds e) (nat a e) (nat b e) (int lows e) (int highs e)
 
 abbrev pub nodesCheck : ℕ → ℕ → List ℕ → List ℕ → List ℕ → List ℤ → List ℤ → Finding
-nodesCheck base k kinds lefts rights lows highs = checked (nodeAt base kinds lefts rights lows highs) Node k
+nodesCheck base k kinds a b lows highs = checked (nodeAt base kinds a b lows highs) Node k
 
 -- `all` is n + m + k, the number of sources
 abbrev pub linkLimitsAt : ℕ → ℕ → List ℕ → List ℕ → List ℤ → ℕ → Bool
@@ -47,10 +47,10 @@ abbrev pub linksCheck : ℕ → ℕ → ℕ → List ℕ → List ℕ → List �
 linksCheck n all links targets sources coefficients = checked (linkAt n all targets sources coefficients) Link links
 
 abbrev pub commandLimitsAt : ℕ → ℕ → List ℕ → List ℕ → List ℤ → ℕ → Bool
-commandLimitsAt horizon m ticks numbers values e = commandTest horizon m (nat ticks e) (nat numbers e) (int values e)
+commandLimitsAt horizon m ticks inputs values e = commandTest horizon m (nat ticks e) (nat inputs e) (int values e)
 
 abbrev pub commandAt : ℕ → ℕ → List ℕ → List ℕ → List ℤ → ℕ → Bool
-commandAt horizon m ticks numbers values e = commandLimitsAt horizon m ticks numbers values e && follows ticks numbers e
+commandAt horizon m ticks inputs values e = commandLimitsAt horizon m ticks inputs values e && follows ticks inputs e
 
 abbrev pub commandsCheck : ℕ → ℕ → ℕ → List ℕ → List ℕ → List ℤ → Finding
-commandsCheck horizon m commands ticks numbers values = checked (commandAt horizon m ticks numbers values) Command commands
+commandsCheck horizon m commands ticks inputs values = checked (commandAt horizon m ticks inputs values) Command commands

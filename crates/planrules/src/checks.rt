@@ -17,7 +17,12 @@ use entryrules::link_limits;
 use entryrules::link_ordered;
 use entryrules::node_kept;
 use entryrules::value_kept;
+use plan::COMMANDS;
 use plan::Finding;
+use plan::INPUTS;
+use plan::INTEGRATORS;
+use plan::LINKS;
+use plan::NODES;
 use plan::Plan;
 
 fn check_horizon(horizon: u32) -> Finding
@@ -30,7 +35,7 @@ fn check_horizon(horizon: u32) -> Finding
     }
 }
 
-fn check_integrators<'a>(n: usize, starts: &'a [i64; 32], quanta: &'a [i64; 32]) -> Finding
+fn check_integrators<'a>(n: usize, starts: &'a [i64; INTEGRATORS], quanta: &'a [i64; INTEGRATORS]) -> Finding
     requires { ⌜ n ≤ 32 ⌝ }
     ensures { λ r. ⌜ r ≡ integratorsCheck n (now (starts .entry)) (now (quanta .entry)) ⌝ }
 {
@@ -44,7 +49,7 @@ fn check_integrators<'a>(n: usize, starts: &'a [i64; 32], quanta: &'a [i64; 32])
     Finding::Clean
 }
 
-fn check_inputs(m: usize, firsts: &[i64; 8]) -> Finding
+fn check_inputs(m: usize, firsts: &[i64; INPUTS]) -> Finding
     requires { ⌜ m ≤ 8 ⌝ }
     ensures { λ r. ⌜ r ≡ inputsCheck m (now (firsts .entry)) ⌝ }
 {
@@ -62,18 +67,18 @@ fn check_inputs(m: usize, firsts: &[i64; 8]) -> Finding
 fn check_nodes<'a>(
     base: usize,
     k: usize,
-    kinds: &'a [usize; 16],
-    lefts: &'a [usize; 16],
-    rights: &'a [usize; 16],
-    lows: &'a [i64; 16],
-    highs: &'a [i64; 16],
+    kinds: &'a [usize; NODES],
+    a: &'a [usize; NODES],
+    b: &'a [usize; NODES],
+    lows: &'a [i64; NODES],
+    highs: &'a [i64; NODES],
 ) -> Finding
     requires { ⌜ (base ≤ 40) × (k ≤ 16) ⌝ }
-    ensures { λ r. ⌜ r ≡ nodesCheck base k (now (kinds .entry)) (now (lefts .entry)) (now (rights .entry)) (now (lows .entry)) (now (highs .entry)) ⌝ }
+    ensures { λ r. ⌜ r ≡ nodesCheck base k (now (kinds .entry)) (now (a .entry)) (now (b .entry)) (now (lows .entry)) (now (highs .entry)) ⌝ }
 {
     let mut j = 0;
     while j < k {
-        if !node_kept(base + j, kinds[j], lefts[j], rights[j], lows[j], highs[j]) {
+        if !node_kept(base + j, kinds[j], a[j], b[j], lows[j], highs[j]) {
             return Finding::Node(j);
         }
         j += 1;
@@ -86,9 +91,9 @@ fn check_links<'a>(
     n: usize,
     all: usize,
     links: usize,
-    targets: &'a [usize; 256],
-    sources: &'a [usize; 256],
-    coefficients: &'a [i64; 256],
+    targets: &'a [usize; LINKS],
+    sources: &'a [usize; LINKS],
+    coefficients: &'a [i64; LINKS],
 ) -> Finding
     requires { ⌜ links ≤ 256 ⌝ }
     ensures { λ r. ⌜ r ≡ linksCheck n all links (now (targets .entry)) (now (sources .entry)) (now (coefficients .entry)) ⌝ }
@@ -112,22 +117,22 @@ fn check_nodes_and_links<'a>(
     m: usize,
     k: usize,
     links: usize,
-    kinds: &'a [usize; 16],
-    lefts: &'a [usize; 16],
-    rights: &'a [usize; 16],
-    lows: &'a [i64; 16],
-    highs: &'a [i64; 16],
-    targets: &'a [usize; 256],
-    sources: &'a [usize; 256],
-    coefficients: &'a [i64; 256],
+    kinds: &'a [usize; NODES],
+    a: &'a [usize; NODES],
+    b: &'a [usize; NODES],
+    lows: &'a [i64; NODES],
+    highs: &'a [i64; NODES],
+    targets: &'a [usize; LINKS],
+    sources: &'a [usize; LINKS],
+    coefficients: &'a [i64; LINKS],
 ) -> Finding
     requires { ⌜ (n + m ≤ 40) × (k ≤ 16) × (links ≤ 256) ⌝ }
-    ensures { λ r. ⌜ r ≡ orElse (nodesCheck (n + m) k (now (kinds .entry)) (now (lefts .entry)) (now (rights .entry)) (now (lows .entry)) (now (highs .entry)))
+    ensures { λ r. ⌜ r ≡ orElse (nodesCheck (n + m) k (now (kinds .entry)) (now (a .entry)) (now (b .entry)) (now (lows .entry)) (now (highs .entry)))
         (linksCheck n (n + m + k) links (now (targets .entry)) (now (sources .entry)) (now (coefficients .entry))) ⌝ }
 {
     let base = n + m;
     let all = base + k;
-    let found = check_nodes(base, k, kinds, lefts, rights, lows, highs);
+    let found = check_nodes(base, k, kinds, a, b, lows, highs);
     let Finding::Clean = found else {
         return found;
     };
@@ -138,19 +143,19 @@ fn check_commands<'a>(
     horizon: u32,
     m: usize,
     commands: usize,
-    ticks: &'a [u32; 64],
-    numbers: &'a [usize; 64],
-    values: &'a [i64; 64],
+    ticks: &'a [u32; COMMANDS],
+    inputs: &'a [usize; COMMANDS],
+    values: &'a [i64; COMMANDS],
 ) -> Finding
     requires { ⌜ commands ≤ 64 ⌝ }
-    ensures { λ r. ⌜ r ≡ commandsCheck horizon m commands (now (ticks .entry)) (now (numbers .entry)) (now (values .entry)) ⌝ }
+    ensures { λ r. ⌜ r ≡ commandsCheck horizon m commands (now (ticks .entry)) (now (inputs .entry)) (now (values .entry)) ⌝ }
 {
     let mut e = 0;
     while e < commands {
-        if !command_limits(horizon, m, ticks[e], numbers[e], values[e]) {
+        if !command_limits(horizon, m, ticks[e], inputs[e], values[e]) {
             return Finding::Command(e);
         }
-        if !command_ordered(ticks, numbers, e) {
+        if !command_ordered(ticks, inputs, e) {
             return Finding::Command(e);
         }
         e += 1;
@@ -163,18 +168,18 @@ pub fn check_plan(p: Plan) -> Finding
     requires { ⌜ CountsRule p ⌝ }
     ensures { λ r. ⌜ r ≡ planFinding p ⌝ }
 {
-    let n = p.n;
-    let m = p.m;
-    let k = p.k;
+    let n = p.counts.n;
+    let m = p.counts.m;
+    let k = p.counts.k;
     let found = check_horizon(p.horizon);
     let Finding::Clean = found else {
         return found;
     };
-    let found = check_integrators(n, &p.starts, &p.quanta);
+    let found = check_integrators(n, &p.integrators.starts, &p.integrators.quanta);
     let Finding::Clean = found else {
         return found;
     };
-    let found = check_inputs(m, &p.firsts);
+    let found = check_inputs(m, &p.inputs.firsts);
     let Finding::Clean = found else {
         return found;
     };
@@ -182,27 +187,27 @@ pub fn check_plan(p: Plan) -> Finding
         n,
         m,
         k,
-        p.links,
-        &p.kinds,
-        &p.lefts,
-        &p.rights,
-        &p.lows,
-        &p.highs,
-        &p.targets,
-        &p.sources,
-        &p.coefficients,
+        p.counts.links,
+        &p.nodes.kinds,
+        &p.nodes.a,
+        &p.nodes.b,
+        &p.nodes.lows,
+        &p.nodes.highs,
+        &p.links.targets,
+        &p.links.sources,
+        &p.links.coefficients,
     );
     let Finding::Clean = found else {
         return found;
     };
-    check_commands(p.horizon, m, p.commands, &p.ticks, &p.numbers, &p.values)
+    check_commands(p.horizon, m, p.counts.commands, &p.commands.ticks, &p.commands.inputs, &p.commands.values)
 }
 
 // Whether a plan that comes in no file keeps the counts' limits and the rules 4 to 9. It asks nothing of the plan: the counts are tested first.
 pub fn plan_kept(p: Plan) -> bool
     ensures { λ r. ⌜ r ≡ (countsKept p && isClean (planFinding p)) ⌝ }
 {
-    let counts = [p.n, p.m, p.k, p.links, p.commands];
+    let counts = [p.counts.n, p.counts.m, p.counts.k, p.counts.links, p.counts.commands];
     if !counts_kept(&counts) {
         return false;
     }

@@ -26,20 +26,20 @@ use Rattle.sectionwriters.specs.Writing.{Begun, begun-of, turn}
 -- ---- the numbers
 -- each number of a used entry fits a word
 pub record Fitting (p : Plan) : Type 0 where
-  pub starts : Signed32 (p .n) (p .starts)
-  pub quanta : Signed32 (p .n) (p .quanta)
-  pub firsts : Signed32 (p .m) (p .firsts)
-  pub kinds : Unsigned32 (p .k) (p .kinds)
-  pub lefts : Unsigned32 (p .k) (p .lefts)
-  pub rights : Unsigned32 (p .k) (p .rights)
-  pub lows : Signed32 (p .k) (p .lows)
-  pub highs : Signed32 (p .k) (p .highs)
-  pub targets : Unsigned32 (p .links) (p .targets)
-  pub sources : Unsigned32 (p .links) (p .sources)
-  pub coefficients : Signed32 (p .links) (p .coefficients)
-  pub ticks : Unsigned32 (p .commands) (p .ticks)
-  pub numbers : Unsigned32 (p .commands) (p .numbers)
-  pub values : Signed32 (p .commands) (p .values)
+  pub starts : Signed32 (p .counts .n) (p .integrators .starts)
+  pub quanta : Signed32 (p .counts .n) (p .integrators .quanta)
+  pub firsts : Signed32 (p .counts .m) (p .inputs .firsts)
+  pub kinds : Unsigned32 (p .counts .k) (p .nodes .kinds)
+  pub a : Unsigned32 (p .counts .k) (p .nodes .a)
+  pub b : Unsigned32 (p .counts .k) (p .nodes .b)
+  pub lows : Signed32 (p .counts .k) (p .nodes .lows)
+  pub highs : Signed32 (p .counts .k) (p .nodes .highs)
+  pub targets : Unsigned32 (p .counts .links) (p .links .targets)
+  pub sources : Unsigned32 (p .counts .links) (p .links .sources)
+  pub coefficients : Signed32 (p .counts .links) (p .links .coefficients)
+  pub ticks : Unsigned32 (p .counts .commands) (p .commands .ticks)
+  pub inputs : Unsigned32 (p .counts .commands) (p .commands .inputs)
+  pub values : Signed32 (p .counts .commands) (p .commands .values)
 
 -- a number within ±M does
 within-fits : {count : ℕ} {zs : List ℤ} → ((i : ℕ) → i < count → Within M (int zs i)) → Signed32 count zs
@@ -58,16 +58,16 @@ module _ (p : Plan) (r : PlanRules p) where
         starts = within-fits (λ i h. r .integrators i h .start);
         quanta = within-fits (λ i h. let e = r .integrators i h in quantum-within (e .least) (e .most));
         firsts = within-fits (r .inputs);
-        kinds = column-fits 2 0 (p .kinds) (omega arith) (λ i. refl);
-        lefts = column-fits 2 1 (p .lefts) (omega arith) (λ i. refl);
-        rights = column-fits 2 2 (p .rights) (omega arith) (λ i. refl);
+        kinds = column-fits 2 0 (p .nodes .kinds) (omega arith) (λ i. refl);
+        a = column-fits 2 1 (p .nodes .a) (omega arith) (λ i. refl);
+        b = column-fits 2 2 (p .nodes .b) (omega arith) (λ i. refl);
         lows = within-fits (λ j h. node-limits p j (r .nodes j h) .0);
         highs = within-fits (λ j h. node-limits p j (r .nodes j h) .1);
-        targets = column-fits 3 0 (p .targets) (omega arith) (λ i. refl);
-        sources = column-fits 3 1 (p .sources) (omega arith) (λ i. refl);
+        targets = column-fits 3 0 (p .links .targets) (omega arith) (λ i. refl);
+        sources = column-fits 3 1 (p .links .sources) (omega arith) (λ i. refl);
         coefficients = within-fits (λ e h. coefficient-within (r .links e h .coefficient));
-        ticks = column-fits 4 0 (p .ticks) (omega arith) (λ i. refl);
-        numbers = column-fits 4 1 (p .numbers) (omega arith) (λ i. refl);
+        ticks = column-fits 4 0 (p .commands .ticks) (omega arith) (λ i. refl);
+        inputs = column-fits 4 1 (p .commands .inputs) (omega arith) (λ i. refl);
         values = within-fits (λ e h. r .commands e h .value);
       }
 

@@ -81,41 +81,41 @@ pub fn write_plan(p: Plan, buf: &mut [u8]) -> usize
     requires { ⌜ PlanRules p ⌝ }
     ensures { λ r. ⌜ (r ≡ writtenLength p (length (now (buf .entry)))) × (now (buf .exit) ≡ writtenBuffer p (now (buf .entry))) ⌝ }
 {
-    let counts = [p.n, p.m, p.k, p.links, p.commands];
+    let counts = [p.counts.n, p.counts.m, p.counts.k, p.counts.links, p.counts.commands];
     let length = section_offset(&counts, SECTIONS);
     if buf.len() < length {
         return 0;
     }
     write_header(buf, p.horizon, &counts);
     let integrators = section_offset(&counts, 0);
-    write_integrators(&mut buf[integrators..], p.n, &p.starts, &p.quanta);
+    write_integrators(&mut buf[integrators..], p.counts.n, &p.integrators.starts, &p.integrators.quanta);
     let inputs = section_offset(&counts, 1);
-    write_inputs(&mut buf[inputs..], p.m, &p.firsts);
+    write_inputs(&mut buf[inputs..], p.counts.m, &p.inputs.firsts);
     let nodes = section_offset(&counts, 2);
     write_nodes(
         &mut buf[nodes..],
-        p.k,
-        &p.kinds,
-        &p.lefts,
-        &p.rights,
-        &p.lows,
-        &p.highs,
+        p.counts.k,
+        &p.nodes.kinds,
+        &p.nodes.a,
+        &p.nodes.b,
+        &p.nodes.lows,
+        &p.nodes.highs,
     );
     let links = section_offset(&counts, 3);
     write_links(
         &mut buf[links..],
-        p.links,
-        &p.targets,
-        &p.sources,
-        &p.coefficients,
+        p.counts.links,
+        &p.links.targets,
+        &p.links.sources,
+        &p.links.coefficients,
     );
     let commands = section_offset(&counts, 4);
     write_commands(
         &mut buf[commands..],
-        p.commands,
-        &p.ticks,
-        &p.numbers,
-        &p.values,
+        p.counts.commands,
+        &p.commands.ticks,
+        &p.commands.inputs,
+        &p.commands.values,
     );
     length
 }

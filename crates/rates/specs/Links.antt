@@ -15,7 +15,7 @@ firstLink targets links i = firstFrom (λ e. leb i (nat targets e)) 0 links
 
 -- the table of a plan: integrator i's links are those from entry i to before entry i + 1
 unfoldable pub rangesOf : Plan → List ℕ
-rangesOf p = row 0 33 (p .n + 1) (firstLink (p .targets) (p .links))
+rangesOf p = row 0 33 (p .counts .n + 1) (firstLink (p .links .targets) (p .counts .links))
 
 -- coefficient × source value of link e, where `values` holds the value of each source
 abbrev pub term : List ℕ → List ℤ → List ℤ → ℕ → ℤ

@@ -7,9 +7,15 @@ ghost use lib.Dec.{leb};
 ghost use Rattle.plan.specs.Lists.{nat, row, firstFrom};
 ghost use Rattle.rates.specs.Links.{firstLink, rangeRate, Rated, AllRated};
 use integers::floor_65536;
+use plan::INTEGRATORS;
+use plan::LINKS;
+use plan::SOURCES;
+
+// Where each integrator's links begin, and where the last one's end.
+pub const RANGES: usize = INTEGRATORS + 1;
 
 // From link `from` on the first whose target is i or above, or the number of links.
-fn first_link_from(targets: &[usize; 256], i: usize, from: usize, links: usize) -> usize
+fn first_link_from(targets: &[usize; LINKS], i: usize, from: usize, links: usize) -> usize
     requires { ⌜ (from ≤ links) × (links ≤ 256) ⌝ }
     ensures { λ r. ⌜ r ≡ firstFrom (λ e. leb i (nat (now (targets .entry)) e)) from (links - from) ⌝ }
 {
@@ -21,11 +27,11 @@ fn first_link_from(targets: &[usize; 256], i: usize, from: usize, links: usize) 
 }
 
 // Where each integrator's links begin; the entry after the last integrator's is where its links end.
-pub fn link_ranges(n: usize, links: usize, targets: &[usize; 256]) -> [usize; 33]
+pub fn link_ranges(n: usize, links: usize, targets: &[usize; LINKS]) -> [usize; RANGES]
     requires { ⌜ (n ≤ 32) × (links ≤ 256) ⌝ }
     ensures { λ r. ⌜ r ≡ row 0 33 (n + 1) (firstLink (now (targets .entry)) links) ⌝ }
 {
-    let mut ranges: [usize; 33] = [0; 33];
+    let mut ranges: [usize; RANGES] = [0; RANGES];
     let mut e: usize = 0;
     let mut i: usize = 0;
     while i <= n {
@@ -40,9 +46,9 @@ pub fn link_ranges(n: usize, links: usize, targets: &[usize; 256]) -> [usize; 33
 pub fn rate<'a>(
     from: usize,
     to: usize,
-    sources: &'a [usize; 256],
-    coefficients: &'a [i64; 256],
-    values: &'a [i64; 64],
+    sources: &'a [usize; LINKS],
+    coefficients: &'a [i64; LINKS],
+    values: &'a [i64; SOURCES],
 ) -> i64
     requires { ⌜ Rated (now sources) (now coefficients) (now values) from to ⌝ }
     ensures { λ r. ⌜ r ≡ rangeRate (now (sources .entry)) (now (coefficients .entry)) (now (values .entry)) from to ⌝ }
@@ -59,16 +65,16 @@ pub fn rate<'a>(
 // The rate of each integrator.
 pub fn rates<'a>(
     n: usize,
-    ranges: &'a [usize; 33],
-    sources: &'a [usize; 256],
-    coefficients: &'a [i64; 256],
-    values: &'a [i64; 64],
-) -> [i64; 32]
+    ranges: &'a [usize; RANGES],
+    sources: &'a [usize; LINKS],
+    coefficients: &'a [i64; LINKS],
+    values: &'a [i64; SOURCES],
+) -> [i64; INTEGRATORS]
     requires { ⌜ (n ≤ 32) × AllRated n (now ranges) (now sources) (now coefficients) (now values) ⌝ }
     ensures { λ r. ⌜ r ≡ row (pos 0) 32 n (λ i. rangeRate (now (sources .entry)) (now (coefficients .entry)) (now (values .entry))
         (nat (now (ranges .entry)) i) (nat (now (ranges .entry)) (i + 1))) ⌝ }
 {
-    let mut slopes: [i64; 32] = [0; 32];
+    let mut slopes: [i64; INTEGRATORS] = [0; INTEGRATORS];
     let mut i: usize = 0;
     while i < n {
         slopes[i] = rate(ranges[i], ranges[i + 1], sources, coefficients, values);

@@ -25,12 +25,12 @@ ownNodes base table k = marked (λ j. base + j) (λ j. 32 + j) table k
 abbrev pub added : List ℕ → ℕ → ℕ → List ℕ
 added table source entry = set table source (union (nat table source) entry)
 
-module _ (kinds lefts rights : List ℕ) (base : ℕ) where
+module _ (kinds a b : List ℕ) (base : ℕ) where
   -- node j's entry added to those of the operands that it uses
   unfoldable pub handedDown : ℕ → List ℕ → List ℕ
   handedDown j table =
-      let entry = nat table (base + j) in let left = added table (nat lefts j) entry in
-      cond (eqb (nat kinds j) 2) left (added left (nat rights j) entry)
+      let entry = nat table (base + j) in let left = added table (nat a j) entry in
+      cond (eqb (nat kinds j) 2) left (added left (nat b j) entry)
 
   -- "dependence is followed down through lower-numbered nodes": from node j - 1 down to node 0
   unfoldable pub followedDown : ℕ → List ℕ → List ℕ
@@ -38,11 +38,11 @@ module _ (kinds lefts rights : List ℕ) (base : ℕ) where
   followedDown (suc j) table = followedDown j (handedDown j table)
 
 unfoldable pub tableFrom : ℕ → ℕ → ℕ → List ℕ → List ℕ → List ℕ → List ℕ → List ℕ → List ℕ
-tableFrom base k links kinds lefts rights targets sources = followedDown kinds lefts rights base k (ownNodes base (linked targets sources links) k)
+tableFrom base k links kinds a b targets sources = followedDown kinds a b base k (ownNodes base (linked targets sources links) k)
 
 -- the table of a plan
 unfoldable pub reachTable : Plan → List ℕ
-reachTable p = tableFrom (p .n + p .m) (p .k) (p .links) (p .kinds) (p .lefts) (p .rights) (p .targets) (p .sources)
+reachTable p = tableFrom (p .counts .n + p .counts .m) (p .counts .k) (p .counts .links) (p .nodes .kinds) (p .nodes .a) (p .nodes .b) (p .links .targets) (p .links .sources)
 
 -- the entries of the sources in a mask, joined
 unfoldable pub entriesOf : List ℕ → ℕ → ℕ
@@ -54,7 +54,7 @@ pub record Linked (targets sources : List ℕ) (links : ℕ) : Type 0 where
   pub target : (e : ℕ) → e < links → nat targets e < 32
   pub source : (e : ℕ) → e < links → nat sources e < 64
 
-pub record Wired (lefts rights : List ℕ) (base k : ℕ) : Type 0 where
+pub record Wired (a b : List ℕ) (base k : ℕ) : Type 0 where
   pub room : base + k ≤ 64
-  pub left : (j : ℕ) → j < k → nat lefts j < base + j
-  pub right : (j : ℕ) → j < k → nat rights j < base + j
+  pub left : (j : ℕ) → j < k → nat a j < base + j
+  pub right : (j : ℕ) → j < k → nat b j < base + j

@@ -7,13 +7,16 @@ use bitset::lowest64;
 use bitset::rest64;
 use bitset::union64;
 use bitset::with64;
+use plan::LINKS;
+use plan::NODES;
+use plan::SOURCES;
 
 // "a link of its own names" a source: each link's target goes into the entry of its source.
-fn link_entries<'a>(links: usize, targets: &'a [usize; 256], sources: &'a [usize; 256]) -> [u64; 64]
+fn link_entries<'a>(links: usize, targets: &'a [usize; LINKS], sources: &'a [usize; LINKS]) -> [u64; SOURCES]
     requires { ⌜ Linked (now targets) (now sources) links ⌝ }
     ensures { λ r. ⌜ r ≡ linked (now (targets .entry)) (now (sources .entry)) links ⌝ }
 {
-    let mut table: [u64; 64] = [0; 64];
+    let mut table: [u64; SOURCES] = [0; SOURCES];
     let mut e: usize = 0;
     while e < links {
         let source = sources[e];
@@ -24,7 +27,7 @@ fn link_entries<'a>(links: usize, targets: &'a [usize; 256], sources: &'a [usize
 }
 
 // Each node goes into its own entry; node j's source number is base + j.
-fn own_entries(base: usize, k: usize, table: &mut [u64; 64])
+fn own_entries(base: usize, k: usize, table: &mut [u64; SOURCES])
     requires { ⌜ (k ≤ 16) × (base + k ≤ 64) ⌝ }
     ensures { λ _. ⌜ now (table .exit) ≡ ownNodes base (now (table .entry)) k ⌝ }
 {
@@ -37,7 +40,7 @@ fn own_entries(base: usize, k: usize, table: &mut [u64; 64])
 }
 
 // The bits of `entry` go into the entry of a source too.
-fn add_to(table: &mut [u64; 64], source: usize, entry: u64)
+fn add_to(table: &mut [u64; SOURCES], source: usize, entry: u64)
     requires { ⌜ source < 64 ⌝ }
     ensures { λ _. ⌜ now (table .exit) ≡ added (now (table .entry)) source entry ⌝ }
 {
@@ -48,18 +51,18 @@ fn add_to(table: &mut [u64; 64], source: usize, entry: u64)
 fn hand_down<'a>(
     j: usize,
     base: usize,
-    kinds: &'a [usize; 16],
-    lefts: &'a [usize; 16],
-    rights: &'a [usize; 16],
-    table: &mut [u64; 64],
+    kinds: &'a [usize; NODES],
+    a: &'a [usize; NODES],
+    b: &'a [usize; NODES],
+    table: &mut [u64; SOURCES],
 )
-    requires { ⌜ (j < 16) × Wired (now lefts) (now rights) base (j + 1) ⌝ }
-    ensures { λ _. ⌜ now (table .exit) ≡ handedDown (now (kinds .entry)) (now (lefts .entry)) (now (rights .entry)) base j (now (table .entry)) ⌝ }
+    requires { ⌜ (j < 16) × Wired (now a) (now b) base (j + 1) ⌝ }
+    ensures { λ _. ⌜ now (table .exit) ≡ handedDown (now (kinds .entry)) (now (a .entry)) (now (b .entry)) base j (now (table .entry)) ⌝ }
 {
     let entry = table[base + j];
-    add_to(table, lefts[j], entry);
+    add_to(table, a[j], entry);
     if kinds[j] != 2 {
-        add_to(table, rights[j], entry);
+        add_to(table, b[j], entry);
     }
 }
 
@@ -68,17 +71,17 @@ fn hand_down<'a>(
 fn follow_down<'a>(
     j: usize,
     base: usize,
-    kinds: &'a [usize; 16],
-    lefts: &'a [usize; 16],
-    rights: &'a [usize; 16],
-    table: &mut [u64; 64],
+    kinds: &'a [usize; NODES],
+    a: &'a [usize; NODES],
+    b: &'a [usize; NODES],
+    table: &mut [u64; SOURCES],
 )
-    requires { ⌜ (j ≤ 16) × Wired (now lefts) (now rights) base j ⌝ }
-    ensures { λ _. ⌜ now (table .exit) ≡ followedDown (now (kinds .entry)) (now (lefts .entry)) (now (rights .entry)) base j (now (table .entry)) ⌝ }
+    requires { ⌜ (j ≤ 16) × Wired (now a) (now b) base j ⌝ }
+    ensures { λ _. ⌜ now (table .exit) ≡ followedDown (now (kinds .entry)) (now (a .entry)) (now (b .entry)) base j (now (table .entry)) ⌝ }
 {
     if j > 0 {
-        hand_down(j - 1, base, kinds, lefts, rights, table);
-        follow_down(j - 1, base, kinds, lefts, rights, table);
+        hand_down(j - 1, base, kinds, a, b, table);
+        follow_down(j - 1, base, kinds, a, b, table);
     }
 }
 
@@ -87,24 +90,24 @@ pub fn reach_table<'a>(
     base: usize,
     k: usize,
     links: usize,
-    kinds: &'a [usize; 16],
-    lefts: &'a [usize; 16],
-    rights: &'a [usize; 16],
-    targets: &'a [usize; 256],
-    sources: &'a [usize; 256],
-) -> [u64; 64]
-    requires { ⌜ (k ≤ 16) × Wired (now lefts) (now rights) base k × Linked (now targets) (now sources) links ⌝ }
-    ensures { λ r. ⌜ r ≡ tableFrom base k links (now (kinds .entry)) (now (lefts .entry)) (now (rights .entry)) (now (targets .entry))
+    kinds: &'a [usize; NODES],
+    a: &'a [usize; NODES],
+    b: &'a [usize; NODES],
+    targets: &'a [usize; LINKS],
+    sources: &'a [usize; LINKS],
+) -> [u64; SOURCES]
+    requires { ⌜ (k ≤ 16) × Wired (now a) (now b) base k × Linked (now targets) (now sources) links ⌝ }
+    ensures { λ r. ⌜ r ≡ tableFrom base k links (now (kinds .entry)) (now (a .entry)) (now (b .entry)) (now (targets .entry))
         (now (sources .entry)) ⌝ }
 {
     let mut table = link_entries(links, targets, sources);
     own_entries(base, k, &mut table);
-    follow_down(k, base, kinds, lefts, rights, &mut table);
+    follow_down(k, base, kinds, a, b, &mut table);
     table
 }
 
 // The entries of the changed sources, joined.
-fn entries_of(changed: u64, table: &[u64; 64]) -> u64
+fn entries_of(changed: u64, table: &[u64; SOURCES]) -> u64
     ensures { λ r. ⌜ r ≡ entriesOf (now (table .entry)) changed ⌝ }
 {
     let mut left = changed;
@@ -123,7 +126,7 @@ pub struct Reach {
     pub nodes: u32,
 }
 
-pub fn reached_by(changed: u64, table: &[u64; 64]) -> Reach
+pub fn reached_by(changed: u64, table: &[u64; SOURCES]) -> Reach
     ensures { λ r. ⌜ (r .integrators ≡ entriesOf (now (table .entry)) changed % 2 ^ 32) × (r .nodes ≡ entriesOf (now (table .entry)) changed / 2 ^ 32) ⌝ }
 {
     let entries = entries_of(changed, table);

@@ -8,6 +8,11 @@ ghost use Rattle.words.specs.Word.{wordOf, written};
 ghost use Rattle.plan.specs.Lists.{joined};
 ghost use Rattle.plan.specs.Encoding.{integratorEntry, inputEntry, nodeEntry, tripleEntry};
 ghost use Rattle.sectionwriters.specs.Entries.{Unsigned32, Signed32};
+use plan::COMMANDS;
+use plan::INPUTS;
+use plan::INTEGRATORS;
+use plan::LINKS;
+use plan::NODES;
 use words::write_i32;
 use words::write_triple;
 use words::write_u32;
@@ -42,7 +47,7 @@ fn write_node(buf: &mut [u8], kind: usize, a: usize, b: usize, lo: i64, hi: i64)
 }
 
 // The section of the integrators.
-pub fn write_integrators<'a>(buf: &mut [u8], n: usize, starts: &'a [i64; 32], quanta: &'a [i64; 32])
+pub fn write_integrators<'a>(buf: &mut [u8], n: usize, starts: &'a [i64; INTEGRATORS], quanta: &'a [i64; INTEGRATORS])
     requires { ⌜ (8 * n ≤ length (now buf)) × (n ≤ 32) × Signed32 n (now starts) × Signed32 n (now quanta) ⌝ }
     ensures { λ _. ⌜ now (buf .exit) ≡ written (joined (integratorEntry (now (starts .entry)) (now (quanta .entry))) n) (now (buf .entry)) ⌝ }
 {
@@ -54,7 +59,7 @@ pub fn write_integrators<'a>(buf: &mut [u8], n: usize, starts: &'a [i64; 32], qu
 }
 
 // The section of the inputs.
-pub fn write_inputs<'a>(buf: &mut [u8], m: usize, firsts: &'a [i64; 8])
+pub fn write_inputs<'a>(buf: &mut [u8], m: usize, firsts: &'a [i64; INPUTS])
     requires { ⌜ (4 * m ≤ length (now buf)) × (m ≤ 8) × Signed32 m (now firsts) ⌝ }
     ensures { λ _. ⌜ now (buf .exit) ≡ written (joined (inputEntry (now (firsts .entry))) m) (now (buf .entry)) ⌝ }
 {
@@ -69,15 +74,15 @@ pub fn write_inputs<'a>(buf: &mut [u8], m: usize, firsts: &'a [i64; 8])
 pub fn write_nodes<'a>(
     buf: &mut [u8],
     k: usize,
-    kinds: &'a [usize; 16],
-    lefts: &'a [usize; 16],
-    rights: &'a [usize; 16],
-    lows: &'a [i64; 16],
-    highs: &'a [i64; 16],
+    kinds: &'a [usize; NODES],
+    a: &'a [usize; NODES],
+    b: &'a [usize; NODES],
+    lows: &'a [i64; NODES],
+    highs: &'a [i64; NODES],
 )
-    requires { ⌜ (20 * k ≤ length (now buf)) × (k ≤ 16) × Unsigned32 k (now kinds) × Unsigned32 k (now lefts) × Unsigned32 k (now rights)
+    requires { ⌜ (20 * k ≤ length (now buf)) × (k ≤ 16) × Unsigned32 k (now kinds) × Unsigned32 k (now a) × Unsigned32 k (now b)
         × Signed32 k (now lows) × Signed32 k (now highs) ⌝ }
-    ensures { λ _. ⌜ now (buf .exit) ≡ written (joined (nodeEntry (now (kinds .entry)) (now (lefts .entry)) (now (rights .entry))
+    ensures { λ _. ⌜ now (buf .exit) ≡ written (joined (nodeEntry (now (kinds .entry)) (now (a .entry)) (now (b .entry))
         (now (lows .entry)) (now (highs .entry))) k) (now (buf .entry)) ⌝ }
 {
     let mut j = 0;
@@ -85,8 +90,8 @@ pub fn write_nodes<'a>(
         write_node(
             &mut buf[20 * j..],
             kinds[j],
-            lefts[j],
-            rights[j],
+            a[j],
+            b[j],
             lows[j],
             highs[j],
         );
@@ -98,9 +103,9 @@ pub fn write_nodes<'a>(
 pub fn write_links<'a>(
     buf: &mut [u8],
     links: usize,
-    targets: &'a [usize; 256],
-    sources: &'a [usize; 256],
-    coefficients: &'a [i64; 256],
+    targets: &'a [usize; LINKS],
+    sources: &'a [usize; LINKS],
+    coefficients: &'a [i64; LINKS],
 )
     requires { ⌜ (12 * links ≤ length (now buf)) × (links ≤ 256) × Unsigned32 links (now targets) × Unsigned32 links (now sources)
         × Signed32 links (now coefficients) ⌝ }
@@ -118,18 +123,18 @@ pub fn write_links<'a>(
 pub fn write_commands<'a>(
     buf: &mut [u8],
     commands: usize,
-    ticks: &'a [u32; 64],
-    numbers: &'a [usize; 64],
-    values: &'a [i64; 64],
+    ticks: &'a [u32; COMMANDS],
+    inputs: &'a [usize; COMMANDS],
+    values: &'a [i64; COMMANDS],
 )
-    requires { ⌜ (12 * commands ≤ length (now buf)) × (commands ≤ 64) × Unsigned32 commands (now ticks) × Unsigned32 commands (now numbers)
+    requires { ⌜ (12 * commands ≤ length (now buf)) × (commands ≤ 64) × Unsigned32 commands (now ticks) × Unsigned32 commands (now inputs)
         × Signed32 commands (now values) ⌝ }
-    ensures { λ _. ⌜ now (buf .exit) ≡ written (joined (tripleEntry (now (ticks .entry)) (now (numbers .entry)) (now (values .entry))) commands)
+    ensures { λ _. ⌜ now (buf .exit) ≡ written (joined (tripleEntry (now (ticks .entry)) (now (inputs .entry)) (now (values .entry))) commands)
         (now (buf .entry)) ⌝ }
 {
     let mut e = 0;
     while e < commands {
-        write_triple(&mut buf[12 * e..], ticks[e] as usize, numbers[e], values[e]);
+        write_triple(&mut buf[12 * e..], ticks[e] as usize, inputs[e], values[e]);
         e += 1;
     }
 }

@@ -88,13 +88,13 @@ module _ (engine : Engine) (st : State) (budget : ℕ) (buffer : List ℕ) where
     run-above h = let above = lt-leb budget 1024 h in (rw (yes, above), rw (yes, above))
 
     module _ (few : budget ≤ 1024) where
-      pub run-short : length buffer < budget * (st .plan .n + st .plan .m) * 12 → RanAs (declinedWith 12 st) buffer
+      pub run-short : length buffer < budget * (st .plan .counts .n + st .plan .counts .m) * 12 → RanAs (declinedWith 12 st) buffer
       unfolding runOf bufferOfRun runNumber declineOf roomOf
       run-short h =
-          let within = le-leb budget 1024 few in let short = lt-leb (budget * (st .plan .n + st .plan .m) * 12) (length buffer) h in
+          let within = le-leb budget 1024 few in let short = lt-leb (budget * (st .plan .counts .n + st .plan .counts .m) * 12) (length buffer) h in
           (rw (yes, within, short), rw (yes, within, short))
 
-      module _ (room : budget * (st .plan .n + st .plan .m) * 12 ≤ length buffer) where
+      module _ (room : budget * (st .plan .counts .n + st .plan .counts .m) * 12 ≤ length buffer) where
         pub run-ready : RunReady st budget (length buffer)
         run-ready = record { sound = sound-means st .0 yes; room = room }
 
@@ -111,7 +111,7 @@ module _ (engine : Engine) (st : State) (budget : ℕ) (buffer : List ℕ) where
         unfolding runOf bufferOfRun runNumber declineOf roomOf ranState ranEvents endedOf putAt
         run-accepted e a =
             let within = le-leb budget 1024 few in
-            let enough = le-leb (budget * (st .plan .n + st .plan .m) * 12) (length buffer) room in
+            let enough = le-leb (budget * (st .plan .counts .n + st .plan .counts .m) * 12) (length buffer) room in
             (rw (e, yes, within, enough), a ∙ rw (yes, within, enough, zero-add))
 
 -- ---- position call
@@ -124,16 +124,16 @@ module _ (st : State) (i : ℕ) where
   position-unsound e = rw e
 
   module _ (yes : isSound st ≡ true) where
-    pub position-above : st .plan .n ≤ i → PositionedAs 14 (pos 0)
+    pub position-above : st .plan .counts .n ≤ i → PositionedAs 14 (pos 0)
     unfolding positionedOf positionNumber
-    position-above h = rw (yes, le-ltb i (st .plan .n) h)
+    position-above h = rw (yes, le-ltb i (st .plan .counts .n) h)
 
-    module _ (known : i < st .plan .n) where
-      pub position-ready : PositionReady (int (st .run .x) i) (int (st .run .s) i) (nat (st .run .l) i) (st .run .clock)
+    module _ (known : i < st .plan .counts .n) where
+      pub position-ready : PositionReady (int (st .run .x) i) (int (st .run .s) i) (nat (st .run .l) i) (st .run .clocks .clock)
       position-ready =
           let sound = sound-means st .0 yes in
-          ready-at (st .plan) (st .run) sound (st .run .clock) (omega arith) i known (omega (arith, sound .integrators i known .ahead))
+          ready-at (st .plan) (st .run) sound (st .run .clocks .clock) (omega arith) i known (omega (arith, sound .integrators i known .ahead))
 
-      pub position-known : PositionedAs 0 (int (st .run .x) i +ℤ int (st .run .s) i *ℤ pos (st .run .clock - nat (st .run .l) i))
+      pub position-known : PositionedAs 0 (int (st .run .x) i +ℤ int (st .run .s) i *ℤ pos (st .run .clocks .clock - nat (st .run .l) i))
       unfolding positionedOf positionNumber positionOf positionAt
-      position-known = rw (yes, lt-ltb i (st .plan .n) known)
+      position-known = rw (yes, lt-ltb i (st .plan .counts .n) known)

@@ -16,7 +16,7 @@ pub fn position(state: State, integrator: usize) -> Positioned
             state,
         };
     }
-    if state.plan.n <= integrator {
+    if state.plan.counts.n <= integrator {
         return Positioned {
             number: 14,
             value: 0,
@@ -24,7 +24,7 @@ pub fn position(state: State, integrator: usize) -> Positioned
         };
     }
     let r = state.run;
-    let value = dynamics::position(r.x[integrator], r.s[integrator], r.l[integrator], r.clock);
+    let value = dynamics::position(r.x[integrator], r.s[integrator], r.l[integrator], r.clocks.clock);
     Positioned {
         number: 0,
         value,

@@ -39,7 +39,7 @@ fn run_by(engine: Engine, state: State, budget: u64, buf: &mut [u8]) -> Ran
     if LARGEST_BUDGET < budget {
         return declined(11, state);
     }
-    let room = budget as usize * (state.plan.n + state.plan.m) * EVENT_BYTES;
+    let room = budget as usize * (state.plan.counts.n + state.plan.counts.m) * EVENT_BYTES;
     if buf.len() < room {
         return declined(12, state);
     }

@@ -37,9 +37,9 @@ pub fn running_sound(p: Plan, r: Running) -> bool
     requires { ⌜ PlanRules p ⌝ }
     ensures { λ b. ⌜ b ≡ runningSound p r ⌝ }
 {
-    let n = p.n;
-    let m = p.m;
-    let clock = r.clock;
+    let n = p.counts.n;
+    let m = p.counts.m;
+    let clock = r.clocks.clock;
     if clock > p.horizon {
         return false;
     }
@@ -52,27 +52,27 @@ pub fn running_sound(p: Plan, r: Running) -> bool
     let values = source_values(
         n,
         m,
-        p.k,
+        p.counts.k,
         &r.q,
         &r.inputs,
-        &p.kinds,
-        &p.lefts,
-        &p.rights,
-        &p.lows,
-        &p.highs,
+        &p.nodes.kinds,
+        &p.nodes.a,
+        &p.nodes.b,
+        &p.nodes.lows,
+        &p.nodes.highs,
     );
-    let ranges = link_ranges(n, p.links, &p.targets);
-    let slopes = rates(n, &ranges, &p.sources, &p.coefficients, &values);
-    if !integrators_sound(n, clock, &p.quanta, &slopes, &r.x, &r.q, &r.s, &r.l, &r.d) {
+    let ranges = link_ranges(n, p.counts.links, &p.links.targets);
+    let slopes = rates(n, &ranges, &p.links.sources, &p.links.coefficients, &values);
+    if !integrators_sound(n, clock, &p.integrators.quanta, &slopes, &r.x, &r.q, &r.s, &r.l, &r.d) {
         return false;
     }
-    if r.next != next_command(p.commands, &p.ticks, clock) {
+    if r.clocks.next != next_command(p.counts.commands, &p.commands.ticks, clock) {
         return false;
     }
-    if r.instants > clock as u64 {
+    if r.clocks.instants > clock as u64 {
         return false;
     }
-    if r.updates > (n as u64) * r.instants {
+    if r.clocks.updates > (n as u64) * r.clocks.instants {
         return false;
     }
     figures_unused(n, m, r)

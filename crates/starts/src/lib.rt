@@ -9,7 +9,9 @@ ghost use Rattle.machine.specs.Start.{startOf};
 ghost use Rattle.starts.specs.Starting.{StartsReady};
 use dynamics::due_tick;
 use dynamics::next_command;
+use machine::Clocks;
 use machine::Running;
+use plan::INTEGRATORS;
 use plan::Plan;
 use rates::link_ranges;
 use rates::rates;
@@ -18,16 +20,16 @@ use values::source_values;
 // The due tick of each integrator at its start.
 fn first_dues<'a>(
     n: usize,
-    starts: &'a [i64; 32],
-    quanta: &'a [i64; 32],
-    slopes: &'a [i64; 32],
-) -> [u32; 32]
+    starts: &'a [i64; INTEGRATORS],
+    quanta: &'a [i64; INTEGRATORS],
+    slopes: &'a [i64; INTEGRATORS],
+) -> [u32; INTEGRATORS]
     requires { ⌜ (n ≤ 32) × StartsReady n (now starts) (now quanta) (now slopes) ⌝ }
     ensures { λ r. ⌜ r ≡ row 0 32 n (λ i. dueTick 0 (int (now (starts .entry)) i)
         (int (now (starts .entry)) i +ℤ int (now (quanta .entry)) i) (int (now (starts .entry)) i -ℤ int (now (quanta .entry)) i)
         (int (now (slopes .entry)) i)) ⌝ }
 {
-    let mut dues: [u32; 32] = [0; 32];
+    let mut dues: [u32; INTEGRATORS] = [0; INTEGRATORS];
     let mut i: usize = 0;
     while i < n {
         let start = starts[i];
@@ -42,35 +44,37 @@ pub fn start(plan: Plan) -> Running
     requires { ⌜ PlanRules plan ⌝ }
     ensures { λ r. ⌜ r ≡ startOf plan ⌝ }
 {
-    let n = plan.n;
+    let n = plan.counts.n;
     let values = source_values(
         n,
-        plan.m,
-        plan.k,
-        &plan.starts,
-        &plan.firsts,
-        &plan.kinds,
-        &plan.lefts,
-        &plan.rights,
-        &plan.lows,
-        &plan.highs,
+        plan.counts.m,
+        plan.counts.k,
+        &plan.integrators.starts,
+        &plan.inputs.firsts,
+        &plan.nodes.kinds,
+        &plan.nodes.a,
+        &plan.nodes.b,
+        &plan.nodes.lows,
+        &plan.nodes.highs,
     );
-    let ranges = link_ranges(n, plan.links, &plan.targets);
-    let s = rates(n, &ranges, &plan.sources, &plan.coefficients, &values);
-    let d = first_dues(n, &plan.starts, &plan.quanta, &s);
-    let next = next_command(plan.commands, &plan.ticks, 0);
-    let x = plan.starts;
-    let inputs = plan.firsts;
+    let ranges = link_ranges(n, plan.counts.links, &plan.links.targets);
+    let s = rates(n, &ranges, &plan.links.sources, &plan.links.coefficients, &values);
+    let d = first_dues(n, &plan.integrators.starts, &plan.integrators.quanta, &s);
+    let next = next_command(plan.counts.commands, &plan.commands.ticks, 0);
+    let x = plan.integrators.starts;
+    let inputs = plan.inputs.firsts;
     Running {
         x,
         q: x,
         s,
-        l: [0; 32],
+        l: [0; INTEGRATORS],
         d,
         inputs,
-        clock: 0,
-        next,
-        instants: 0,
-        updates: 0,
+        clocks: Clocks {
+            clock: 0,
+            next,
+            instants: 0,
+            updates: 0,
+        },
     }
 }

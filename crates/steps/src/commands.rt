@@ -3,6 +3,9 @@ ghost use mathlib.Core.Path.{_≡_};
 ghost use Prim.Native.Nat.{_-_};
 ghost use Rattle.steps.specs.Commands.{obeying, obeyFrom, CommandsReady};
 use bitset::with;
+use plan::COMMANDS;
+use plan::INPUTS;
+use plan::SOURCES;
 
 // The inputs that commands of the tick set, and the next command after them.
 pub struct Commanded {
@@ -16,11 +19,11 @@ pub fn obey_commands<'a>(
     next: usize,
     commands: usize,
     n: usize,
-    ticks: &'a [u32; 64],
-    numbers: &'a [usize; 64],
-    settings: &'a [i64; 64],
-    inputs: &mut [i64; 8],
-    values: &mut [i64; 64],
+    ticks: &'a [u32; COMMANDS],
+    numbers: &'a [usize; COMMANDS],
+    settings: &'a [i64; COMMANDS],
+    inputs: &mut [i64; INPUTS],
+    values: &mut [i64; SOURCES],
 ) -> Commanded
     requires { ⌜ CommandsReady next commands n (now numbers) ⌝ }
     ensures { λ r. ⌜ obeying (now (inputs .exit)) (now (values .exit)) (r .inputs) (r .next)

@@ -5,13 +5,14 @@ ghost use lib.ListN.{length};
 ghost use Rattle.steps.specs.Events.{eventsIn, putAt, EventsReady};
 use bitset::lowest64;
 use bitset::rest64;
+use plan::SOURCES;
 use words::write_triple;
 
 // From byte `at` on, one event for each of the changed sources. What is answered is the place behind them.
 pub fn write_events<'a>(
     changed: u64,
     t: u32,
-    values: &'a [i64; 64],
+    values: &'a [i64; SOURCES],
     buf: &mut [u8],
     at: usize,
 ) -> usize

@@ -6,16 +6,18 @@ ghost use Rattle.steps.specs.Outputs.{outputting, outputOne};
 use bitset::lowest;
 use bitset::rest;
 use dynamics::position;
+use plan::INTEGRATORS;
+use plan::SOURCES;
 
 // An output stands in q, and in `values` at its source number, which is the integrator's.
 pub fn set_outputs<'a>(
     due: u32,
     t: u32,
-    x: &'a [i64; 32],
-    s: &'a [i64; 32],
-    l: &'a [u32; 32],
-    q: &mut [i64; 32],
-    values: &mut [i64; 64],
+    x: &'a [i64; INTEGRATORS],
+    s: &'a [i64; INTEGRATORS],
+    l: &'a [u32; INTEGRATORS],
+    q: &mut [i64; INTEGRATORS],
+    values: &mut [i64; SOURCES],
 )
     requires { ⌜ DueReach due t (now x) (now s) (now l) ⌝ }
     ensures { λ _. ⌜ outputting (now (q .exit)) (now (values .exit))

@@ -50,46 +50,46 @@ fn numbers_unused(xs: &[usize], count: usize) -> bool
 pub fn plan_unused(p: Plan) -> bool
     ensures { λ r. ⌜ r ≡ planUnused p ⌝ }
 {
-    if !signed_unused(&p.starts, p.n) {
+    if !signed_unused(&p.integrators.starts, p.counts.n) {
         return false;
     }
-    if !signed_unused(&p.quanta, p.n) {
+    if !signed_unused(&p.integrators.quanta, p.counts.n) {
         return false;
     }
-    if !signed_unused(&p.firsts, p.m) {
+    if !signed_unused(&p.inputs.firsts, p.counts.m) {
         return false;
     }
-    if !numbers_unused(&p.kinds, p.k) {
+    if !numbers_unused(&p.nodes.kinds, p.counts.k) {
         return false;
     }
-    if !numbers_unused(&p.lefts, p.k) {
+    if !numbers_unused(&p.nodes.a, p.counts.k) {
         return false;
     }
-    if !numbers_unused(&p.rights, p.k) {
+    if !numbers_unused(&p.nodes.b, p.counts.k) {
         return false;
     }
-    if !signed_unused(&p.lows, p.k) {
+    if !signed_unused(&p.nodes.lows, p.counts.k) {
         return false;
     }
-    if !signed_unused(&p.highs, p.k) {
+    if !signed_unused(&p.nodes.highs, p.counts.k) {
         return false;
     }
-    if !numbers_unused(&p.targets, p.links) {
+    if !numbers_unused(&p.links.targets, p.counts.links) {
         return false;
     }
-    if !numbers_unused(&p.sources, p.links) {
+    if !numbers_unused(&p.links.sources, p.counts.links) {
         return false;
     }
-    if !signed_unused(&p.coefficients, p.links) {
+    if !signed_unused(&p.links.coefficients, p.counts.links) {
         return false;
     }
-    if !ticks_unused(&p.ticks, p.commands) {
+    if !ticks_unused(&p.commands.ticks, p.counts.commands) {
         return false;
     }
-    if !numbers_unused(&p.numbers, p.commands) {
+    if !numbers_unused(&p.commands.inputs, p.counts.commands) {
         return false;
     }
-    signed_unused(&p.values, p.commands)
+    signed_unused(&p.commands.values, p.counts.commands)
 }
 
 // The running figures of n integrators and m inputs.

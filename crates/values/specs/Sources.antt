@@ -13,27 +13,27 @@ use Rattle.machine.specs.Values.{nodeOf, valueOf}
 
 -- the value of each source at its source number, with the outputs q and the input values u
 unfoldable pub valuesOf : Plan → List ℤ → List ℤ → List ℤ
-valuesOf p q u = row (pos 0) 64 (p .n + p .m + p .k) (valueOf p q u)
+valuesOf p q u = row (pos 0) 64 (p .counts .n + p .counts .m + p .counts .k) (valueOf p q u)
 
 -- integrators and inputs alone
 unfoldable pub firstValues : ℕ → ℕ → List ℤ → List ℤ → List ℤ
 firstValues n m q u = row (pos 0) 64 (n + m) (λ i. cond (ltb i n) (int q i) (int u (i - n)))
 
-module _ (kinds lefts rights : List ℕ) (lows highs : List ℤ) (base : ℕ) where
+module _ (kinds a b : List ℕ) (lows highs : List ℤ) (base : ℕ) where
   -- the value of node j by the values of its operands
   unfoldable pub nodeFrom : ℕ → List ℤ → ℤ
-  nodeFrom j values = nodeOf (nat kinds j) (int lows j) (int highs j) (int values (nat lefts j)) (int values (nat rights j))
+  nodeFrom j values = nodeOf (nat kinds j) (int lows j) (int highs j) (int values (nat a j)) (int values (nat b j))
 
   -- node j worked out
   unfoldable pub nodeStep : ℕ → List ℤ → List ℤ
   nodeStep j values = set values (base + j) (nodeFrom j values)
 
 -- what that asks: operands that are sources, and no value beyond ±M
-pub record NodesReady (lefts rights : List ℕ) (lows highs values : List ℤ) (base k : ℕ) : Type 0 where
+pub record NodesReady (a b : List ℕ) (lows highs values : List ℤ) (base k : ℕ) : Type 0 where
   pub few : k ≤ 16
   pub room : base + k ≤ 64
-  pub left : (j : ℕ) → j < k → nat lefts j < 64
-  pub right : (j : ℕ) → j < k → nat rights j < 64
+  pub left : (j : ℕ) → j < k → nat a j < 64
+  pub right : (j : ℕ) → j < k → nat b j < 64
   pub low : (j : ℕ) → j < k → ∣ int lows j ∣ ≤ M
   pub high : (j : ℕ) → j < k → ∣ int highs j ∣ ≤ M
   pub sized : (i : ℕ) → ∣ int values i ∣ ≤ M

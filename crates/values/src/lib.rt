@@ -14,6 +14,10 @@ use bitset::rest;
 use integers::floor_65536;
 use integers::limit;
 use machine::State;
+use plan::INPUTS;
+use plan::INTEGRATORS;
+use plan::NODES;
+use plan::SOURCES;
 
 // "clipped to ±M"
 fn clip(v: i64) -> i64
@@ -44,20 +48,20 @@ fn work_node<'a>(
     j: usize,
     k: usize,
     base: usize,
-    kinds: &'a [usize; 16],
-    lefts: &'a [usize; 16],
-    rights: &'a [usize; 16],
-    lows: &'a [i64; 16],
-    highs: &'a [i64; 16],
-    values: &mut [i64; 64],
+    kinds: &'a [usize; NODES],
+    a: &'a [usize; NODES],
+    b: &'a [usize; NODES],
+    lows: &'a [i64; NODES],
+    highs: &'a [i64; NODES],
+    values: &mut [i64; SOURCES],
 )
-    requires { ⌜ (j < k) × NodesReady (now lefts) (now rights) (now lows) (now highs) (now values) base k ⌝ }
-    ensures { λ _. ⌜ now (values .exit) ≡ nodeStep (now (kinds .entry)) (now (lefts .entry)) (now (rights .entry)) (now (lows .entry))
+    requires { ⌜ (j < k) × NodesReady (now a) (now b) (now lows) (now highs) (now values) base k ⌝ }
+    ensures { λ _. ⌜ now (values .exit) ≡ nodeStep (now (kinds .entry)) (now (a .entry)) (now (b .entry)) (now (lows .entry))
         (now (highs .entry)) base j (now (values .entry)) ⌝ }
 {
-    let a = values[lefts[j]];
-    let b = values[rights[j]];
-    let value = node_value(kinds[j], a, b, lows[j], highs[j]);
+    let first = values[a[j]];
+    let second = values[b[j]];
+    let value = node_value(kinds[j], first, second, lows[j], highs[j]);
     values[base + j] = value;
 }
 
@@ -66,31 +70,31 @@ pub fn work_nodes<'a>(
     nodes: u32,
     k: usize,
     base: usize,
-    kinds: &'a [usize; 16],
-    lefts: &'a [usize; 16],
-    rights: &'a [usize; 16],
-    lows: &'a [i64; 16],
-    highs: &'a [i64; 16],
-    values: &mut [i64; 64],
+    kinds: &'a [usize; NODES],
+    a: &'a [usize; NODES],
+    b: &'a [usize; NODES],
+    lows: &'a [i64; NODES],
+    highs: &'a [i64; NODES],
+    values: &mut [i64; SOURCES],
 )
-    requires { ⌜ (nodes < 2 ^ k) × NodesReady (now lefts) (now rights) (now lows) (now highs) (now values) base k ⌝ }
-    ensures { λ _. ⌜ now (values .exit) ≡ each (nodeStep (now (kinds .entry)) (now (lefts .entry)) (now (rights .entry)) (now (lows .entry))
+    requires { ⌜ (nodes < 2 ^ k) × NodesReady (now a) (now b) (now lows) (now highs) (now values) base k ⌝ }
+    ensures { λ _. ⌜ now (values .exit) ≡ each (nodeStep (now (kinds .entry)) (now (a .entry)) (now (b .entry)) (now (lows .entry))
         (now (highs .entry)) base) (has nodes) 32 (now (values .entry)) ⌝ }
 {
     let mut left = nodes;
     while left != 0 {
         let j = lowest(left);
-        work_node(j, k, base, kinds, lefts, rights, lows, highs, values);
+        work_node(j, k, base, kinds, a, b, lows, highs, values);
         left = rest(left);
     }
 }
 
 // The outputs at 0 to n−1 and the input values at n to n+m−1, and 0 from there on.
-fn first_values<'a>(n: usize, m: usize, q: &'a [i64; 32], inputs: &'a [i64; 8]) -> [i64; 64]
+fn first_values<'a>(n: usize, m: usize, q: &'a [i64; INTEGRATORS], inputs: &'a [i64; INPUTS]) -> [i64; SOURCES]
     requires { ⌜ (n ≤ 32) × (m ≤ 8) ⌝ }
     ensures { λ r. ⌜ r ≡ firstValues n m (now (q .entry)) (now (inputs .entry)) ⌝ }
 {
-    let mut values: [i64; 64] = [0; 64];
+    let mut values: [i64; SOURCES] = [0; SOURCES];
     let mut i: usize = 0;
     while i < n {
         values[i] = q[i];
@@ -109,17 +113,17 @@ pub fn source_values<'a>(
     n: usize,
     m: usize,
     k: usize,
-    q: &'a [i64; 32],
-    inputs: &'a [i64; 8],
-    kinds: &'a [usize; 16],
-    lefts: &'a [usize; 16],
-    rights: &'a [usize; 16],
-    lows: &'a [i64; 16],
-    highs: &'a [i64; 16],
-) -> [i64; 64]
+    q: &'a [i64; INTEGRATORS],
+    inputs: &'a [i64; INPUTS],
+    kinds: &'a [usize; NODES],
+    a: &'a [usize; NODES],
+    b: &'a [usize; NODES],
+    lows: &'a [i64; NODES],
+    highs: &'a [i64; NODES],
+) -> [i64; SOURCES]
     requires { ⌜ (n ≤ 32) × (m ≤ 8)
-        × NodesReady (now lefts) (now rights) (now lows) (now highs) (firstValues n m (now q) (now inputs)) (n + m) k ⌝ }
-    ensures { λ r. ⌜ r ≡ each (nodeStep (now (kinds .entry)) (now (lefts .entry)) (now (rights .entry)) (now (lows .entry))
+        × NodesReady (now a) (now b) (now lows) (now highs) (firstValues n m (now q) (now inputs)) (n + m) k ⌝ }
+    ensures { λ r. ⌜ r ≡ each (nodeStep (now (kinds .entry)) (now (a .entry)) (now (b .entry)) (now (lows .entry))
         (now (highs .entry)) (n + m)) (λ _. true) k (firstValues n m (now (q .entry)) (now (inputs .entry))) ⌝ }
 {
     let mut values = first_values(n, m, q, inputs);
@@ -128,8 +132,8 @@ pub fn source_values<'a>(
         k,
         n + m,
         kinds,
-        lefts,
-        rights,
+        a,
+        b,
         lows,
         highs,
         &mut values,

@@ -22,13 +22,13 @@ pub record NumberPromise (st : State) (buffer : List ℕ) : Type 0 where
   pub write-accepted : Sound st → length (encode (st .plan)) ≤ length buffer → writeOf st buffer .number ≡ 0
   pub run-unsound : (engine : Engine) (budget : ℕ) → (Sound st → ⊥) → runOf engine st budget buffer .number ≡ 10
   pub run-above : (engine : Engine) (budget : ℕ) → Sound st → 1024 < budget → runOf engine st budget buffer .number ≡ 11
-  pub run-short : (engine : Engine) (budget : ℕ) → Sound st → budget ≤ 1024 → length buffer < budget * (st .plan .n + st .plan .m) * 12
+  pub run-short : (engine : Engine) (budget : ℕ) → Sound st → budget ≤ 1024 → length buffer < budget * (st .plan .counts .n + st .plan .counts .m) * 12
       → runOf engine st budget buffer .number ≡ 12
-  pub run-accepted : (engine : Engine) (budget : ℕ) → Sound st → budget ≤ 1024 → budget * (st .plan .n + st .plan .m) * 12 ≤ length buffer
+  pub run-accepted : (engine : Engine) (budget : ℕ) → Sound st → budget ≤ 1024 → budget * (st .plan .counts .n + st .plan .counts .m) * 12 ≤ length buffer
       → runOf engine st budget buffer .number ≡ 0
   pub position-unsound : (i : ℕ) → (Sound st → ⊥) → positionedOf st i .number ≡ 10
-  pub position-above : (i : ℕ) → Sound st → st .plan .n ≤ i → positionedOf st i .number ≡ 14
-  pub position-accepted : (i : ℕ) → Sound st → i < st .plan .n → positionedOf st i .number ≡ 0
+  pub position-above : (i : ℕ) → Sound st → st .plan .counts .n ≤ i → positionedOf st i .number ≡ 14
+  pub position-accepted : (i : ℕ) → Sound st → i < st .plan .counts .n → positionedOf st i .number ≡ 0
 
 abbrev pub EveryNumber : Type 0
 EveryNumber = (st : State) (buffer : List ℕ) → NumberPromise st buffer
@@ -47,7 +47,7 @@ pub record AcceptedPromise (st : State) (buffer : List ℕ) : Type 0 where
       ≡ events (st .plan) engine budget (st .run) ++ drop (length (events (st .plan) engine budget (st .run))) buffer)
   -- "Position call: x+s×(c−l) for a numbered integrator"
   pub position : (i : ℕ) → positionedOf st i .number ≡ 0
-      → (positionedOf st i .value ≡ int (st .run .x) i +ℤ int (st .run .s) i *ℤ pos (st .run .clock - nat (st .run .l) i))
+      → (positionedOf st i .value ≡ int (st .run .x) i +ℤ int (st .run .s) i *ℤ pos (st .run .clocks .clock - nat (st .run .l) i))
       × (positionedOf st i .state ≡ st)
 
 abbrev pub Accepted : Type 0

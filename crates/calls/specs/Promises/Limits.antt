@@ -20,7 +20,7 @@ use Rattle.calls.specs.Limits.{AcceptedLimits, FileLimits, AnswerLimits,
 pub record LimitPromise : Type 0 where
   pub accepted-files : (file : List ℕ) → loadOf file .number ≡ 0 → AcceptedLimits file
   pub files : (file : List ℕ) → Bytes file → FileLimits file
-  pub rates : (p : Plan) (q u : List ℤ) → PlanRules p → ((i : ℕ) → i < p .n → ∣ int q i ∣ ≤ M) → ((j : ℕ) → j < p .m → ∣ int u j ∣ ≤ M)
+  pub rates : (p : Plan) (q u : List ℤ) → PlanRules p → ((i : ℕ) → i < p .counts .n → ∣ int q i ∣ ≤ M) → ((j : ℕ) → j < p .counts .m → ∣ int u j ∣ ≤ M)
       → RateLimits p q u
   pub levels : (p : Plan) (q : List ℤ) (i : ℕ) (x s : ℤ) → IntegratorRule p i → ∣ int q i ∣ ≤ M → lowerLevel p q i <ℤ x → x <ℤ upperLevel p q i
       → LevelLimits p q i x s

@@ -26,8 +26,8 @@ use Rattle.calls.specs.declared.Ran.{Ran}
 pub record CallPromise (p : Plan) (st : State) (c : Call) (answer : Ran) (buffer : List ℕ) : Type 0 where
   -- "There a call is declined by 11 or 12 only", and by these exactly as they are named; never by 10
   pub above : 1024 < c .budget → answer .number ≡ 11
-  pub short : c .budget ≤ 1024 → length (c .buffer) < c .budget * (p .n + p .m) * 12 → answer .number ≡ 12
-  pub accepted : c .budget ≤ 1024 → c .budget * (p .n + p .m) * 12 ≤ length (c .buffer) → answer .number ≡ 0
+  pub short : c .budget ≤ 1024 → length (c .buffer) < c .budget * (p .counts .n + p .counts .m) * 12 → answer .number ≡ 12
+  pub accepted : c .budget ≤ 1024 → c .budget * (p .counts .n + p .counts .m) * 12 ≤ length (c .buffer) → answer .number ≡ 0
   -- "Each accepted call answers the status and integrator of the state it returns."
   pub status : answer .number ≡ 0 → answer .status ≡ statusOf p (answer .state .run)
   pub integrator : answer .number ≡ 0 → answer .integrator ≡ integratorOf p (answer .state .run)
@@ -45,14 +45,14 @@ pub record SameAsPlain (p : Plan) (st : State) (m : Plain) : Type 0 where
   pub s : st .run .s ≡ m .s
   pub d : st .run .d ≡ m .d
   pub inputs : st .run .inputs ≡ m .inputs
-  pub clock : st .run .clock ≡ m .clock
-  pub next : st .run .next ≡ m .next
-  pub instants : st .run .instants ≡ m .instants
+  pub clock : st .run .clocks .clock ≡ m .clock
+  pub next : st .run .clocks .next ≡ m .next
+  pub instants : st .run .clocks .instants ≡ m .instants
   -- "that takes in status and its integrator by the rule above, the position call for every integrator"
   pub status : statusOf p (st .run) ≡ plainStatus p m
   pub integrator : integratorOf p (st .run) ≡ plainIntegrator p m
-  pub position : (i : ℕ) → i < p .n → positionedOf st i ≡ record { number = 0; value = int (m .x) i; state = st }
-  pub no-position : (i : ℕ) → p .n ≤ i → positionedOf st i ≡ record { number = 14; value = pos 0; state = st }
+  pub position : (i : ℕ) → i < p .counts .n → positionedOf st i ≡ record { number = 0; value = int (m .x) i; state = st }
+  pub no-position : (i : ℕ) → p .counts .n ≤ i → positionedOf st i ≡ record { number = 14; value = pos 0; state = st }
 
 -- "any two lists with an equal sum end alike in all of these": the states in which two lists end, and the bytes that they joined, in everything
 -- that is compared with the plain machine
@@ -63,9 +63,9 @@ pub record EndAlike (one other : State) (bytes-of-one bytes-of-other : List ℕ)
   pub s : one .run .s ≡ other .run .s
   pub d : one .run .d ≡ other .run .d
   pub inputs : one .run .inputs ≡ other .run .inputs
-  pub clock : one .run .clock ≡ other .run .clock
-  pub next : one .run .next ≡ other .run .next
-  pub instants : one .run .instants ≡ other .run .instants
+  pub clock : one .run .clocks .clock ≡ other .run .clocks .clock
+  pub next : one .run .clocks .next ≡ other .run .clocks .next
+  pub instants : one .run .clocks .instants ≡ other .run .clocks .instants
   pub status : statusOf (one .plan) (one .run) ≡ statusOf (other .plan) (other .run)
   pub integrator : integratorOf (one .plan) (one .run) ≡ integratorOf (other .plan) (other .run)
   -- the position call, for every number
@@ -75,14 +75,14 @@ pub record EndAlike (one other : State) (bytes-of-one bytes-of-other : List ℕ)
 -- instant i of a list, by the list cut behind it: the state after it is that list's end, and the rest of the list goes on from there
 pub record InstantPromise (p : Plan) (st : State) (calls : List Call) (i : ℕ) : Type 0 where
   pub sum : budgetSum st (cutAt st calls i) ≡ i
-  pub taken : afterCalls st (cutAt st calls i) .run .instants ≡ i
+  pub taken : afterCalls st (cutAt st calls i) .run .clocks .instants ≡ i
   pub resumed : afterCalls (afterCalls st (cutAt st calls i)) (restAt st calls i) ≡ afterCalls st calls
   -- its bytes are the events of the state before it
   pub bytes : joinedBytes st (cutAt st calls i)
       ≡ joinedBytes st (cutAt st calls (i - 1)) ++ eventsOf p (afterCalls st (cutAt st calls (i - 1)) .run)
   -- "this is the number of integrators with l = c after it"
   pub moved : movedNow p (afterCalls st (cutAt st calls i) .run) ≡ growth p (engineAt st calls i) (plainAfter p (i - 1))
-  pub grown : afterCalls st (cutAt st calls i) .run .updates ≡ growthUpTo p (engineAt st calls) i
+  pub grown : afterCalls st (cutAt st calls i) .run .clocks .updates ≡ growthUpTo p (engineAt st calls) i
 
 -- what the accepted budgets of a list add up to, and the call that an instant belongs to
 pub record FoldPromise (st : State) (c : Call) (calls : List Call) : Type 0 where
@@ -101,9 +101,9 @@ ListsMean = (st : State) (c : Call) (calls : List Call) → FoldPromise st c cal
 -- by how much updates grow: "by n if that call is eager, else by the number that step 5 moves for the lazy engine, with the plain machine's due
 -- ticks"; over the instants 1 to k, n times those that eager calls took, and the number due or reached over those that lazy calls took
 pub record GrowthPromise (p : Plan) (engine : ℕ → Engine) (k : ℕ) (m : Plain) : Type 0 where
-  pub lazy : growth p Lazy m ≡ countOf (moves p Lazy (m .d) (nextTick p (m .d) (m .next))) (p .n)
-  pub due-or-reached : lazyCount p m ≡ countOf (moves p Lazy (m .d) (nextTick p (m .d) (m .next))) (p .n)
-  pub parts : growthUpTo p engine k ≡ p .n * eagerInstants engine k + lazyMoves p engine k
+  pub lazy : growth p Lazy m ≡ countOf (moves p Lazy (m .d) (nextTick p (m .d) (m .next))) (p .counts .n)
+  pub due-or-reached : lazyCount p m ≡ countOf (moves p Lazy (m .d) (nextTick p (m .d) (m .next))) (p .counts .n)
+  pub parts : growthUpTo p engine k ≡ p .counts .n * eagerInstants engine k + lazyMoves p engine k
   -- an instant that an eager call took counts in the first part alone, one that a lazy call took in the second alone
   pub none : (eagerInstants engine 0 ≡ 0) × (lazyMoves p engine 0 ≡ 0)
   pub by-eager : engine (k + 1) ≡ Eager
@@ -122,23 +122,23 @@ pub record ListPromise (p : Plan) (st : State) (calls : List Call) : Type 0 wher
   -- "and the bytes that accepted calls answer as written, joined in call order"
   pub bytes : joinedBytes st calls ≡ plainEvents p (budgetSum st calls)
   pub instants : (i : ℕ) → 1 ≤ i → i ≤ plainAfter p (budgetSum st calls) .instants → InstantPromise p st calls i
-  pub updates : afterCalls st calls .run .updates ≡ growthUpTo p (engineAt st calls) (plainAfter p (budgetSum st calls) .instants)
+  pub updates : afterCalls st calls .run .clocks .updates ≡ growthUpTo p (engineAt st calls) (plainAfter p (budgetSum st calls) .instants)
   -- n times the instants that eager calls took, and over those that lazy calls took the number due or reached
   pub counted : let k = plainAfter p (budgetSum st calls) .instants in
-      afterCalls st calls .run .updates ≡ p .n * eagerInstants (engineAt st calls) k + lazyMoves p (engineAt st calls) k
+      afterCalls st calls .run .clocks .updates ≡ p .counts .n * eagerInstants (engineAt st calls) k + lazyMoves p (engineAt st calls) k
   -- "any two lists with an equal sum end alike in all of these"
   pub alike : (others : List Call) → budgetSum st others ≡ budgetSum st calls
       → EndAlike (afterCalls st others) (afterCalls st calls) (joinedBytes st others) (joinedBytes st calls)
   -- "Among lists with an equal sum, none has fewer updates than an all-lazy one or more than an all-eager one."
   pub fewest : (others : List Call) → AllBy Lazy others → budgetSum st others ≡ budgetSum st calls
-      → afterCalls st others .run .updates ≤ afterCalls st calls .run .updates
+      → afterCalls st others .run .clocks .updates ≤ afterCalls st calls .run .clocks .updates
   pub most : (others : List Call) → AllBy Eager others → budgetSum st others ≡ budgetSum st calls
-      → afterCalls st calls .run .updates ≤ afterCalls st others .run .updates
+      → afterCalls st calls .run .clocks .updates ≤ afterCalls st others .run .clocks .updates
   -- such lists there are: this one, made all lazy or all eager
   pub one-engine : (engine : Engine) → AllBy engine (allBy engine calls)
   pub same-sum : (engine : Engine) → budgetSum st (allBy engine calls) ≡ budgetSum st calls
-  pub all-lazy : afterCalls st (allBy Lazy calls) .run .updates ≡ growthUpTo p (λ i. Lazy) (plainAfter p (budgetSum st calls) .instants)
-  pub all-eager : afterCalls st (allBy Eager calls) .run .updates ≡ p .n * plainAfter p (budgetSum st calls) .instants
+  pub all-lazy : afterCalls st (allBy Lazy calls) .run .clocks .updates ≡ growthUpTo p (λ i. Lazy) (plainAfter p (budgetSum st calls) .instants)
+  pub all-eager : afterCalls st (allBy Eager calls) .run .clocks .updates ≡ p .counts .n * plainAfter p (budgetSum st calls) .instants
 
 abbrev pub Demand3 : Type 0
 Demand3 = (file : List ℕ) → loadOf file .number ≡ 0 → (calls : List Call) → ListPromise (planIn file) (loadOf file .state) calls

@@ -32,29 +32,29 @@ use Rattle.machine.specs.declared.Engine.{Engine}
 
 -- "Integrators give q, inputs their value, nodes their value", and what each kind makes of the values of A and B
 pub record ValuePromise (p : Plan) (q u : List ℤ) : Type 0 where
-  pub integrators : (i : ℕ) → i < p .n → valueOf p q u i ≡ int q i
-  pub inputs : (j : ℕ) → j < p .m → valueOf p q u (p .n + j) ≡ int u j
+  pub integrators : (i : ℕ) → i < p .counts .n → valueOf p q u i ≡ int q i
+  pub inputs : (j : ℕ) → j < p .counts .m → valueOf p q u (p .counts .n + j) ≡ int u j
   -- "0 is a−b; 1 is floor(a×b / 65,536); both then clipped to ±M"
-  pub differences : (j : ℕ) → j < p .k → nat (p .kinds) j ≡ 0
-      → valueOf p q u (p .n + p .m + j) ≡ limited (negℤ (pos M)) (pos M) (valueOf p q u (nat (p .lefts) j) -ℤ valueOf p q u (nat (p .rights) j))
-  pub products : (j : ℕ) → j < p .k → nat (p .kinds) j ≡ 1
-      → valueOf p q u (p .n + p .m + j)
-      ≡ limited (negℤ (pos M)) (pos M) (floored (valueOf p q u (nat (p .lefts) j) *ℤ valueOf p q u (nat (p .rights) j)))
+  pub differences : (j : ℕ) → j < p .counts .k → nat (p .nodes .kinds) j ≡ 0
+      → valueOf p q u (p .counts .n + p .counts .m + j) ≡ limited (negℤ (pos M)) (pos M) (valueOf p q u (nat (p .nodes .a) j) -ℤ valueOf p q u (nat (p .nodes .b) j))
+  pub products : (j : ℕ) → j < p .counts .k → nat (p .nodes .kinds) j ≡ 1
+      → valueOf p q u (p .counts .n + p .counts .m + j)
+      ≡ limited (negℤ (pos M)) (pos M) (floored (valueOf p q u (nat (p .nodes .a) j) *ℤ valueOf p q u (nat (p .nodes .b) j)))
   -- "2 is a limited to lo..hi"
-  pub limited-values : (j : ℕ) → j < p .k → nat (p .kinds) j ≡ 2
-      → valueOf p q u (p .n + p .m + j) ≡ limited (int (p .lows) j) (int (p .highs) j) (valueOf p q u (nat (p .lefts) j))
+  pub limited-values : (j : ℕ) → j < p .counts .k → nat (p .nodes .kinds) j ≡ 2
+      → valueOf p q u (p .counts .n + p .counts .m + j) ≡ limited (int (p .nodes .lows) j) (int (p .nodes .highs) j) (valueOf p q u (nat (p .nodes .a) j))
   -- "3 is hi if a ≥ b, else lo"
-  pub high : (j : ℕ) → j < p .k → nat (p .kinds) j ≡ 3 → valueOf p q u (nat (p .rights) j) ≤ℤ valueOf p q u (nat (p .lefts) j)
-      → valueOf p q u (p .n + p .m + j) ≡ int (p .highs) j
-  pub low : (j : ℕ) → j < p .k → nat (p .kinds) j ≡ 3 → valueOf p q u (nat (p .lefts) j) <ℤ valueOf p q u (nat (p .rights) j)
-      → valueOf p q u (p .n + p .m + j) ≡ int (p .lows) j
+  pub high : (j : ℕ) → j < p .counts .k → nat (p .nodes .kinds) j ≡ 3 → valueOf p q u (nat (p .nodes .b) j) ≤ℤ valueOf p q u (nat (p .nodes .a) j)
+      → valueOf p q u (p .counts .n + p .counts .m + j) ≡ int (p .nodes .highs) j
+  pub low : (j : ℕ) → j < p .counts .k → nat (p .nodes .kinds) j ≡ 3 → valueOf p q u (nat (p .nodes .a) j) <ℤ valueOf p q u (nat (p .nodes .b) j)
+      → valueOf p q u (p .counts .n + p .counts .m + j) ≡ int (p .nodes .lows) j
   -- "s = floor(sum of coefficient × source value over its links / 65,536)": the sum over the first e links, of which its own count
   pub no-link : (i : ℕ) → sumOver p q u i 0 ≡ pos 0
-  pub own-link : (i e : ℕ) → nat (p .targets) e ≡ i
-      → sumOver p q u i (e + 1) ≡ sumOver p q u i e +ℤ int (p .coefficients) e *ℤ valueOf p q u (nat (p .sources) e)
-  pub other-link : (i e : ℕ) → (nat (p .targets) e ≡ i → ⊥) → sumOver p q u i (e + 1) ≡ sumOver p q u i e
-  pub rate-below : (i : ℕ) → (pos 65536 *ℤ rateOf p q u i) ≤ℤ sumOver p q u i (p .links)
-  pub rate-above : (i : ℕ) → sumOver p q u i (p .links) <ℤ (pos 65536 *ℤ (rateOf p q u i +ℤ pos 1))
+  pub own-link : (i e : ℕ) → nat (p .links .targets) e ≡ i
+      → sumOver p q u i (e + 1) ≡ sumOver p q u i e +ℤ int (p .links .coefficients) e *ℤ valueOf p q u (nat (p .links .sources) e)
+  pub other-link : (i e : ℕ) → (nat (p .links .targets) e ≡ i → ⊥) → sumOver p q u i (e + 1) ≡ sumOver p q u i e
+  pub rate-below : (i : ℕ) → (pos 65536 *ℤ rateOf p q u i) ≤ℤ sumOver p q u i (p .counts .links)
+  pub rate-above : (i : ℕ) → sumOver p q u i (p .counts .links) <ℤ (pos 65536 *ℤ (rateOf p q u i +ℤ pos 1))
 
 abbrev pub ValuesMean : Type 0
 ValuesMean = (p : Plan) (q u : List ℤ) → PlanRules p → ValuePromise p q u
@@ -63,7 +63,7 @@ ValuesMean = (p : Plan) (q u : List ℤ) → PlanRules p → ValuePromise p q u
 pub record DuePromise (p : Plan) (q : List ℤ) (i l : ℕ) (x s : ℤ) : Type 0 where
   pub still : s ≡ pos 0 → dueOf p q i l x s ≡ never
   pub moving : (s ≡ pos 0 → ⊥)
-      → LeastTicks x (int q i +ℤ int (p .quanta) i) (int q i -ℤ int (p .quanta) i) s (dueOf p q i l x s - l)
+      → LeastTicks x (int q i +ℤ int (p .integrators .quanta) i) (int q i -ℤ int (p .integrators .quanta) i) s (dueOf p q i l x s - l)
 
 abbrev pub DueLeast : Type 0
 DueLeast = (p : Plan) (q : List ℤ) (i l : ℕ) (x s : ℤ) → DuePromise p q i l x s
@@ -80,47 +80,47 @@ DueBetween = (x upper lower s : ℤ) → (s ≡ pos 0 → ⊥) → lower <ℤ x 
 
 -- "the next command is the first with tick above c, or the command count if none"
 pub record CommandPromise (p : Plan) (c next : ℕ) : Type 0 where
-  pub earlier : (e : ℕ) → e < next → nat (p .ticks) e ≤ c
-  pub first : next < p .commands → c < nat (p .ticks) next
-  pub most : next ≤ p .commands
+  pub earlier : (e : ℕ) → e < next → nat (p .commands .ticks) e ≤ c
+  pub first : next < p .counts .commands → c < nat (p .commands .ticks) next
+  pub most : next ≤ p .counts .commands
 
 abbrev pub CommandMeans : Type 0
 CommandMeans = (p : Plan) (c : ℕ) → CommandPromise p c (nextCommand p c)
 
 -- "Start: x = q = start, l = c = 0, slopes and dues by rule, counts 0"
 pub record StartPromise (p : Plan) (r : Running) : Type 0 where
-  pub x : (i : ℕ) → i < p .n → int (r .x) i ≡ int (p .starts) i
-  pub q : (i : ℕ) → i < p .n → int (r .q) i ≡ int (p .starts) i
-  pub l : (i : ℕ) → i < p .n → nat (r .l) i ≡ 0
-  pub s : (i : ℕ) → i < p .n → int (r .s) i ≡ rateOf p (r .q) (r .inputs) i
-  pub d : (i : ℕ) → i < p .n → nat (r .d) i ≡ dueOf p (r .q) i 0 (int (r .x) i) (int (r .s) i)
-  pub inputs : (j : ℕ) → j < p .m → int (r .inputs) j ≡ int (p .firsts) j
-  pub clock : r .clock ≡ 0
-  pub next : CommandPromise p 0 (r .next)
-  pub instants : r .instants ≡ 0
-  pub updates : r .updates ≡ 0
+  pub x : (i : ℕ) → i < p .counts .n → int (r .x) i ≡ int (p .integrators .starts) i
+  pub q : (i : ℕ) → i < p .counts .n → int (r .q) i ≡ int (p .integrators .starts) i
+  pub l : (i : ℕ) → i < p .counts .n → nat (r .l) i ≡ 0
+  pub s : (i : ℕ) → i < p .counts .n → int (r .s) i ≡ rateOf p (r .q) (r .inputs) i
+  pub d : (i : ℕ) → i < p .counts .n → nat (r .d) i ≡ dueOf p (r .q) i 0 (int (r .x) i) (int (r .s) i)
+  pub inputs : (j : ℕ) → j < p .counts .m → int (r .inputs) j ≡ int (p .inputs .firsts) j
+  pub clock : r .clocks .clock ≡ 0
+  pub next : CommandPromise p 0 (r .clocks .next)
+  pub instants : r .clocks .instants ≡ 0
+  pub updates : r .clocks .updates ≡ 0
 
 abbrev pub StartMeans : Type 0
 StartMeans = (p : Plan) → PlanRules p → (startState p .plan ≡ p) × StartPromise p (startState p .run)
 
 -- "Next instant t: the least of all d and the next command's tick", and never where none of them is below
 pub record NextPromise (p : Plan) (d : List ℕ) (next t : ℕ) : Type 0 where
-  pub due : (i : ℕ) → i < p .n → t ≤ nat d i
-  pub command : next < p .commands → t ≤ nat (p .ticks) next
-  pub one : t < never → ((i : ℕ) × (i < p .n) × (nat d i ≡ t)) ⊎ ((next < p .commands) × (nat (p .ticks) next ≡ t))
-  pub no-instant : ((i : ℕ) → i < p .n → never ≤ nat d i) → (next < p .commands → never ≤ nat (p .ticks) next) → t ≡ never
+  pub due : (i : ℕ) → i < p .counts .n → t ≤ nat d i
+  pub command : next < p .counts .commands → t ≤ nat (p .commands .ticks) next
+  pub one : t < never → ((i : ℕ) × (i < p .counts .n) × (nat d i ≡ t)) ⊎ ((next < p .counts .commands) × (nat (p .commands .ticks) next ≡ t))
+  pub no-instant : ((i : ℕ) → i < p .counts .n → never ≤ nat d i) → (next < p .counts .commands → never ≤ nat (p .commands .ticks) next) → t ≡ never
 
 abbrev pub NextMeans : Type 0
-NextMeans = (p : Plan) (r : Running) → NextPromise p (r .d) (r .next) (tickOf p r)
+NextMeans = (p : Plan) (r : Running) → NextPromise p (r .d) (r .clocks .next) (tickOf p r)
 
 -- Steps 1 and 2 at tick t: with the due ticks d and the positions at t, outputs q and input values u become q′ and u′
 pub record SourcesPromise (p : Plan) (d : List ℕ) (t : ℕ) (position : ℕ → ℤ) (q u q′ u′ : List ℤ) : Type 0 where
   -- 1. "The due integrators (d = t) take q = x+s×(t−l)." The others keep theirs
-  pub due : (i : ℕ) → i < p .n → nat d i ≡ t → int q′ i ≡ position i
-  pub not-due : (i : ℕ) → i < p .n → (nat d i ≡ t → ⊥) → int q′ i ≡ int q i
+  pub due : (i : ℕ) → i < p .counts .n → nat d i ≡ t → int q′ i ≡ position i
+  pub not-due : (i : ℕ) → i < p .counts .n → (nat d i ≡ t → ⊥) → int q′ i ≡ int q i
   -- 2. "Commands of tick t set their inputs." The others keep theirs
-  pub set : (j e : ℕ) → j < p .m → e < p .commands → nat (p .ticks) e ≡ t → nat (p .numbers) e ≡ j → int u′ j ≡ int (p .values) e
-  pub not-set : (j : ℕ) → j < p .m → ((e : ℕ) → e < p .commands → nat (p .ticks) e ≡ t → nat (p .numbers) e ≡ j → ⊥) → int u′ j ≡ int u j
+  pub set : (j e : ℕ) → j < p .counts .m → e < p .counts .commands → nat (p .commands .ticks) e ≡ t → nat (p .commands .inputs) e ≡ j → int u′ j ≡ int (p .commands .values) e
+  pub not-set : (j : ℕ) → j < p .counts .m → ((e : ℕ) → e < p .counts .commands → nat (p .commands .ticks) e ≡ t → nat (p .commands .inputs) e ≡ j → ⊥) → int u′ j ≡ int u j
 
 -- "One instant", at tick t, from the figures r to the figures r′
 pub record StepPromise (p : Plan) (engine : Engine) (t : ℕ) (r r′ : Running) : Type 0 where
@@ -128,19 +128,19 @@ pub record StepPromise (p : Plan) (engine : Engine) (t : ℕ) (r r′ : Running)
   pub position : (i : ℕ) → positionAt r t i ≡ int (r .x) i +ℤ int (r .s) i *ℤ pos (t - nat (r .l) i)
   pub sources : SourcesPromise p (r .d) t (positionAt r t) (r .q) (r .inputs) (r′ .q) (r′ .inputs)
   -- 5. "x becomes x+s×(t−l), l = t, then the new slope and due tick", by the new outputs and inputs. "A due integrator gets x = q."
-  pub x : (i : ℕ) → i < p .n → Moves p engine (r .d) t i → int (r′ .x) i ≡ positionAt r t i
-  pub l : (i : ℕ) → i < p .n → Moves p engine (r .d) t i → nat (r′ .l) i ≡ t
-  pub s : (i : ℕ) → i < p .n → Moves p engine (r .d) t i → int (r′ .s) i ≡ rateOf p (r′ .q) (r′ .inputs) i
-  pub d : (i : ℕ) → i < p .n → Moves p engine (r .d) t i → nat (r′ .d) i ≡ dueOf p (r′ .q) i t (int (r′ .x) i) (int (r′ .s) i)
-  pub due-x : (i : ℕ) → i < p .n → nat (r .d) i ≡ t → int (r′ .x) i ≡ int (r′ .q) i
+  pub x : (i : ℕ) → i < p .counts .n → Moves p engine (r .d) t i → int (r′ .x) i ≡ positionAt r t i
+  pub l : (i : ℕ) → i < p .counts .n → Moves p engine (r .d) t i → nat (r′ .l) i ≡ t
+  pub s : (i : ℕ) → i < p .counts .n → Moves p engine (r .d) t i → int (r′ .s) i ≡ rateOf p (r′ .q) (r′ .inputs) i
+  pub d : (i : ℕ) → i < p .counts .n → Moves p engine (r .d) t i → nat (r′ .d) i ≡ dueOf p (r′ .q) i t (int (r′ .x) i) (int (r′ .s) i)
+  pub due-x : (i : ℕ) → i < p .counts .n → nat (r .d) i ≡ t → int (r′ .x) i ≡ int (r′ .q) i
   -- who does not move keeps all of these
-  pub not-moved : (i : ℕ) → i < p .n → (Moves p engine (r .d) t i → ⊥)
+  pub not-moved : (i : ℕ) → i < p .counts .n → (Moves p engine (r .d) t i → ⊥)
       → (int (r′ .x) i ≡ int (r .x) i) × (nat (r′ .l) i ≡ nat (r .l) i) × (int (r′ .s) i ≡ int (r .s) i) × (nat (r′ .d) i ≡ nat (r .d) i)
   -- 6. "c = t; instants grows by 1; updates grows by the number of integrators moved, each counted once"
-  pub clock : r′ .clock ≡ t
-  pub next : CommandPromise p t (r′ .next)
-  pub instants : r′ .instants ≡ r .instants + 1
-  pub updates : r′ .updates ≡ r .updates + countOf (moves p engine (r .d) t) (p .n)
+  pub clock : r′ .clocks .clock ≡ t
+  pub next : CommandPromise p t (r′ .clocks .next)
+  pub instants : r′ .clocks .instants ≡ r .clocks .instants + 1
+  pub updates : r′ .clocks .updates ≡ r .clocks .updates + countOf (moves p engine (r .d) t) (p .counts .n)
   pub moving : (i : ℕ) → (moves p engine (r .d) t i ≡ true → Moves p engine (r .d) t i) × (Moves p engine (r .d) t i → moves p engine (r .d) t i ≡ true)
 
 abbrev pub StepsMean : Type 0
@@ -169,10 +169,10 @@ pub record EventAt (bytes : List ℕ) (at t source : ℕ) (value : ℤ) : Type 0
 -- "Events of an instant: due integrators and commanded inputs by ascending source number, 12 bytes each: tick, source, signed value": an
 -- event stands behind those of the lower sources that have one, and there are no others
 pub record EventsPromise (p : Plan) (d : List ℕ) (t : ℕ) (position : ℕ → ℤ) (bytes : List ℕ) : Type 0 where
-  pub due : (i : ℕ) → i < p .n → nat d i ≡ t → EventAt bytes (12 * countOf (changes p d t) i) t i (position i)
-  pub commanded : (j e : ℕ) → j < p .m → e < p .commands → nat (p .ticks) e ≡ t → nat (p .numbers) e ≡ j
-      → EventAt bytes (12 * countOf (changes p d t) (p .n + j)) t (p .n + j) (int (p .values) e)
-  pub no-other : length bytes ≡ 12 * countOf (changes p d t) (p .n + p .m)
+  pub due : (i : ℕ) → i < p .counts .n → nat d i ≡ t → EventAt bytes (12 * countOf (changes p d t) i) t i (position i)
+  pub commanded : (j e : ℕ) → j < p .counts .m → e < p .counts .commands → nat (p .commands .ticks) e ≡ t → nat (p .commands .inputs) e ≡ j
+      → EventAt bytes (12 * countOf (changes p d t) (p .counts .n + j)) t (p .counts .n + j) (int (p .commands .values) e)
+  pub no-other : length bytes ≡ 12 * countOf (changes p d t) (p .counts .n + p .counts .m)
 
 abbrev pub EventsRead : Type 0
 EventsRead =
@@ -182,10 +182,10 @@ EventsRead =
 -- "1 finished if t is never or above the horizon; else 2 range if step 1 bars the instant (with the lowest such integrator); else 0 paused"
 pub record StatusPromise (p : Plan) (d : List ℕ) (t : ℕ) (position : ℕ → ℤ) (status integrator : ℕ) : Type 0 where
   pub finished : (t ≡ never) ⊎ (p .horizon < t) → status ≡ 1
-  pub range : (t ≡ never → ⊥) → t ≤ p .horizon → (i : ℕ) → i < p .n → nat d i ≡ t → M < ∣ position i ∣
+  pub range : (t ≡ never → ⊥) → t ≤ p .horizon → (i : ℕ) → i < p .counts .n → nat d i ≡ t → M < ∣ position i ∣
       → ((j : ℕ) → j < i → nat d j ≡ t → ∣ position j ∣ ≤ M)
       → (status ≡ 2) × (integrator ≡ i)
-  pub paused : (t ≡ never → ⊥) → t ≤ p .horizon → ((i : ℕ) → i < p .n → nat d i ≡ t → ∣ position i ∣ ≤ M) → status ≡ 0
+  pub paused : (t ≡ never → ⊥) → t ≤ p .horizon → ((i : ℕ) → i < p .counts .n → nat d i ≡ t → ∣ position i ∣ ≤ M) → status ≡ 0
   pub no-integrator : (status ≡ 2 → ⊥) → integrator ≡ 0
 
 abbrev pub StatusMeans : Type 0
@@ -207,11 +207,11 @@ RunTakes = (p : Plan) (engine : Engine) (r : Running) → RunPromise p engine r
 
 -- Start
 pub record PlainStartPromise (p : Plan) (m : Plain) : Type 0 where
-  pub x : (i : ℕ) → i < p .n → int (m .x) i ≡ int (p .starts) i
-  pub q : (i : ℕ) → i < p .n → int (m .q) i ≡ int (p .starts) i
-  pub s : (i : ℕ) → i < p .n → int (m .s) i ≡ rateOf p (m .q) (m .inputs) i
-  pub d : (i : ℕ) → i < p .n → nat (m .d) i ≡ dueOf p (m .q) i 0 (int (m .x) i) (int (m .s) i)
-  pub inputs : (j : ℕ) → j < p .m → int (m .inputs) j ≡ int (p .firsts) j
+  pub x : (i : ℕ) → i < p .counts .n → int (m .x) i ≡ int (p .integrators .starts) i
+  pub q : (i : ℕ) → i < p .counts .n → int (m .q) i ≡ int (p .integrators .starts) i
+  pub s : (i : ℕ) → i < p .counts .n → int (m .s) i ≡ rateOf p (m .q) (m .inputs) i
+  pub d : (i : ℕ) → i < p .counts .n → nat (m .d) i ≡ dueOf p (m .q) i 0 (int (m .x) i) (int (m .s) i)
+  pub inputs : (j : ℕ) → j < p .counts .m → int (m .inputs) j ≡ int (p .inputs .firsts) j
   pub clock : m .clock ≡ 0
   pub next : CommandPromise p 0 (m .next)
   pub instants : m .instants ≡ 0
@@ -222,9 +222,9 @@ pub record PlainStepPromise (p : Plan) (t : ℕ) (m m′ : Plain) : Type 0 where
   pub position : (i : ℕ) → plainPosition p m i ≡ int (m .x) i +ℤ int (m .s) i *ℤ pos (t - m .clock)
   pub sources : SourcesPromise p (m .d) t (plainPosition p m) (m .q) (m .inputs) (m′ .q) (m′ .inputs)
   -- "every integrator moved", with the slope and the due tick by the new outputs and inputs
-  pub x : (i : ℕ) → i < p .n → int (m′ .x) i ≡ plainPosition p m i
-  pub s : (i : ℕ) → i < p .n → int (m′ .s) i ≡ rateOf p (m′ .q) (m′ .inputs) i
-  pub d : (i : ℕ) → i < p .n → nat (m′ .d) i ≡ dueOf p (m′ .q) i t (int (m′ .x) i) (int (m′ .s) i)
+  pub x : (i : ℕ) → i < p .counts .n → int (m′ .x) i ≡ plainPosition p m i
+  pub s : (i : ℕ) → i < p .counts .n → int (m′ .s) i ≡ rateOf p (m′ .q) (m′ .inputs) i
+  pub d : (i : ℕ) → i < p .counts .n → nat (m′ .d) i ≡ dueOf p (m′ .q) i t (int (m′ .x) i) (int (m′ .s) i)
   pub clock : m′ .clock ≡ t
   pub next : CommandPromise p t (m′ .next)
   pub instants : m′ .instants ≡ m .instants + 1

@@ -22,25 +22,25 @@ pub record SessionPromise (p : Plan) (st : State) (made : List Made) : Type 0 wh
   -- the outcome is that of the plain machine fed the accepted budgets, and updates have grown as its instants say
   pub state : SameAsPlain p (lastState st made) (plainAfter p (acceptedSum made))
   pub bytes : writtenBytes made ≡ plainEvents p (acceptedSum made)
-  pub updates : lastState st made .run .updates ≡ growthUpTo p (engineAt st (callsOf made)) (plainAfter p (acceptedSum made) .instants)
+  pub updates : lastState st made .run .clocks .updates ≡ growthUpTo p (engineAt st (callsOf made)) (plainAfter p (acceptedSum made) .instants)
   -- n times the instants that eager calls took, and over those that lazy calls took the number due or reached
   pub counted : let engine = engineAt st (callsOf made) in let k = plainAfter p (acceptedSum made) .instants in
-      lastState st made .run .updates ≡ p .n * eagerInstants engine k + lazyMoves p engine k
+      lastState st made .run .clocks .updates ≡ p .counts .n * eagerInstants engine k + lazyMoves p engine k
   -- "any two lists with an equal sum end alike in all of these"
   pub alike : (others : List Made) → Session st others → acceptedSum others ≡ acceptedSum made
       → EndAlike (lastState st others) (lastState st made) (writtenBytes others) (writtenBytes made)
   -- "Among lists with an equal sum, none has fewer updates than an all-lazy one or more than an all-eager one."
   pub fewest : (others : List Made) → Session st others → AllBy Lazy (callsOf others) → acceptedSum others ≡ acceptedSum made
-      → lastState st others .run .updates ≤ lastState st made .run .updates
+      → lastState st others .run .clocks .updates ≤ lastState st made .run .clocks .updates
   pub most : (others : List Made) → Session st others → AllBy Eager (callsOf others) → acceptedSum others ≡ acceptedSum made
-      → lastState st made .run .updates ≤ lastState st others .run .updates
+      → lastState st made .run .clocks .updates ≤ lastState st others .run .clocks .updates
   -- each call's own answer and buffer
   pub each : (earlier : List Made) (m : Made) (later : List Made) → made ≡ earlier ++ (m ∷ later)
       → CallPromise p (lastState st earlier) (m .call) (m .answer) (m .buffer)
   -- "the position call for every integrator": what it answers for the last state
-  pub position : (i : ℕ) (answer : Positioned) → answer ≡ positionedOf (lastState st made) i → i < p .n
+  pub position : (i : ℕ) (answer : Positioned) → answer ≡ positionedOf (lastState st made) i → i < p .counts .n
       → (answer .number ≡ 0) × (answer .value ≡ int (plainAfter p (acceptedSum made) .x) i)
-  pub no-position : (i : ℕ) (answer : Positioned) → answer ≡ positionedOf (lastState st made) i → p .n ≤ i
+  pub no-position : (i : ℕ) (answer : Positioned) → answer ≡ positionedOf (lastState st made) i → p .counts .n ≤ i
       → (answer .number ≡ 14) × (answer .value ≡ pos 0)
   -- last state, sum and bytes are those of the list of these calls, of which demand 3 says the rest: instants inside a call, the same list by one engine
   pub same-state : lastState st made ≡ afterCalls st (callsOf made)

@@ -29,23 +29,23 @@ RunSound = (engine : Engine) (st : State) (budget : ℕ) (buffer : List ℕ) →
 -- a sound state's next command is determined: it is the only number of which "the first with tick above c, or the command count if none" holds
 abbrev pub NextDetermined : Type 0
 NextDetermined =
-    (st : State) (next : ℕ) → Sound st → next ≤ st .plan .commands → ((e : ℕ) → e < next → nat (st .plan .ticks) e ≤ st .run .clock)
-    → (next < st .plan .commands → st .run .clock < nat (st .plan .ticks) next)
-    → st .run .next ≡ next
+    (st : State) (next : ℕ) → Sound st → next ≤ st .plan .counts .commands → ((e : ℕ) → e < next → nat (st .plan .commands .ticks) e ≤ st .run .clocks .clock)
+    → (next < st .plan .counts .commands → st .run .clocks .clock < nat (st .plan .commands .ticks) next)
+    → st .run .clocks .next ≡ next
 
 -- an accepted run that is paused has moved the clock on
 abbrev pub RunMoves : Type 0
 RunMoves =
     (engine : Engine) (st : State) (budget : ℕ) (buffer : List ℕ) → runOf engine st budget buffer .number ≡ 0 → 1 ≤ budget
-    → runOf engine st budget buffer .status ≡ 0 → st .run .clock < runOf engine st budget buffer .state .run .clock
+    → runOf engine st budget buffer .status ≡ 0 → st .run .clocks .clock < runOf engine st budget buffer .state .run .clocks .clock
 
 -- "idle is the start of one integrator (start 0, quantum 1), nothing else, horizon 1"; its file has 52 bytes
 pub record IdlePromise (p : Plan) (idle : State) : Type 0 where
   pub start : idle ≡ startState p
-  pub integrators : p .n ≡ 1
-  pub nothing-else : (p .m ≡ 0) × (p .k ≡ 0) × (p .links ≡ 0) × (p .commands ≡ 0)
-  pub first : int (p .starts) 0 ≡ pos 0
-  pub quantum : int (p .quanta) 0 ≡ pos 1
+  pub integrators : p .counts .n ≡ 1
+  pub nothing-else : (p .counts .m ≡ 0) × (p .counts .k ≡ 0) × (p .counts .links ≡ 0) × (p .counts .commands ≡ 0)
+  pub first : int (p .integrators .starts) 0 ≡ pos 0
+  pub quantum : int (p .integrators .quanta) 0 ≡ pos 1
   pub horizon : p .horizon ≡ 1
   pub size : length (encode p) ≡ 52
   pub loaded : loadOf (encode p) ≡ record { number = 0; entry = 0; state = idle }

@@ -69,10 +69,10 @@ module _ (st : State) where
   -- ---- the position call: 10, 14
   pub position-most : (i : ℕ) → positionNumber st i ≤ 14
   unfolding positionNumber
-  position-most i = most (isSound st) (most (ltb i (st .plan .n)) (omega arith) (omega arith)) (omega arith)
+  position-most i = most (isSound st) (most (ltb i (st .plan .counts .n)) (omega arith) (omega arith)) (omega arith)
 
-  pub position-zero : (i : ℕ) → positionNumber st i ≡ 0 → Sound st × (i < st .plan .n)
+  pub position-zero : (i : ℕ) → positionNumber st i ≡ 0 → Sound st × (i < st .plan .counts .n)
   unfolding positionNumber
   position-zero i e =
-      let a = passes (isSound st) (omega arith) e in let b = passes (ltb i (st .plan .n)) (omega arith) (a .1) in
-      (sound-means st .0 (a .0), ltb-true i (st .plan .n) (b .0))
+      let a = passes (isSound st) (omega arith) e in let b = passes (ltb i (st .plan .counts .n)) (omega arith) (a .1) in
+      (sound-means st .0 (a .0), ltb-true i (st .plan .counts .n) (b .0))

@@ -58,10 +58,10 @@ module _ (p : Plan) (ok : SoundRunning p (startOf p)) where
     grown : (k : ℕ) → growthUpTo p (engineOf engines) k ≡ growthUpTo p (engineAt start calls) k
     grown k = growth-ext p (engineOf engines) (engineAt start calls) k (λ i h. sym (engine-at p calls (startOf p) ok (i + 1) (omega arith)))
 
-    updates-then : afterCalls start calls .run .updates ≡ growthUpTo p (engineOf engines) (plainAfter p (length engines) .instants)
+    updates-then : afterCalls start calls .run .clocks .updates ≡ growthUpTo p (engineOf engines) (plainAfter p (length engines) .instants)
     updates-then = rw end (updates-end p ok engines)
 
-    updates : afterCalls start calls .run .updates ≡ growthUpTo p (engineAt start calls) (plainAfter p (budgetSum start calls) .instants)
+    updates : afterCalls start calls .run .clocks .updates ≡ growthUpTo p (engineAt start calls) (plainAfter p (budgetSum start calls) .instants)
     updates = rw sum (updates-then ∙ grown (plainAfter p (length engines) .instants))
 
     -- ---- cut behind instant i
@@ -120,7 +120,7 @@ module _ (p : Plan) (ok : SoundRunning p (startOf p)) where
         let back : i + 1 - 1 ≡ i = omega arith in
         rw (back, schedule-by p engine calls all) (getD-replicate (length (schedule p calls)) i engine Lazy h)
 
-    updates-by : afterCalls start calls .run .updates ≡ growthUpTo p (λ i. engine) (plainAfter p (budgetSum start calls) .instants)
+    updates-by : afterCalls start calls .run .clocks .updates ≡ growthUpTo p (λ i. engine) (plainAfter p (budgetSum start calls) .instants)
     updates-by =
         rw (sum calls)
         (updates-then calls
@@ -130,7 +130,7 @@ module _ (p : Plan) (ok : SoundRunning p (startOf p)) where
   same-sum : (engine : Engine) (calls : List Call) → budgetSum start (allBy engine calls) ≡ budgetSum start calls
   same-sum engine calls = sum (allBy engine calls) ∙ length-all p engine calls ∙ sym (sum calls)
 
-  all-updates : (engine : Engine) (calls : List Call) → afterCalls start (allBy engine calls) .run .updates
+  all-updates : (engine : Engine) (calls : List Call) → afterCalls start (allBy engine calls) .run .clocks .updates
       ≡ growthUpTo p (λ i. engine) (plainAfter p (budgetSum start calls) .instants)
   all-updates engine calls = updates-by engine (allBy engine calls) (all-by engine calls) ∙ rw (same-sum engine calls)
 

@@ -25,7 +25,7 @@ use Rattle.calls.specs.Promises.Machine.{EventAt, EventsPromise, EventsR
 
 -- with the due ticks d, the positions at t, the outputs q after it and the input values u before it
 module _ (p : Plan) (ok : PlanRules p) (d : List ℕ) (t : ℕ) (position : ℕ → ℤ) (q u : List ℤ) (zero-status : statusAt p d t position ≡ 0)
-    (outputs-are : (i : ℕ) → i < p .n → nat d i ≡ t → int q i ≡ position i) where
+    (outputs-are : (i : ℕ) → i < p .counts .n → nat d i ≡ t → int q i ≡ position i) where
   limits : Counts p
   limits = counts-of p (ok .counts)
 
@@ -36,7 +36,7 @@ module _ (p : Plan) (ok : PlanRules p) (d : List ℕ) (t : ℕ) (position : ℕ 
   bytes = eventsAt p t d q inputsThen
 
   -- the event of a source that changes
-  event-at : (i : ℕ) (value : ℤ) → i < p .n + p .m → Changed p d t i → valueWith p q inputsThen 0 i ≡ value → ∣ value ∣ ≤ M
+  event-at : (i : ℕ) (value : ℤ) → i < p .counts .n + p .counts .m → Changed p d t i → valueWith p q inputsThen 0 i ≡ value → ∣ value ∣ ≤ M
       → EventAt bytes (12 * countOf (changes p d t) i) t i value
   event-at i value h c e small =
       let changed = changes-means p d t i .1 c in
@@ -52,9 +52,9 @@ module _ (p : Plan) (ok : PlanRules p) (d : List ℕ) (t : ℕ) (position : ℕ 
         event-at i (position i) (omega arith) (due h e) (output-value p q inputsThen i h ∙ outputs-are i h e)
         (paused-size p d t position zero-status i h e);
     commanded = λ j e h l tick number.
-        event-at (p .n + j) (int (p .values) e) (omega arith) (commanded j e refl h l tick number)
+        event-at (p .counts .n + j) (int (p .commands .values) e) (omega arith) (commanded j e refl h l tick number)
         (input-value p q inputsThen j h ∙ setting-of p ok u t j e h l tick number)
-        (within-size M (int (p .values) e) .0 (ok .commands e l .value));
+        (within-size M (int (p .commands .values) e) .0 (ok .commands e l .value));
     no-other = length-events p t d q inputsThen;
   }
 

@@ -38,7 +38,7 @@ status-promise p d t position =
 
 pub next-means : NextMeans
 unfolding tickOf
-next-means p r = next-promise p (r .d) (r .next)
+next-means p r = next-promise p (r .d) (r .clocks .next)
 
 pub status-means : StatusMeans
 unfolding statusOf integratorOf

@@ -33,18 +33,18 @@ module _ (p : Plan) (r : Running) (ok : SoundRunning p r) where
         instants = a .instants;
         status = same-status p r ok m a;
         integrator = same-integrator p r ok m a;
-        position = λ i h. rw (sound-means (at p r) .1 ok, lt-ltb i (p .n) h, a .place i h);
-        no-position = λ i h. rw (sound-means (at p r) .1 ok, le-ltb i (p .n) h);
+        position = λ i h. rw (sound-means (at p r) .1 ok, lt-ltb i (p .counts .n) h, a .place i h);
+        no-position = λ i h. rw (sound-means (at p r) .1 ok, le-ltb i (p .counts .n) h);
       }
 
 -- what the position call answers is settled by the plain machine
 module _ (p : Plan) (st : State) (m : Plain) (same : SameAsPlain p st m) (i : ℕ) where
-  position-settled : (positionedOf st i .number ≡ cond (ltb i (p .n)) 0 14) × (positionedOf st i .value ≡ cond (ltb i (p .n)) (int (m .x) i) (pos 0))
-  position-settled = go (ltb i (p .n)) refl
+  position-settled : (positionedOf st i .number ≡ cond (ltb i (p .counts .n)) 0 14) × (positionedOf st i .value ≡ cond (ltb i (p .counts .n)) (int (m .x) i) (pos 0))
+  position-settled = go (ltb i (p .counts .n)) refl
     where
-      go : (b : Bool) → ltb i (p .n) ≡ b → (positionedOf st i .number ≡ cond b 0 14) × (positionedOf st i .value ≡ cond b (int (m .x) i) (pos 0))
-      go true e = let at = same .position i (ltb-true i (p .n) e) in (rw at, rw at)
-      go false e = let at = same .no-position i (ltb-false i (p .n) e) in (rw at, rw at)
+      go : (b : Bool) → ltb i (p .counts .n) ≡ b → (positionedOf st i .number ≡ cond b 0 14) × (positionedOf st i .value ≡ cond b (int (m .x) i) (pos 0))
+      go true e = let at = same .position i (ltb-true i (p .counts .n) e) in (rw at, rw at)
+      go false e = let at = same .no-position i (ltb-false i (p .counts .n) e) in (rw at, rw at)
 
 module _ (p : Plan) (m : Plain) (one other : State) (a : SameAsPlain p one m) (b : SameAsPlain p other m) where
   pub end-alike : (bytes-of-one bytes-of-other : List ℕ) → bytes-of-one ≡ bytes-of-other → EndAlike one other bytes-of-one bytes-of-other

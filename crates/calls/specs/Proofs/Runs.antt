@@ -34,7 +34,7 @@ run-shaped engine st budget buffer h =
     (λ e. after-shaped (st .plan) engine budget (st .run) h) h
 
 module _ (p : Plan) (r : Running) (ok : SoundRunning p r) (c : Call) where
-  clock-then : answerOf (at p r) c .number ≡ 0 → 1 ≤ c .budget → answerOf (at p r) c .status ≡ 0 → r .clock < answerOf (at p r) c .state .run .clock
+  clock-then : answerOf (at p r) c .number ≡ 0 → 1 ≤ c .budget → answerOf (at p r) c .status ≡ 0 → r .clocks .clock < answerOf (at p r) c .state .run .clocks .clock
   unfolding fedBy
   clock-then accepts some paused =
       rw (call-after p r c ok) (by (fed p c) fed-is (rw (call-after p r c ok) at (sym (call-promise p r ok c .status accepts) ∙ paused)))
@@ -42,7 +42,7 @@ module _ (p : Plan) (r : Running) (ok : SoundRunning p r) (c : Call) where
       fed-is : c .budget ≡ fed p c
       fed-is = rw (eq-eqb (answerOf (at p r) c .number) 0 accepts) at (fed-by p r c ok)
 
-      by : (k : ℕ) → c .budget ≡ k → statusOf p (afterBy p (replicate k (c .engine)) r) ≡ 0 → r .clock < afterBy p (replicate k (c .engine)) r .clock
+      by : (k : ℕ) → c .budget ≡ k → statusOf p (afterBy p (replicate k (c .engine)) r) ≡ 0 → r .clocks .clock < afterBy p (replicate k (c .engine)) r .clocks .clock
       by zero e s = absurd (omega arith)
       by (suc k) e s = clock-moves p (c .engine) (replicate k (c .engine)) r ok (is-paused p (afterBy p (replicate (suc k) (c .engine)) r) s)
 

@@ -66,23 +66,23 @@ run-number st c ok = rw (sound-means st .1 ok)
 -- a smaller budget is accepted where a larger one is
 pub fed-less : (p : Plan) (c : Call) (b : ℕ) → b ≤ fed p c → fed p (record { engine = c .engine; budget = b; buffer = c .buffer }) ≡ b
 unfolding fed declineOf roomOf
-fed-less p c b = go (leb (c .budget) 1024) (leb (c .budget * (p .n + p .m) * 12) (length (c .buffer))) refl refl
+fed-less p c b = go (leb (c .budget) 1024) (leb (c .budget * (p .counts .n + p .counts .m) * 12) (length (c .buffer))) refl refl
   where
-    zero-fed : b ≤ 0 → cond (eqb (cond (leb b 1024) (cond (leb (b * (p .n + p .m) * 12) (length (c .buffer))) 0 12) 11) 0) b 0 ≡ b
+    zero-fed : b ≤ 0 → cond (eqb (cond (leb b 1024) (cond (leb (b * (p .counts .n + p .counts .m) * 12) (length (c .buffer))) 0 12) 11) 0) b 0 ≡ b
     zero-fed h =
         let none : b ≡ 0 = omega arith in
-        rw (none, le-leb (0 * (p .n + p .m) * 12) (length (c .buffer)) (omega arith))
+        rw (none, le-leb (0 * (p .counts .n + p .counts .m) * 12) (length (c .buffer)) (omega arith))
 
-    go : (s t : Bool) → leb (c .budget) 1024 ≡ s → leb (c .budget * (p .n + p .m) * 12) (length (c .buffer)) ≡ t
+    go : (s t : Bool) → leb (c .budget) 1024 ≡ s → leb (c .budget * (p .counts .n + p .counts .m) * 12) (length (c .buffer)) ≡ t
         → b ≤ cond (eqb (cond s (cond t 0 12) 11) 0) (c .budget) 0
-        → cond (eqb (cond (leb b 1024) (cond (leb (b * (p .n + p .m) * 12) (length (c .buffer))) 0 12) 11) 0) b 0 ≡ b
+        → cond (eqb (cond (leb b 1024) (cond (leb (b * (p .counts .n + p .counts .m) * 12) (length (c .buffer))) 0 12) 11) 0) b 0 ≡ b
     go true true e f h =
         let small = leb-true (c .budget) 1024 e in
-        let room = leb-true (c .budget * (p .n + p .m) * 12) (length (c .buffer)) f in
-        rw (le-leb b 1024 (omega arith), le-leb (b * (p .n + p .m) * 12) (length (c .buffer)) (less room))
+        let room = leb-true (c .budget * (p .counts .n + p .counts .m) * 12) (length (c .buffer)) f in
+        rw (le-leb b 1024 (omega arith), le-leb (b * (p .counts .n + p .counts .m) * 12) (length (c .buffer)) (less room))
       where
-        less : c .budget * (p .n + p .m) * 12 ≤ length (c .buffer) → b * (p .n + p .m) * 12 ≤ length (c .buffer)
-        less room = omega (arith, native.Mathlib.Nat.mul-le-mul-right (p .n + p .m) h)
+        less : c .budget * (p .counts .n + p .counts .m) * 12 ≤ length (c .buffer) → b * (p .counts .n + p .counts .m) * 12 ≤ length (c .buffer)
+        less room = omega (arith, native.Mathlib.Nat.mul-le-mul-right (p .counts .n + p .counts .m) h)
     go true false e f h = zero-fed h
     go false t e f h = zero-fed h
 

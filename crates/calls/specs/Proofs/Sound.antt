@@ -38,4 +38,4 @@ idle-loaded =
     }
 
 pub next-determined : NextDetermined
-next-determined st next ok h before this = ok .next ∙ sym (command-is (st .plan) (st .run .clock) next h before this)
+next-determined st next ok h before this = ok .next ∙ sym (command-is (st .plan) (st .run .clocks .clock) next h before this)

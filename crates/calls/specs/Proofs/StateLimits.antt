@@ -26,7 +26,7 @@ use Rattle.machine.specs.declared.Running.{Running}
 use Rattle.calls.specs.Calls.{roomOf}
 use Rattle.calls.specs.Limits.{RateLimits, LevelLimits, IntegratorLimits, PrintedLimits, StateLimits}
 
-pub rate-limits : (p : Plan) (q u : List ℤ) → PlanRules p → ((i : ℕ) → i < p .n → ∣ int q i ∣ ≤ M) → ((j : ℕ) → j < p .m → ∣ int u j ∣ ≤ M)
+pub rate-limits : (p : Plan) (q u : List ℤ) → PlanRules p → ((i : ℕ) → i < p .counts .n → ∣ int q i ∣ ≤ M) → ((j : ℕ) → j < p .counts .m → ∣ int u j ∣ ≤ M)
     → RateLimits p q u
 rate-limits p q u k a b =
     record {
@@ -57,14 +57,14 @@ level-limits p q i x s k a b =
 pub room-most : (p : Plan) → Counts p → (budget most : ℕ) → budget ≤ most → roomOf p budget ≤ most * 480
 unfolding roomOf
 room-most p c budget most h =
-    let sources : p .n + p .m ≤ 40 = omega (arith, c) in
+    let sources : p .counts .n + p .counts .m ≤ 40 = omega (arith, c) in
     omega (arith, mul-le-mul h sources)
 
 module _ (p : Plan) (r : Running) (sound : SoundRunning p r) where
   limits : Counts p
   limits = counts-of p (sound .plan .counts)
 
-  integrator-limits : (i : ℕ) → i < p .n → IntegratorLimits p r i
+  integrator-limits : (i : ℕ) → i < p .counts .n → IntegratorLimits p r i
   integrator-limits i h =
       let k = sound .integrators i h in record {
         levels = level-limits p (r .q) i (int (r .x) i) (int (r .s) i) (sound .plan .integrators i h) (k .output) (inside p r sound i h);
@@ -84,7 +84,7 @@ module _ (p : Plan) (r : Running) (sound : SoundRunning p r) where
         tick = λ e. omega (arith, tick-horizon p r (is-paused p r e));
         source = omega (arith, limits);
         output = λ e i h d. omega (arith, due-size p r (is-paused p r e) i h d);
-        setting = λ e h. omega (arith, within-size M (int (p .values) e) .0 (sound .plan .commands e h .value));
+        setting = λ e h. omega (arith, within-size M (int (p .commands .values) e) .0 (sound .plan .commands e h .value));
         clock = omega (arith, sound .clock);
         instants = omega (arith, sound .instants, sound .clock);
         updates = omega (arith, sound .updates, mul-le-mul (limits .n) (sound .instants), sound .clock);
@@ -93,12 +93,12 @@ module _ (p : Plan) (r : Running) (sound : SoundRunning p r) where
   pub state-limits : StateLimits p r
   unfolding roomOf
   state-limits =
-      let instants : r .instants ≤ 2000000000 = omega (arith, sound .instants, sound .clock, sound .plan .horizon) in record {
+      let instants : r .clocks .instants ≤ 2000000000 = omega (arith, sound .instants, sound .clock, sound .plan .horizon) in record {
         rates = rate-limits p (r .q) (r .inputs) (sound .plan) (λ i h. sound .integrators i h .output)
             (λ j h. within-size M (int (r .inputs) j) .0 (sound .inputs j h));
         integrators = integrator-limits;
         tick = λ e. (tick-after p r sound, tick-horizon p r (is-paused p r e));
-        next = omega (arith, sound .next, command-most p (r .clock), limits .commands);
+        next = omega (arith, sound .next, command-most p (r .clocks .clock), limits .commands);
         instants = instants;
         updates = omega (arith, sound .updates, mul-le-mul (limits .n) instants);
         instant = omega (arith, instant-bytes p r, limits);

@@ -25,7 +25,7 @@ use Rattle.dynamics.specs.declared.status.Standing.{Standing}
 
 module _ (p : Plan) (r : Running) where
   -- ---- what positions ask
-  pub ready-at : SoundRunning p r → (t : ℕ) → r .clock ≤ t → (i : ℕ) → i < p .n → t ≤ nat (r .d) i
+  pub ready-at : SoundRunning p r → (t : ℕ) → r .clocks .clock ≤ t → (i : ℕ) → i < p .counts .n → t ≤ nat (r .d) i
       → PositionReady (int (r .x) i) (int (r .s) i) (nat (r .l) i) t
   ready-at ok t since i used early =
       record {
@@ -39,37 +39,37 @@ module _ (p : Plan) (r : Running) where
       }
 
   -- a bit of the mask of the due ones is a due integrator
-  due-bit : (t i : ℕ) → has (maskOf (isDue (r .d) t) (p .n)) i ≡ true → (i < p .n) × (nat (r .d) i ≡ t)
+  due-bit : (t i : ℕ) → has (maskOf (isDue (r .d) t) (p .counts .n)) i ≡ true → (i < p .counts .n) × (nat (r .d) i ≡ t)
   unfolding isDue
-  due-bit t i e = go (ltb i (p .n)) refl
+  due-bit t i e = go (ltb i (p .counts .n)) refl
     where
       due : ℕ
-      due = maskOf (isDue (r .d) t) (p .n)
+      due = maskOf (isDue (r .d) t) (p .counts .n)
 
-      go : (b : Bool) → ltb i (p .n) ≡ b → (i < p .n) × (nat (r .d) i ≡ t)
-      go true l = let h = ltb-true i (p .n) l in (h, eqb-true (nat (r .d) i) t (sym (has-maskOf (isDue (r .d) t) (p .n) i h) ∙ e))
-      go false l = absurd (true≢false (sym e ∙ has-high due (p .n) i (maskOf-lt (isDue (r .d) t) (p .n)) (ltb-false i (p .n) l)))
+      go : (b : Bool) → ltb i (p .counts .n) ≡ b → (i < p .counts .n) × (nat (r .d) i ≡ t)
+      go true l = let h = ltb-true i (p .counts .n) l in (h, eqb-true (nat (r .d) i) t (sym (has-maskOf (isDue (r .d) t) (p .counts .n) i h) ∙ e))
+      go false l = absurd (true≢false (sym e ∙ has-high due (p .counts .n) i (maskOf-lt (isDue (r .d) t) (p .counts .n)) (ltb-false i (p .counts .n) l)))
 
-  pub due-reach-from : SoundRunning p r → {t due : ℕ} → r .clock ≤ t → due ≡ maskOf (isDue (r .d) t) (p .n)
+  pub due-reach-from : SoundRunning p r → {t due : ℕ} → r .clocks .clock ≤ t → due ≡ maskOf (isDue (r .d) t) (p .counts .n)
       → DueReach due t (r .x) (r .s) (r .l)
   due-reach-from ok {t} since e =
       record { ready = λ i b. let h = due-bit t i (rw e at b) in ready-at ok t since i (h .0) (omega (arith, h .1)) }
 
   -- at the next instant, which lies past the clock
-  pub due-reach : SoundRunning p r → {t due : ℕ} → t ≡ tickOf p r → due ≡ maskOf (isDue (r .d) t) (p .n)
+  pub due-reach : SoundRunning p r → {t due : ℕ} → t ≡ tickOf p r → due ≡ maskOf (isDue (r .d) t) (p .counts .n)
       → DueReach due t (r .x) (r .s) (r .l)
   due-reach ok e = due-reach-from ok (omega (arith, tick-after p r ok))
 
   -- ---- the status
-  pub barring-by-mask : (t : ℕ) {due : ℕ} → due ≡ maskOf (isDue (r .d) t) (p .n)
-      → firstFrom (barsIn due t (r .x) (r .s) (r .l)) 0 (p .n) ≡ barring p (r .d) t (positionAt r t)
+  pub barring-by-mask : (t : ℕ) {due : ℕ} → due ≡ maskOf (isDue (r .d) t) (p .counts .n)
+      → firstFrom (barsIn due t (r .x) (r .s) (r .l)) 0 (p .counts .n) ≡ barring p (r .d) t (positionAt r t)
   unfolding barring bars barsIn positionAt
-  barring-by-mask t e = rw e (first-ext _ _ 0 (p .n) (λ i h. rw (has-maskOf (isDue (r .d) t) (p .n) i (omega arith))))
+  barring-by-mask t e = rw e (first-ext _ _ 0 (p .counts .n) (λ i h. rw (has-maskOf (isDue (r .d) t) (p .counts .n) i (omega arith))))
 
   pub standing-is : {t : ℕ} → t ≡ tickOf p r
-      → standingOf (p .horizon) (p .n) t (barring p (r .d) t (positionAt r t)) ≡ record { status = statusOf p r; integrator = integratorOf p r }
+      → standingOf (p .horizon) (p .counts .n) t (barring p (r .d) t (positionAt r t)) ≡ record { status = statusOf p r; integrator = integratorOf p r }
   unfolding standingOf statusAt integratorAt statusOf integratorOf
-  standing-is e = rw e (go (eqb (tickOf p r) never || ltb (p .horizon) (tickOf p r)) (ltb f (p .n)))
+  standing-is e = rw e (go (eqb (tickOf p r) never || ltb (p .horizon) (tickOf p r)) (ltb f (p .counts .n)))
     where
       f : ℕ
       f = barring p (r .d) (tickOf p r) (positionAt r (tickOf p r))
@@ -81,7 +81,7 @@ module _ (p : Plan) (r : Running) where
       go false false = refl
 
   -- what `standing_at` says for the mask of the due ones
-  pub standing-by-mask : {t due : ℕ} → t ≡ tickOf p r → due ≡ maskOf (isDue (r .d) t) (p .n)
-      → standingOf (p .horizon) (p .n) t (firstFrom (barsIn due t (r .x) (r .s) (r .l)) 0 (p .n))
+  pub standing-by-mask : {t due : ℕ} → t ≡ tickOf p r → due ≡ maskOf (isDue (r .d) t) (p .counts .n)
+      → standingOf (p .horizon) (p .counts .n) t (firstFrom (barsIn due t (r .x) (r .s) (r .l)) 0 (p .counts .n))
       ≡ record { status = statusOf p r; integrator = integratorOf p r }
   standing-by-mask e d = rw (barring-by-mask _ d) (standing-is e)

@@ -13,23 +13,23 @@ use Rattle.dynamics.specs.Laws.Standings.{due-reach, standing-by-mask}
 use Rattle.engine.specs.Ahead.{tickAhead, dueAhead, aheadOf, AheadReady}
 
 module _ (p : Plan) (r : Running) where
-  tick-ahead : tickAhead (p .n) (p .commands) (r .next) (p .ticks) (r .x) (r .s) (r .l) (r .d) ≡ tickOf p r
+  tick-ahead : tickAhead (p .counts .n) (p .counts .commands) (r .clocks .next) (p .commands .ticks) (r .x) (r .s) (r .l) (r .d) ≡ tickOf p r
   unfolding tickAhead tickOf nextTick commandTick
   tick-ahead = refl
 
-  due-ahead : dueAhead (p .n) (p .commands) (r .next) (p .ticks) (r .x) (r .s) (r .l) (r .d) ≡ maskOf (isDue (r .d) (tickOf p r)) (p .n)
+  due-ahead : dueAhead (p .counts .n) (p .counts .commands) (r .clocks .next) (p .commands .ticks) (r .x) (r .s) (r .l) (r .d) ≡ maskOf (isDue (r .d) (tickOf p r)) (p .counts .n)
   unfolding dueAhead
   due-ahead = rw tick-ahead
 
-  pub ahead-ready : SoundRunning p r → AheadReady (p .n) (p .commands) (r .next) (p .ticks) (r .x) (r .s) (r .l) (r .d)
+  pub ahead-ready : SoundRunning p r → AheadReady (p .counts .n) (p .counts .commands) (r .clocks .next) (p .commands .ticks) (r .x) (r .s) (r .l) (r .d)
   ahead-ready ok =
       let counts = counts-of p (ok .plan .counts) in
       record { few = counts .n; listed = counts .commands; reach = rw (tick-ahead, due-ahead) (due-reach p r ok refl refl) }
 
-  pub ahead-is : aheadOf (p .horizon) (p .n) (p .commands) (r .next) (p .ticks) (r .x) (r .s) (r .l) (r .d)
+  pub ahead-is : aheadOf (p .horizon) (p .counts .n) (p .counts .commands) (r .clocks .next) (p .commands .ticks) (r .x) (r .s) (r .l) (r .d)
       ≡ record {
         tick = tickOf p r;
-        due = maskOf (isDue (r .d) (tickOf p r)) (p .n);
+        due = maskOf (isDue (r .d) (tickOf p r)) (p .counts .n);
         status = statusOf p r;
         integrator = integratorOf p r;
       }

@@ -37,13 +37,13 @@ use Rattle.engine.specs.declared.runs.Ended.{Ended}
 
 -- what lies ahead of the figures r
 abbrev pub aheadAt : Plan → Running → Ahead
-aheadAt p r = aheadOf (p .horizon) (p .n) (p .commands) (r .next) (p .ticks) (r .x) (r .s) (r .l) (r .d)
+aheadAt p r = aheadOf (p .horizon) (p .counts .n) (p .counts .commands) (r .clocks .next) (p .commands .ticks) (r .x) (r .s) (r .l) (r .d)
 
 -- before the loop: what working out the values of all sources asks
 pub source-values-ready : (p : Plan) (r : Running) → SoundRunning p r
-    → NodesReady (p .lefts) (p .rights) (p .lows) (p .highs) (firstValues (p .n) (p .m) (r .q) (r .inputs)) (p .n + p .m) (p .k)
+    → NodesReady (p .nodes .a) (p .nodes .b) (p .nodes .lows) (p .nodes .highs) (firstValues (p .counts .n) (p .counts .m) (r .q) (r .inputs)) (p .counts .n + p .counts .m) (p .counts .k)
 source-values-ready p r ok =
-    nodes-ready p (ok .plan) (firstValues (p .n) (p .m) (r .q) (r .inputs))
+    nodes-ready p (ok .plan) (firstValues (p .counts .n) (p .counts .m) (r .q) (r .inputs))
     (first-sized p (r .q) (r .inputs) (ok .plan) (λ i h. ok .integrators i h .output)
     (λ j h. within-size M (int (r .inputs) j) .0 (ok .inputs j h)))
 
@@ -58,13 +58,13 @@ module _ (p : Plan) (engine : Engine) (budget : ℕ) (first : Running) (buffer�
     pub bytes : putAt buffer end (events p engine (budget - taken) r) ≡ putAt buffer₀ 0 (events p engine budget first)
     pub ends : end + length (events p engine (budget - taken) r) ≡ length (events p engine budget first)
     pub same-size : length buffer ≡ length buffer₀
-    pub room : end + (budget - taken) * (p .n + p .m) * 12 ≤ length buffer
+    pub room : end + (budget - taken) * (p .counts .n + p .counts .m) * 12 ≤ length buffer
 
   pub begun : {values : List ℤ} {ahead : Ahead} → RunningShaped first → SoundRunning p first
-      → budget * (p .n + p .m) * 12 ≤ length buffer₀
+      → budget * (p .counts .n + p .counts .m) * 12 ≤ length buffer₀
       → values
-      ≡ each (nodeStep (p .kinds) (p .lefts) (p .rights) (p .lows) (p .highs) (p .n + p .m)) (λ _. true) (p .k)
-      (firstValues (p .n) (p .m) (first .q) (first .inputs))
+      ≡ each (nodeStep (p .nodes .kinds) (p .nodes .a) (p .nodes .b) (p .nodes .lows) (p .nodes .highs) (p .counts .n + p .counts .m)) (λ _. true) (p .counts .k)
+      (firstValues (p .counts .n) (p .counts .m) (first .q) (first .inputs))
       → ahead ≡ aheadAt p first → Progress first values 0 0 ahead buffer₀
   begun shaped ok room worked ahead-known =
       let all : budget - 0 ≡ budget = omega arith in
@@ -116,14 +116,14 @@ module _ {p : Plan} {engine : Engine} {budget : ℕ} {first : Running} {buffer�
         }
 
     -- its events leave room for those of the instants after it
-    room-then : end + length (eventsOf p r) + (budget - (taken + 1)) * (p .n + p .m) * 12 ≤ length buffer
+    room-then : end + length (eventsOf p r) + (budget - (taken + 1)) * (p .counts .n + p .counts .m) * 12 ≤ length buffer
     room-then = omega (arith, instant-bytes p r, rw left at (now .room))
 
     module _ {r' : Running} (taken-is : r' ≡ instant p engine r) where
       sound-then : SoundRunning p r'
       sound-then = rw taken-is (instant-sound p r (now .sound) paused engine)
 
-      pub ahead-ready-then : AheadReady (p .n) (p .commands) (r' .next) (p .ticks) (r' .x) (r' .s) (r' .l) (r' .d)
+      pub ahead-ready-then : AheadReady (p .counts .n) (p .counts .commands) (r' .clocks .next) (p .commands .ticks) (r' .x) (r' .s) (r' .l) (r' .d)
       ahead-ready-then = ahead-ready p r' sound-then
 
       pub advanced : {values' : List ℤ} {end' : ℕ} {ahead' : Ahead} {buffer' : List ℕ} → values' ≡ valuesOf p (r' .q) (r' .inputs)

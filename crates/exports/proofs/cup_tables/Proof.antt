@@ -58,8 +58,8 @@ source-values-requires c κs =
     let e = c .before .before .before .before .before .before .before .before .before .before .before .before .before .before .before .before .before .before in
     let p = state e .plan in
     let r = state e .run in
-    let outputs : (i : ℕ) → i < p .n → ∣ int (r .q) i ∣ ≤ M = λ i h. sound e .integrators i h .output in
-    let inputs : (j : ℕ) → j < p .m → ∣ int (r .inputs) j ∣ ≤ M = λ j h. within-size M (int (r .inputs) j) .0 (sound e .inputs j h) in
+    let outputs : (i : ℕ) → i < p .counts .n → ∣ int (r .q) i ∣ ≤ M = λ i h. sound e .integrators i h .output in
+    let inputs : (j : ℕ) → j < p .counts .m → ∣ int (r .inputs) j ∣ ≤ M = λ j h. within-size M (int (r .inputs) j) .0 (sound e .inputs j h) in
     (limits e .n, limits e .m, nodes-ready p (sound e .plan) _ (first-sized p (r .q) (r .inputs) (sound e .plan) outputs inputs))
 
 returns-2 : tie.Need-returns-2

@@ -46,7 +46,7 @@ use Rattle.steps.specs.Commands.{obeying, obeyFrom, CommandsReady}
 use Rattle.steps.specs.Outputs.{outputting, outputOne}
 use Rattle.steps.specs.Events.{eventsIn, EventsReady}
 use Rattle.moves.specs.Motion.{moving, moveOne, AllMovable}
-use Rattle.instant.specs.Lent.{movedSet, InstantReady}
+use Rattle.instant.specs.Lent.{runningOf, movedSet, InstantReady}
 use Rattle.steps.specs.Laws.Settings.{Obeyed, obeyed, outputs-kept, nodes-kept, commands-ready}
 use Rattle.steps.specs.Laws.Outputs.{outputs-are, values-full, values-kept, values-are}
 use Rattle.steps.specs.Laws.EventBytes.{events-are, events-ready}
@@ -81,20 +81,20 @@ module _ (p : Plan) (r : Running) {t due : ℕ} {ranges reach : List ℕ} {value
   u = settings p (r .inputs) t
 
   -- ---- before
-  pub due-below : due < 2 ^ p .n
-  due-below = rw (ready .due-set) (maskOf-lt (isDue (r .d) t) (p .n))
+  pub due-below : due < 2 ^ p .counts .n
+  due-below = rw (ready .due-set) (maskOf-lt (isDue (r .d) t) (p .counts .n))
 
   full : length values ≡ 64
   full = rw (ready .values-are) (values-length p (r .q) (r .inputs))
 
-  old-at : (i : ℕ) → i < p .n + p .m + p .k → int values i ≡ valueOf p (r .q) (r .inputs) i
+  old-at : (i : ℕ) → i < p .counts .n + p .counts .m + p .counts .k → int values i ≡ valueOf p (r .q) (r .inputs) i
   old-at i h = rw (ready .values-are) (values-at p (r .q) (r .inputs) rules i h)
 
-  old-output : (i : ℕ) → i < p .n → int values i ≡ int (r .q) i
+  old-output : (i : ℕ) → i < p .counts .n → int values i ≡ int (r .q) i
   old-output i h = old-at i (omega arith) ∙ integrator-value p (r .q) (r .inputs) i h
 
-  old-input : (j : ℕ) → j < p .m → int values (p .n + j) ≡ int (r .inputs) j
-  old-input j h = old-at (p .n + j) (omega arith) ∙ setting-value p (r .q) (r .inputs) j h
+  old-input : (j : ℕ) → j < p .counts .m → int values (p .counts .n + j) ≡ int (r .inputs) j
+  old-input j h = old-at (p .counts .n + j) (omega arith) ∙ setting-value p (r .q) (r .inputs) j h
 
   old-sized : (i : ℕ) → ∣ int values i ∣ ≤ M
   old-sized =
@@ -103,26 +103,26 @@ module _ (p : Plan) (r : Running) {t due : ℕ} {ranges reach : List ℕ} {value
       (λ j h. within-size M (int (r .inputs) j) .0 (ready .sound .inputs j h)))
 
   -- ---- 6. the counts stay far below 2^64
-  pub instants-fit : Fits w64 (r .instants + 1)
+  pub instants-fit : Fits w64 (r .clocks .instants + 1)
   instants-fit = omega (arith, ready .sound .instants, ready .sound .clock, rules .horizon)
 
-  pub updates-fit : (moved : ℕ → Bool) {grown : ℕ} → grown ≡ countOf moved 32 → Fits w64 (r .updates + grown)
+  pub updates-fit : (moved : ℕ → Bool) {grown : ℕ} → grown ≡ countOf moved 32 → Fits w64 (r .clocks .updates + grown)
   updates-fit moved e =
       let ok = ready .sound in
-      let most : r .updates ≤ 32 * r .instants = omega (arith, ok .updates, mul-le-mul-right (r .instants) (limits .n)) in
+      let most : r .clocks .updates ≤ 32 * r .clocks .instants = omega (arith, ok .updates, mul-le-mul-right (r .clocks .instants) (limits .n)) in
       rw e (omega (arith, ok .instants, ok .clock, rules .horizon, countOf-le moved 32))
 
   -- ---- 1. and 2.
   pub outputs-ready : DueReach due t (r .x) (r .s) (r .l)
   outputs-ready = due-reach p r (ready .sound) (ready .tick) (ready .due-set)
 
-  pub obeying-ready : CommandsReady (r .next) (p .commands) (p .n) (p .numbers)
-  obeying-ready = commands-ready p rules (r .next) (r .clock) (ready .sound .next)
+  pub obeying-ready : CommandsReady (r .clocks .next) (p .counts .commands) (p .counts .n) (p .commands .inputs)
+  obeying-ready = commands-ready p rules (r .clocks .next) (r .clocks .clock) (ready .sound .next)
 
   module _ {q1 v1 : List ℤ} (output : outputting q1 v1 ≡ each (outputOne t (r .x) (r .s) (r .l)) (has due) 32 (outputting (r .q) values))
       {u1 v2 : List ℤ} {commanded next : ℕ}
       (command : obeying u1 v2 commanded next
-      ≡ obeyFrom t (p .n) (p .ticks) (p .numbers) (p .values) (r .next) (p .commands - r .next) (obeying (r .inputs) v1 0 (r .next))) where
+      ≡ obeyFrom t (p .counts .n) (p .commands .ticks) (p .commands .inputs) (p .commands .values) (r .clocks .next) (p .counts .commands - r .clocks .next) (obeying (r .inputs) v1 0 (r .clocks .next))) where
     pub outputs-then : q1 ≡ q
     outputs-then = outputs-are p r (ready .sound) shaped t due (ready .due-set) values full (outputting q1 v1) output
 
@@ -131,7 +131,7 @@ module _ (p : Plan) (r : Running) {t due : ℕ} {ranges reach : List ℕ} {value
 
     done : Obeyed p (r .inputs) v1 t (obeying u1 v2 commanded next)
     done =
-        obeyed p rules (r .inputs) v1 (r .clock) t (r .next)
+        obeyed p rules (r .inputs) v1 (r .clocks .clock) t (r .clocks .next)
         (record {
           inputs-width = shaped .inputs;
           inputs-unused = ready .sound .running-unused .inputs;
@@ -149,54 +149,54 @@ module _ (p : Plan) (r : Running) {t due : ℕ} {ranges reach : List ℕ} {value
     next-then = done .next-is
 
     -- what `values` holds now
-    output-at : (i : ℕ) → i < p .n → int v2 i ≡ int q i
+    output-at : (i : ℕ) → i < p .counts .n → int v2 i ≡ int q i
     output-at i h =
         outputs-kept done i h
         ∙ values-are p r (ready .sound) shaped t due (ready .due-set) values full (outputting q1 v1) output old-output i h
 
-    kept-at : (i : ℕ) → p .n ≤ i → int v1 i ≡ int values i
+    kept-at : (i : ℕ) → p .counts .n ≤ i → int v1 i ≡ int values i
     kept-at = values-kept p r (ready .sound) shaped t due (ready .due-set) values full (outputting q1 v1) output
 
-    input-at : (j : ℕ) → j < p .m → int v2 (p .n + j) ≡ int u j
-    input-at = done .sources (λ j h. kept-at (p .n + j) (omega arith) ∙ old-input j h)
+    input-at : (j : ℕ) → j < p .counts .m → int v2 (p .counts .n + j) ≡ int u j
+    input-at = done .sources (λ j h. kept-at (p .counts .n + j) (omega arith) ∙ old-input j h)
 
-    node-at : (i : ℕ) → p .n + p .m ≤ i → int v2 i ≡ int values i
+    node-at : (i : ℕ) → p .counts .n + p .counts .m ≤ i → int v2 i ≡ int values i
     node-at i h = nodes-kept done i h ∙ kept-at i (omega arith)
 
-    source-at : (i : ℕ) → i < p .n + p .m → int v2 i ≡ valueWith p q u zero i
+    source-at : (i : ℕ) → i < p .counts .n + p .counts .m → int v2 i ≡ valueWith p q u zero i
     source-at i h =
-        source-cases (p .n) (p .m) i (λ k. int v2 k ≡ valueWith p q u zero k) h
+        source-cases (p .counts .n) (p .counts .m) i (λ k. int v2 k ≡ valueWith p q u zero k) h
         (λ k l. output-at k l ∙ sym (output-value p q u k l)) (λ j l. input-at j l ∙ sym (input-value p q u j l))
 
     sized : (i : ℕ) → ∣ int v2 i ∣ ≤ M
-    sized i = go (ltb i (p .n + p .m)) refl
+    sized i = go (ltb i (p .counts .n + p .counts .m)) refl
       where
-        go : (b : Bool) → ltb i (p .n + p .m) ≡ b → ∣ int v2 i ∣ ≤ M
+        go : (b : Bool) → ltb i (p .counts .n + p .counts .m) ≡ b → ∣ int v2 i ∣ ≤ M
         go true e =
-            source-cases (p .n) (p .m) i (λ k. ∣ int v2 k ∣ ≤ M) (ltb-true i (p .n + p .m) e)
+            source-cases (p .counts .n) (p .counts .m) i (λ k. ∣ int v2 k ∣ ≤ M) (ltb-true i (p .counts .n + p .counts .m) e)
             (λ k l. rw (output-at k l) (output-size p r (ready .sound) t takes k l))
             (λ j l. rw (input-at j l) (setting-size p r (ready .sound) t takes j l))
-        go false e = rw (node-at i (ltb-false i (p .n + p .m) e)) (old-sized i)
+        go false e = rw (node-at i (ltb-false i (p .counts .n + p .counts .m) e)) (old-sized i)
 
-    pub nodes-ready-then : NodesReady (p .lefts) (p .rights) (p .lows) (p .highs) v2 (p .n + p .m) (p .k)
+    pub nodes-ready-then : NodesReady (p .nodes .a) (p .nodes .b) (p .nodes .lows) (p .nodes .highs) v2 (p .counts .n + p .counts .m) (p .counts .k)
     nodes-ready-then = nodes-ready p rules v2 sized
 
     -- ---- 3. and 4.
-    module _ {changed nodes reached-set : ℕ} (changed-is : changed ≡ joinedOf due commanded (p .n))
+    module _ {changed nodes reached-set : ℕ} (changed-is : changed ≡ joinedOf due commanded (p .counts .n))
         (reached-is : reached-set ≡ entriesOf reach changed % 2 ^ 32) (nodes-is : nodes ≡ entriesOf reach changed / 2 ^ 32) where
-      changed-then : changed ≡ maskOf (changes p (r .d) t) (p .n + p .m)
+      changed-then : changed ≡ maskOf (changes p (r .d) t) (p .counts .n + p .counts .m)
       changed-then = changed-is ∙ reaching.joined-changes p (r .d) t due commanded (ready .due-set) (done .commanded-are)
 
-      nodes-then : nodes ≡ maskOf (λ j. dependsWith p (r .d) t (p .k) (p .n + p .m + j)) (p .k)
+      nodes-then : nodes ≡ maskOf (λ j. dependsWith p (r .d) t (p .counts .k) (p .counts .n + p .counts .m + j)) (p .counts .k)
       nodes-then = nodes-is ∙ rw (ready .reach-is) (reaching.touched-mask p rules (r .d) t changed changed-then)
 
-      reached-then : reached-set ≡ maskOf (reached p (r .d) t) (p .n)
+      reached-then : reached-set ≡ maskOf (reached p (r .d) t) (p .counts .n)
       reached-then = reached-is ∙ rw (ready .reach-is) (reaching.reached-mask p rules (r .d) t changed changed-then)
 
-      pub nodes-below : nodes < 2 ^ p .k
-      nodes-below = rw nodes-then (maskOf-lt _ (p .k))
+      pub nodes-below : nodes < 2 ^ p .counts .k
+      nodes-below = rw nodes-then (maskOf-lt _ (p .counts .k))
 
-      module _ {v3 : List ℤ} (worked : v3 ≡ each (nodeStep (p .kinds) (p .lefts) (p .rights) (p .lows) (p .highs) (p .n + p .m)) (has nodes) 32 v2) where
+      module _ {v3 : List ℤ} (worked : v3 ≡ each (nodeStep (p .nodes .kinds) (p .nodes .a) (p .nodes .b) (p .nodes .lows) (p .nodes .highs) (p .counts .n + p .counts .m)) (has nodes) 32 v2) where
         pub values-then : v3 ≡ valuesOf p q u
         values-then =
             worked
@@ -204,7 +204,7 @@ module _ (p : Plan) (r : Running) {t due : ℕ} {ranges reach : List ℕ} {value
             (λ j h e. setting-kept p (r .inputs) t j (limits .m) h e) v2 (done .same-length ∙ full-then) source-at
             (λ i h. node-at i h ∙ ap (λ vs. int vs i) (ready .values-are)) nodes nodes-then
 
-        value-then : (i : ℕ) → i < p .n + p .m + p .k → int v3 i ≡ valueOf p q u i
+        value-then : (i : ℕ) → i < p .counts .n + p .counts .m + p .counts .k → int v3 i ≡ valueOf p q u i
         value-then i h = rw values-then (values-at p q u rules i h)
 
         sized-then : (i : ℕ) → ∣ int v3 i ∣ ≤ M
@@ -212,11 +212,11 @@ module _ (p : Plan) (r : Running) {t due : ℕ} {ranges reach : List ℕ} {value
             rw values-then
             (values-sized p q u rules (output-size p r (ready .sound) t takes) (setting-size p r (ready .sound) t takes))
 
-        first-then : (i : ℕ) → i < p .n + p .m → int v3 i ≡ valueWith p q u zero i
+        first-then : (i : ℕ) → i < p .counts .n + p .counts .m → int v3 i ≡ valueWith p q u zero i
         first-then i h =
-            source-cases (p .n) (p .m) i (λ k. int v3 k ≡ valueWith p q u zero k) h
+            source-cases (p .counts .n) (p .counts .m) i (λ k. int v3 k ≡ valueWith p q u zero k) h
             (λ k l. value-then k (omega arith) ∙ integrator-value p q u k l ∙ sym (output-value p q u k l))
-            (λ j l. value-then (p .n + j) (omega arith) ∙ setting-value p q u j l ∙ sym (input-value p q u j l))
+            (λ j l. value-then (p .counts .n + j) (omega arith) ∙ setting-value p q u j l ∙ sym (input-value p q u j l))
 
         -- ---- events
         pub events-ready-then : EventsReady changed t v3 at size
@@ -227,25 +227,25 @@ module _ (p : Plan) (r : Running) {t due : ℕ} {ranges reach : List ℕ} {value
         events-then = events-are p rules (r .d) t q u v3 changed changed-then first-then ∙ rw (ready .tick)
 
         -- ---- 5. and 6.
-        module _ (engine : Engine) {moved : ℕ} (moved-is : moved ≡ movedSet engine (p .n) due reached-set) where
-          moved-then : moved ≡ maskOf (moves p engine (r .d) t) (p .n)
+        module _ (engine : Engine) {moved : ℕ} (moved-is : moved ≡ movedSet engine (p .counts .n) due reached-set) where
+          moved-then : moved ≡ maskOf (moves p engine (r .d) t) (p .counts .n)
           unfolding movedSet moves
           moved-then = moved-is ∙ go engine
             where
-              go : (e : Engine) → movedSet e (p .n) due reached-set ≡ maskOf (moves p e (r .d) t) (p .n)
-              go Lazy = rw (ready .due-set, reached-then) (maskOf-or (isDue (r .d) t) (reached p (r .d) t) (p .n))
+              go : (e : Engine) → movedSet e (p .counts .n) due reached-set ≡ maskOf (moves p e (r .d) t) (p .counts .n)
+              go Lazy = rw (ready .due-set, reached-then) (maskOf-or (isDue (r .d) t) (reached p (r .d) t) (p .counts .n))
               go Eager = refl
 
-          pub moves-ready : AllMovable t ranges (p .sources) (p .coefficients) (p .quanta) v3 moved (moving (r .x) (r .s) (r .l) (r .d))
+          pub moves-ready : AllMovable t ranges (p .links .sources) (p .links .coefficients) (p .integrators .quanta) v3 moved (moving (r .x) (r .s) (r .l) (r .d))
           moves-ready =
               rw (ready .ranges-are, moved-then)
               (all-movable p r (ready .sound) t takes v3 value-then (moves p engine (r .d) t) sized-then)
 
           module _ {x s : List ℤ} {l d : List ℕ}
-              (move : moving x s l d ≡ each (moveOne t ranges (p .sources) (p .coefficients) (p .quanta) v3) (has moved) 32 (moving (r .x) (r .s) (r .l) (r .d)))
+              (move : moving x s l d ≡ each (moveOne t ranges (p .links .sources) (p .links .coefficients) (p .integrators .quanta) v3) (has moved) 32 (moving (r .x) (r .s) (r .l) (r .d)))
               {grown : ℕ} (counted : grown ≡ countOf (has moved) 32) where
-            count-then : grown ≡ countOf (moves p engine (r .d) t) (p .n)
-            count-then = counted ∙ rw moved-then (countOf-mask (moves p engine (r .d) t) (p .n) 32 (limits .n))
+            count-then : grown ≡ countOf (moves p engine (r .d) t) (p .counts .n)
+            count-then = counted ∙ rw moved-then (countOf-mask (moves p engine (r .d) t) (p .counts .n) 32 (limits .n))
 
             figures-then : moving x s l d
                 ≡ moving (takenAt p r t (moves p engine (r .d) t) .x) (takenAt p r t (moves p engine (r .d) t) .s)
@@ -254,7 +254,7 @@ module _ (p : Plan) (r : Running) {t due : ℕ} {ranges reach : List ℕ} {value
                 move ∙ rw (ready .ranges-are, moved-then) (moved-figures p r (ready .sound) t takes v3 value-then (moves p engine (r .d) t) shaped)
 
             pub running-then : _≡_ {A = Running}
-                (record { x = x; q = q1; s = s; l = l; d = d; inputs = u1; clock = t; next = next; instants = r .instants + 1; updates = r .updates + grown })
+                (runningOf x q1 s l d u1 (record { clock = t; next = next; instants = r .clocks .instants + 1; updates = r .clocks .updates + grown }))
                 (instant p engine r)
             unfolding instant takenAt
             running-then =

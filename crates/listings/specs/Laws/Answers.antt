@@ -101,7 +101,7 @@ module _ (st : State) (ok : Sound st) (buffer : List ℕ) (room : 30720 ≤ leng
     lines-inside = (omega (arith, p .size, lines-most), length-printed p (omega (arith, lines-most)))
 
     abbrev end : List ℕ
-    end = endLine (ran .status) (ran .state .run .clock) (ran .state .run .instants) (ran .state .run .updates)
+    end = endLine (ran .status) (ran .state .run .clocks .clock) (ran .state .run .clocks .instants) (ran .state .run .clocks .updates)
 
     end-is : end ≡ closing (turnState st .plan) (turnState st .run)
     unfolding closing

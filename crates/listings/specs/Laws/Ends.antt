@@ -34,12 +34,12 @@ module _ (p : Plan) (engine : Engine) where
       )
       (events-append p (replicate a engine) (replicate b engine) r)
 
-  instant-clock : (r : Running) → SoundRunning p r → r .clock < instant p engine r .clock
+  instant-clock : (r : Running) → SoundRunning p r → r .clocks .clock < instant p engine r .clocks .clock
   unfolding instant takenAt
   instant-clock r ok = tick-after p r ok
 
   -- ---- the budget that is enough: each instant moves the clock on, and none is behind the horizon
-  pub stops : (b : ℕ) (r : Running) → SoundRunning p r → p .horizon ≤ b + r .clock → statusOf p (after p engine b r) ≡ 0 → ⊥
+  pub stops : (b : ℕ) (r : Running) → SoundRunning p r → p .horizon ≤ b + r .clocks .clock → statusOf p (after p engine b r) ≡ 0 → ⊥
   unfolding after
   stops zero r ok h e =
       let l : tickOf p r ≤ p .horizon = tick-horizon p r (is-paused p r e) in omega (arith, tick-after p r ok)
@@ -51,7 +51,7 @@ module _ (p : Plan) (engine : Engine) where
       go false t s ih = true≢false (sym (is-paused p r s) ∙ t)
 
   -- a larger budget ends at the same place, with the same events
-  module _ (b k : ℕ) (r : Running) (ok : SoundRunning p r) (h : p .horizon ≤ b + r .clock) where
+  module _ (b k : ℕ) (r : Running) (ok : SoundRunning p r) (h : p .horizon ≤ b + r .clocks .clock) where
     pub after-enough : after p engine (b + k) r ≡ after p engine b r
     after-enough = after-parts b k r ∙ run-stopped p engine k (after p engine b r) (stops b r ok h) .0
 

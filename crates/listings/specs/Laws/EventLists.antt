@@ -59,12 +59,12 @@ chosen test t value (suc n) h = both (chosen test t value n (omega arith)) (go (
     go true = one t n (value n) (omega arith)
     go false = none
 
-module _ (p : Plan) (few : p .n + p .m ≤ 10 ^ 2) where
+module _ (p : Plan) (few : p .counts .n + p .counts .m ≤ 10 ^ 2) where
   instant-list : (r : Running) → EventList (eventsOf p r)
   unfolding eventsOf eventsAt
   instant-list r =
       let t = tickOf p r in
-      chosen (changes p (r .d) t) t (λ i. valueWith p (outputs p r t) (settings p (r .inputs) t) zero i) (p .n + p .m) few
+      chosen (changes p (r .d) t) t (λ i. valueWith p (outputs p r t) (settings p (r .inputs) t) zero i) (p .counts .n + p .counts .m) few
 
   pub run-list : (engine : Engine) (b : ℕ) (r : Running) → EventList (events p engine b r)
   unfolding events

@@ -47,7 +47,7 @@ module _ (p : Plan) (r : Running) (ok : SoundRunning p r) where
   closing-fits =
       let printed = state-limits p r ok .printed in
       let status = status-most p (r .d) (tickOf p r) (positionAt r (tickOf p r)) in
-      end-most (statusOf p r) (r .clock) (r .instants) (r .updates) (omega arith) (printed .clock) (printed .instants) (printed .updates)
+      end-most (statusOf p r) (r .clocks .clock) (r .clocks .instants) (r .clocks .updates) (omega arith) (printed .clock) (printed .instants) (printed .updates)
 
 pub turn-fits : (st : State) → Sound st → length (turnText st) ≤ 66600
 unfolding turnText turnState ranState ranEvents

@@ -50,7 +50,7 @@ module _ (p : Plan) (r : Running) (ok : SoundRunning p r) where
   then = after p Lazy 64 r
 
   -- 64 instants, and the listing from there on
-  pub listed-turn : SoundRunning p then → (b : ℕ) → p .horizon ≤ b + r .clock → listedBy p b r ≡ eventLines (events p Lazy 64 r) ++ listedBy p b then
+  pub listed-turn : SoundRunning p then → (b : ℕ) → p .horizon ≤ b + r .clocks .clock → listedBy p b r ≡ eventLines (events p Lazy 64 r) ++ listedBy p b then
   unfolding listedBy
   listed-turn next b h =
       let lists = run-list p (omega (arith, counts-of p (ok .plan .counts))) Lazy in
@@ -82,11 +82,11 @@ turns-end st ok =
       moves = λ e. (moved p r ok (eqb-true (statusOf p (after p Lazy 64 r)) 0 e), sound .clock);
     }
   where
-    moved : (p : Plan) (r : Running) → SoundRunning p r → statusOf p (after p Lazy 64 r) ≡ 0 → r .clock < after p Lazy 64 r .clock
+    moved : (p : Plan) (r : Running) → SoundRunning p r → statusOf p (after p Lazy 64 r) ≡ 0 → r .clocks .clock < after p Lazy 64 r .clocks .clock
     moved p r ok = rw (after-by p Lazy 64 r) (λ e. clock-moves p Lazy (replicate 63 Lazy) r ok (is-paused p (afterBy p (replicate 64 Lazy) r) e))
 
 -- ---- the turns from a sound state on are the listing from there on, in every budget that is enough
-print-from : (turns : ℕ) (st : State) → Sound st → st .plan .horizon < turns + st .run .clock → (b : ℕ) → st .plan .horizon ≤ b + st .run .clock
+print-from : (turns : ℕ) (st : State) → Sound st → st .plan .horizon < turns + st .run .clocks .clock → (b : ℕ) → st .plan .horizon ≤ b + st .run .clocks .clock
     → turnsFrom turns st ≡ listedBy (st .plan) b (st .run)
 unfolding turnsFrom turnText turnMore turnState ranState ranEvents
 print-from zero st ok h b l = absurd (omega (arith, ok .clock))

@@ -32,7 +32,7 @@ turn-ready st before ok t a = record { sound = rw t (turns-end st ok .sound); in
 
 -- ---- the measure: the ticks up to the horizon, or none where no turn follows
 unfoldable pub ticksLeft : Turn → ℕ
-ticksLeft turn = cond (turn .more) (suc (turn .state .plan .horizon - turn .state .run .clock)) 0
+ticksLeft turn = cond (turn .more) (suc (turn .state .plan .horizon - turn .state .run .clocks .clock)) 0
 
 pub ticks-fall : (last : Turn) {turn : Turn} → Sound (last .state) → last .more ≡ true → turn ≡ turnOf (last .state) → ticksLeft turn < ticksLeft last
 unfolding ticksLeft turnOf
@@ -42,6 +42,6 @@ ticks-fall last ok e t = rw (t, e) (go (turnMore (last .state)) refl)
     st = last .state
 
     go : (more : Bool) → turnMore st ≡ more
-        → cond more (suc (turnState st .plan .horizon - turnState st .run .clock)) 0 < suc (st .plan .horizon - st .run .clock)
+        → cond more (suc (turnState st .plan .horizon - turnState st .run .clocks .clock)) 0 < suc (st .plan .horizon - st .run .clocks .clock)
     go true m = let end = turns-end st ok in rw (end .plan) (omega (arith, end .moves m))
     go false m = omega arith

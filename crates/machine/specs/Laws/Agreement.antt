@@ -33,21 +33,21 @@ pub record Agrees (p : Plan) (r : Running) (m : Plain) : Type 0 where
   pub s : r .s ≡ m .s
   pub d : r .d ≡ m .d
   pub inputs : r .inputs ≡ m .inputs
-  pub clock : r .clock ≡ m .clock
-  pub next : r .next ≡ m .next
-  pub instants : r .instants ≡ m .instants
-  pub place : (i : ℕ) → i < p .n → positionOf r i ≡ int (m .x) i
+  pub clock : r .clocks .clock ≡ m .clock
+  pub next : r .clocks .next ≡ m .next
+  pub instants : r .clocks .instants ≡ m .instants
+  pub place : (i : ℕ) → i < p .counts .n → positionOf r i ≡ int (m .x) i
 
 module _ (p : Plan) (r : Running) (ok : SoundRunning p r) where
-  tick-from : r .clock ≤ tickOf p r
+  tick-from : r .clocks .clock ≤ tickOf p r
   tick-from = omega (arith, tick-after p r ok)
 
   -- a later position, from the one at the clock
-  later : (t i : ℕ) → r .clock ≤ t → i < p .n → positionAt r t i ≡ positionOf r i +ℤ int (r .s) i *ℤ pos (t - r .clock)
+  later : (t i : ℕ) → r .clocks .clock ≤ t → i < p .counts .n → positionAt r t i ≡ positionOf r i +ℤ int (r .s) i *ℤ pos (t - r .clocks .clock)
   unfolding positionOf positionAt
   later t i h l =
-      let split : t - nat (r .l) i ≡ (r .clock - nat (r .l) i) + (t - r .clock) = omega (arith, ok .integrators i l .moved) in
-      rw split (forward (int (r .x) i) (int (r .s) i) (r .clock - nat (r .l) i) (t - r .clock))
+      let split : t - nat (r .l) i ≡ (r .clocks .clock - nat (r .l) i) + (t - r .clocks .clock) = omega (arith, ok .integrators i l .moved) in
+      rw split (forward (int (r .x) i) (int (r .s) i) (r .clocks .clock - nat (r .l) i) (t - r .clocks .clock))
     where
       forward : (x s : ℤ) (a b : ℕ) → x +ℤ s *ℤ pos (a + b) ≡ x +ℤ s *ℤ pos a +ℤ s *ℤ pos b
       forward x s a b =
@@ -59,7 +59,7 @@ module _ (p : Plan) (r : Running) (ok : SoundRunning p r) where
     unfolding tickOf plainTick
     same-tick = rw (a .d, a .next)
 
-    pub same-position : (i : ℕ) → i < p .n → positionAt r (tickOf p r) i ≡ plainPosition p m i
+    pub same-position : (i : ℕ) → i < p .counts .n → positionAt r (tickOf p r) i ≡ plainPosition p m i
     unfolding plainPosition
     same-position i h = later (tickOf p r) i tick-from h ∙ rw (same-tick, a .place i h, a .s, a .clock)
 
@@ -74,7 +74,7 @@ module _ (p : Plan) (r : Running) (ok : SoundRunning p r) where
 
     pub same-outputs : outputs p r (tickOf p r) ≡ plainOutputs p m
     unfolding outputs plainOutputs
-    same-outputs = row-ext (pos 0) 32 (p .n) _ _ (λ i h. rw (same-position i h, same-tick, a .d, a .q))
+    same-outputs = row-ext (pos 0) 32 (p .counts .n) _ _ (λ i h. rw (same-position i h, same-tick, a .d, a .q))
 
     pub same-settings : settings p (r .inputs) (tickOf p r) ≡ settings p (m .inputs) (plainTick p m)
     same-settings = rw (same-tick, a .inputs)
@@ -92,12 +92,12 @@ module _ (p : Plan) (r : Running) (ok : SoundRunning p r) where
     same-slope i = rw (same-outputs, same-settings)
 
     abbrev new-x : List ℤ
-    new-x = row (pos 0) 32 (p .n) (plainPosition p m)
+    new-x = row (pos 0) 32 (p .counts .n) (plainPosition p m)
 
-    new-x-at : (i : ℕ) → i < p .n → int new-x i ≡ plainPosition p m i
-    new-x-at i h = row-at (pos 0) 32 (p .n) (plainPosition p m) i (counts-of p (ok .plan .counts) .n) h
+    new-x-at : (i : ℕ) → i < p .counts .n → int new-x i ≡ plainPosition p m i
+    new-x-at i h = row-at (pos 0) 32 (p .counts .n) (plainPosition p m) i (counts-of p (ok .plan .counts) .n) h
 
-    same-due : (i : ℕ) → i < p .n → dueThen p r (tickOf p r) i ≡ dueOf p (plainOutputs p m) i (plainTick p m) (int new-x i) (new-slope i)
+    same-due : (i : ℕ) → i < p .counts .n → dueThen p r (tickOf p r) i ≡ dueOf p (plainOutputs p m) i (plainTick p m) (int new-x i) (new-slope i)
     unfolding dueThen
     same-due i h =
         rw (x-then p (counts-of p (ok .plan .counts)) r (tickOf p r) i h, same-position i h, same-outputs, same-slope i, new-x-at i h, same-tick)
@@ -110,8 +110,8 @@ module _ (p : Plan) (r : Running) (ok : SoundRunning p r) where
         let cover = covers p engine (r .d) t in
         record {
           q = same-outputs;
-          s = slopes-then p r ok t tick-from (tick-due p r) who cover ∙ row-ext (pos 0) 32 (p .n) _ _ (λ i h. same-slope i);
-          d = dues-then p r ok t tick-from (tick-due p r) who cover ∙ row-ext 0 32 (p .n) _ _ same-due;
+          s = slopes-then p r ok t tick-from (tick-due p r) who cover ∙ row-ext (pos 0) 32 (p .counts .n) _ _ (λ i h. same-slope i);
+          d = dues-then p r ok t tick-from (tick-due p r) who cover ∙ row-ext 0 32 (p .counts .n) _ _ same-due;
           inputs = same-settings;
           clock = same-tick;
           next = rw same-tick;
@@ -120,7 +120,7 @@ module _ (p : Plan) (r : Running) (ok : SoundRunning p r) where
         }
 
 -- ---- the start
-pub start-agrees : (p : Plan) → p .n ≤ 32 → Agrees p (startOf p) (plainStart p)
+pub start-agrees : (p : Plan) → p .counts .n ≤ 32 → Agrees p (startOf p) (plainStart p)
 unfolding startOf startSlope startDue plainStart settled positionOf positionAt
 start-agrees p wide =
     record {
@@ -131,7 +131,7 @@ start-agrees p wide =
       clock = refl;
       next = refl;
       instants = refl;
-      place = λ i h. unmoved (int (p .starts) i) (int (startOf p .s) i) (nat (startOf p .l) i);
+      place = λ i h. unmoved (int (p .integrators .starts) i) (int (startOf p .s) i) (nat (startOf p .l) i);
     }
   where
     unmoved : (x s : ℤ) (l : ℕ) → x +ℤ s *ℤ pos (0 - l) ≡ x

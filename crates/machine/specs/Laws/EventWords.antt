@@ -51,16 +51,16 @@ module _ (p : Plan) (t : ℕ) (d : List ℕ) (q u : List ℤ) where
   length-one : (i : ℕ) → length (eventOf p t q u i) ≡ 12
   length-one i = length-event t i (valueWith p q u zero i)
 
-  pub length-events : length (eventsAt p t d q u) ≡ 12 * countOf (changes p d t) (p .n + p .m)
+  pub length-events : length (eventsAt p t d q u) ≡ 12 * countOf (changes p d t) (p .counts .n + p .counts .m)
   unfolding eventsAt
-  length-events = length-chosen (changes p d t) (eventOf p t q u) 12 length-one (p .n + p .m)
+  length-events = length-chosen (changes p d t) (eventOf p t q u) 12 length-one (p .counts .n + p .counts .m)
 
   -- the event of source i stands behind those of the sources below it
-  module _ (i : ℕ) (h : i < p .n + p .m) (c : changes p d t i ≡ true) where
+  module _ (i : ℕ) (h : i < p .counts .n + p .counts .m) (c : changes p d t i ≡ true) where
     pub events-number : (bytes at : ℕ) → at + bytes ≤ 12
         → numberAt bytes (eventsAt p t d q u) (12 * countOf (changes p d t) i + at) ≡ numberAt bytes (eventOf p t q u i) at
     unfolding eventsAt
-    events-number bytes at l = number-chosen (changes p d t) (eventOf p t q u) 12 length-one bytes (p .n + p .m) i at h c l
+    events-number bytes at l = number-chosen (changes p d t) (eventOf p t q u) 12 length-one bytes (p .counts .n + p .counts .m) i at h c l
 
     pub events-tick : t < 2 ^ 32 → word (eventsAt p t d q u) (12 * countOf (changes p d t) i) ≡ t
     events-tick s = rw add-zero at (events-number 4 0 (omega arith)) ∙ event-tick t i (valueWith p q u zero i) s
@@ -75,4 +75,4 @@ module _ (p : Plan) (t : ℕ) (d : List ℕ) (q u : List ℤ) where
 -- the events are bytes
 pub bytes-events : (p : Plan) (t : ℕ) (d : List ℕ) (q u : List ℤ) → Bytes (eventsAt p t d q u)
 unfolding eventsAt eventBytes
-bytes-events p t d q u = bytes-chosen (changes p d t) (eventOf p t q u) (λ i. bytes-flat _) (p .n + p .m)
+bytes-events p t d q u = bytes-chosen (changes p d t) (eventOf p t q u) (λ i. bytes-flat _) (p .counts .n + p .counts .m)

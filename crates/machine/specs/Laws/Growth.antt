@@ -26,7 +26,7 @@ use Rattle.machine.specs.declared.Engine.the-variants.{Lazy, Eager}
 pub growth-least : (p : Plan) (engine : Engine) (m : Plain) → growth p Lazy m ≤ growth p engine m
 unfolding growth lazyCount
 growth-least p Lazy m = omega arith
-growth-least p Eager m = countOf-le _ (p .n)
+growth-least p Eager m = countOf-le _ (p .counts .n)
 
 pub growth-most : (p : Plan) (engine : Engine) (m : Plain) → growth p engine m ≤ growth p Eager m
 unfolding growth
@@ -35,22 +35,22 @@ growth-most p Eager m = omega arith
 
 module _ (p : Plan) (r : Running) (ok : SoundRunning p r) (m : Plain) (a : Agrees p r m) (engine : Engine) where
   -- how many the engine moves
-  moved-count : countOf (moves p engine (r .d) (tickOf p r)) (p .n) ≡ growth p engine m
+  moved-count : countOf (moves p engine (r .d) (tickOf p r)) (p .counts .n) ≡ growth p engine m
   unfolding growth lazyCount moves
   moved-count = rw (same-tick p r ok m a, a .d) (go engine)
     where
-      go : (e : Engine) → countOf (moves p e (m .d) (plainTick p m)) (p .n) ≡ growth p e m
+      go : (e : Engine) → countOf (moves p e (m .d) (plainTick p m)) (p .counts .n) ≡ growth p e m
       go Lazy = refl
-      go Eager = countOf-all (p .n)
+      go Eager = countOf-all (p .counts .n)
 
-  pub instant-updates : instant p engine r .updates ≡ r .updates + growth p engine m
+  pub instant-updates : instant p engine r .clocks .updates ≡ r .clocks .updates + growth p engine m
   unfolding instant takenAt
   instant-updates = rw moved-count
 
   -- "either way this is the number of integrators with l = c after it"
   pub instant-moved : movedNow p (instant p engine r) ≡ growth p engine m
   unfolding movedNow instant takenAt
-  instant-moved = countOf-ext _ _ (p .n) marked ∙ moved-count
+  instant-moved = countOf-ext _ _ (p .counts .n) marked ∙ moved-count
     where
       t : ℕ
       t = tickOf p r
@@ -58,7 +58,7 @@ module _ (p : Plan) (r : Running) (ok : SoundRunning p r) (m : Plain) (a : Agree
       who : ℕ → Bool
       who = moves p engine (r .d) t
 
-      marked : (i : ℕ) → i < p .n → eqb (nat (takenAt p r t who .l) i) t ≡ who i
+      marked : (i : ℕ) → i < p .counts .n → eqb (nat (takenAt p r t who .l) i) t ≡ who i
       marked i h = rw (l-at p (counts-of p (ok .plan .counts)) r t who i h) (go (who i))
         where
           go : (b : Bool) → eqb (cond b t (nat (r .l) i)) t ≡ b

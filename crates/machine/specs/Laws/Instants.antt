@@ -39,20 +39,20 @@ growth-ext p f g zero h = refl
 growth-ext p f g (suc k) h = rw (growth-ext p f g k (λ i l. h i (omega arith)), h k (omega arith))
 
 -- by the eager engine alone
-pub growth-eager : (p : Plan) (k : ℕ) → growthUpTo p (λ i. Eager) k ≡ p .n * k
+pub growth-eager : (p : Plan) (k : ℕ) → growthUpTo p (λ i. Eager) k ≡ p .counts .n * k
 unfolding growthUpTo growth
 growth-eager p zero = omega arith
 growth-eager p (suc k) = omega (arith, growth-eager p k)
 
 -- n times the instants that eager calls took, and the number due or reached over those that lazy calls took
-pub growth-parts : (p : Plan) (engine : ℕ → Engine) (k : ℕ) → growthUpTo p engine k ≡ p .n * eagerInstants engine k + lazyMoves p engine k
+pub growth-parts : (p : Plan) (engine : ℕ → Engine) (k : ℕ) → growthUpTo p engine k ≡ p .counts .n * eagerInstants engine k + lazyMoves p engine k
 unfolding growthUpTo growth eagerInstants lazyMoves isEager countOf
 growth-parts p engine zero = omega arith
 growth-parts p engine (suc k) = go (engine (k + 1)) (eagerInstants engine k) (lazyMoves p engine k) (growth-parts p engine k)
   where
-    go : (e : Engine) (eager moves : ℕ) → growthUpTo p engine k ≡ p .n * eager + moves
+    go : (e : Engine) (eager moves : ℕ) → growthUpTo p engine k ≡ p .counts .n * eager + moves
         → growthUpTo p engine k + growth p e (plainAfter p k)
-        ≡ p .n * cond (isEager e) (suc eager) eager + (moves + cond (isEager e) 0 (lazyCount p (plainAfter p k)))
+        ≡ p .counts .n * cond (isEager e) (suc eager) eager + (moves + cond (isEager e) 0 (lazyCount p (plainAfter p k)))
     go Lazy eager moves ih = omega arith
     go Eager eager moves ih = omega arith
 
@@ -113,17 +113,17 @@ module _ (p : Plan) (ok : SoundRunning p (startOf p)) (engines : List Engine) wh
         let h : k ≤ length engines = omega (arith, inside) in
         rw state-next (instant-moved p (stateAt p engines k) (state-sound k) (plainAfter p k) (state-agrees k h) (engineOf engines (k + 1)))
 
-    updates-next : stateAt p engines (k + 1) .updates ≡ stateAt p engines k .updates + growth p (engineOf engines (k + 1)) (plainAfter p k)
+    updates-next : stateAt p engines (k + 1) .clocks .updates ≡ stateAt p engines k .clocks .updates + growth p (engineOf engines (k + 1)) (plainAfter p k)
     updates-next =
         let h : k ≤ length engines = omega (arith, inside) in
         rw state-next (instant-updates p (stateAt p engines k) (state-sound k) (plainAfter p k) (state-agrees k h) (engineOf engines (k + 1)))
 
   -- ---- up to instant k
-  pub instants-at : (k : ℕ) → k ≤ plainAfter p (length engines) .instants → stateAt p engines k .instants ≡ k
+  pub instants-at : (k : ℕ) → k ≤ plainAfter p (length engines) .instants → stateAt p engines k .clocks .instants ≡ k
   instants-at k h =
       state-agrees k (omega (arith, takes-most p (length engines))) .instants ∙ taken-so-far p k (length engines) h
 
-  pub updates-at : (k : ℕ) → k ≤ plainAfter p (length engines) .instants → stateAt p engines k .updates ≡ growthUpTo p (engineOf engines) k
+  pub updates-at : (k : ℕ) → k ≤ plainAfter p (length engines) .instants → stateAt p engines k .clocks .updates ≡ growthUpTo p (engineOf engines) k
   unfolding stateAt afterBy growthUpTo startOf
   updates-at zero h = refl
   updates-at (suc k) h =
@@ -147,5 +147,5 @@ module _ (p : Plan) (ok : SoundRunning p (startOf p)) (engines : List Engine) wh
           ∙ after-stopped p (drop k engines) (stateAt p engines k) stop
       go false e = ap (λ es. afterBy p es (startOf p)) (sym (take-all k engines (ltb-false k (length engines) e)))
 
-  pub updates-end : afterBy p engines (startOf p) .updates ≡ growthUpTo p (engineOf engines) (plainAfter p (length engines) .instants)
-  updates-end = ap (λ r. r .updates) state-end ∙ updates-at (plainAfter p (length engines) .instants) (omega arith)
+  pub updates-end : afterBy p engines (startOf p) .clocks .updates ≡ growthUpTo p (engineOf engines) (plainAfter p (length engines) .instants)
+  updates-end = ap (λ r. r .clocks .updates) state-end ∙ updates-at (plainAfter p (length engines) .instants) (omega arith)

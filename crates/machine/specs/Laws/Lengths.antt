@@ -18,17 +18,17 @@ use Rattle.machine.specs.declared.Running.{Running}
 use Rattle.machine.specs.declared.Engine.{Engine}
 
 module _ (p : Plan) where
-  pub instant-bytes : (r : Running) → length (eventsOf p r) ≤ (p .n + p .m) * 12
+  pub instant-bytes : (r : Running) → length (eventsOf p r) ≤ (p .counts .n + p .counts .m) * 12
   unfolding eventsOf
   instant-bytes r =
       let t = tickOf p r in
       omega (
         arith,
         length-events p t (r .d) (outputs p r t) (settings p (r .inputs) t),
-        countOf-le (changes p (r .d) t) (p .n + p .m),
+        countOf-le (changes p (r .d) t) (p .counts .n + p .counts .m),
       )
 
-  pub run-bytes : (engine : Engine) (b : ℕ) (r : Running) → length (events p engine b r) ≤ b * (p .n + p .m) * 12
+  pub run-bytes : (engine : Engine) (b : ℕ) (r : Running) → length (events p engine b r) ≤ b * (p .counts .n + p .counts .m) * 12
   unfolding events
   run-bytes engine zero r = omega arith
   run-bytes engine (suc b) r = go (isPaused p r) (run-bytes engine b (instant p engine r))
@@ -36,7 +36,7 @@ module _ (p : Plan) where
       rest : List ℕ
       rest = events p engine b (instant p engine r)
 
-      go : (c : Bool) → length rest ≤ b * (p .n + p .m) * 12 → length (cond c (eventsOf p r ++ rest) []) ≤ suc b * (p .n + p .m) * 12
+      go : (c : Bool) → length rest ≤ b * (p .counts .n + p .counts .m) * 12 → length (cond c (eventsOf p r ++ rest) []) ≤ suc b * (p .counts .n + p .counts .m) * 12
       go true h = omega (arith, length-append (eventsOf p r) rest, instant-bytes r)
       go false h = omega arith
 

@@ -43,17 +43,17 @@ distance-least p q i x inside s =
 module _ (p : Plan) (q : List ℤ) (i : ℕ) (rule : IntegratorRule p i) (output : ∣ int q i ∣ ≤ M) where
   pub upper-size : ∣ upperLevel p q i ∣ ≤ 2 ^ 31
   unfolding upperLevel
-  upper-size = let a = int q i in let b = int (p .quanta) i in omega (arith, zs, sum a b, tight b)
+  upper-size = let a = int q i in let b = int (p .integrators .quanta) i in omega (arith, zs, sum a b, tight b)
 
   pub lower-size : ∣ lowerLevel p q i ∣ ≤ 2 ^ 31
   unfolding lowerLevel
-  lower-size = let a = int q i in let b = int (p .quanta) i in omega (arith, zs, dif a b, tight b)
+  lower-size = let a = int q i in let b = int (p .integrators .quanta) i in omega (arith, zs, dif a b, tight b)
 
   -- from level to level
   width : (upperLevel p q i -ℤ lowerLevel p q i) ≤ℤ pos (2 ^ 31)
   unfolding upperLevel lowerLevel
   width =
-      let a = int q i in let b = int (p .quanta) i in
+      let a = int q i in let b = int (p .integrators .quanta) i in
       omega (arith, zs, sum a b, dif a b, dif (a +ℤ b) (a -ℤ b), tight b)
 
   module _ (x : ℤ) (inside : Between p q i x) where

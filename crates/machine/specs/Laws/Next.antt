@@ -43,92 +43,92 @@ least-one d (suc n) h =
 
 -- ---- the next command
 module _ (p : Plan) (c : ℕ) where
-  found : First (λ e. ltb c (nat (p .ticks) e)) 0 (p .commands) (nextCommand p c)
+  found : First (λ e. ltb c (nat (p .commands .ticks) e)) 0 (p .counts .commands) (nextCommand p c)
   unfolding nextCommand
-  found = first (λ e. ltb c (nat (p .ticks) e)) 0 (p .commands)
+  found = first (λ e. ltb c (nat (p .commands .ticks) e)) 0 (p .counts .commands)
 
-  pub command-earlier : (e : ℕ) → e < nextCommand p c → nat (p .ticks) e ≤ c
-  command-earlier e h = ltb-false c (nat (p .ticks) e) (found .earlier e (omega arith) h)
+  pub command-earlier : (e : ℕ) → e < nextCommand p c → nat (p .commands .ticks) e ≤ c
+  command-earlier e h = ltb-false c (nat (p .commands .ticks) e) (found .earlier e (omega arith) h)
 
-  pub command-first : nextCommand p c < p .commands → c < nat (p .ticks) (nextCommand p c)
-  command-first h = ltb-true c (nat (p .ticks) (nextCommand p c)) (found .passes (omega arith))
+  pub command-first : nextCommand p c < p .counts .commands → c < nat (p .commands .ticks) (nextCommand p c)
+  command-first h = ltb-true c (nat (p .commands .ticks) (nextCommand p c)) (found .passes (omega arith))
 
-  pub command-most : nextCommand p c ≤ p .commands
+  pub command-most : nextCommand p c ≤ p .counts .commands
   command-most = omega (arith, found .most)
 
   -- these determine it
-  pub command-is : (next : ℕ) → next ≤ p .commands → ((e : ℕ) → e < next → nat (p .ticks) e ≤ c) → (next < p .commands → c < nat (p .ticks) next)
+  pub command-is : (next : ℕ) → next ≤ p .counts .commands → ((e : ℕ) → e < next → nat (p .commands .ticks) e ≤ c) → (next < p .counts .commands → c < nat (p .commands .ticks) next)
       → next ≡ nextCommand p c
   unfolding nextCommand
   command-is next h before this =
-      first-unique (λ e. ltb c (nat (p .ticks) e)) 0 (p .commands) next
+      first-unique (λ e. ltb c (nat (p .commands .ticks) e)) 0 (p .counts .commands) next
       (record {
         from = omega arith;
         most = omega arith;
-        earlier = λ e l k. le-ltb c (nat (p .ticks) e) (before e k);
-        passes = λ l. lt-ltb c (nat (p .ticks) next) (this (omega arith));
+        earlier = λ e l k. le-ltb c (nat (p .commands .ticks) e) (before e k);
+        passes = λ l. lt-ltb c (nat (p .commands .ticks) next) (this (omega arith));
       })
 
 -- ---- the tick of the next instant, by any due ticks and any next command
 module _ (p : Plan) (d : List ℕ) (next : ℕ) where
   next-most : nextTick p d next ≤ never
   unfolding nextTick
-  next-most = omega (arith, least-most d (p .n))
+  next-most = omega (arith, least-most d (p .counts .n))
 
-  pub next-due : (i : ℕ) → i < p .n → nextTick p d next ≤ nat d i
+  pub next-due : (i : ℕ) → i < p .counts .n → nextTick p d next ≤ nat d i
   unfolding nextTick
-  next-due i h = omega (arith, least-below d (p .n) i h)
+  next-due i h = omega (arith, least-below d (p .counts .n) i h)
 
-  pub next-command : next < p .commands → nextTick p d next ≤ nat (p .ticks) next
+  pub next-command : next < p .counts .commands → nextTick p d next ≤ nat (p .commands .ticks) next
   unfolding nextTick commandTick
-  next-command h = rw (lt-ltb next (p .commands) h) (omega arith)
+  next-command h = rw (lt-ltb next (p .counts .commands) h) (omega arith)
 
   -- what stands at or below all of them
-  pub next-above : (c : ℕ) → c ≤ never → ((i : ℕ) → i < p .n → c ≤ nat d i) → (next < p .commands → c ≤ nat (p .ticks) next) → c ≤ nextTick p d next
+  pub next-above : (c : ℕ) → c ≤ never → ((i : ℕ) → i < p .counts .n → c ≤ nat d i) → (next < p .counts .commands → c ≤ nat (p .commands .ticks) next) → c ≤ nextTick p d next
   unfolding nextTick commandTick
-  next-above c h f g = go (ltb next (p .commands)) refl
+  next-above c h f g = go (ltb next (p .counts .commands)) refl
     where
-      go : (b : Bool) → ltb next (p .commands) ≡ b → c ≤ min (leastDue d (p .n)) (cond b (nat (p .ticks) next) never)
-      go true e = omega (arith, least-above d (p .n) c h f, g (ltb-true next (p .commands) e))
-      go false e = omega (arith, least-above d (p .n) c h f)
+      go : (b : Bool) → ltb next (p .counts .commands) ≡ b → c ≤ min (leastDue d (p .counts .n)) (cond b (nat (p .commands .ticks) next) never)
+      go true e = omega (arith, least-above d (p .counts .n) c h f, g (ltb-true next (p .counts .commands) e))
+      go false e = omega (arith, least-above d (p .counts .n) c h f)
 
-  pub next-never : ((i : ℕ) → i < p .n → never ≤ nat d i) → (next < p .commands → never ≤ nat (p .ticks) next) → nextTick p d next ≡ never
+  pub next-never : ((i : ℕ) → i < p .counts .n → never ≤ nat d i) → (next < p .counts .commands → never ≤ nat (p .commands .ticks) next) → nextTick p d next ≡ never
   next-never f g = omega (arith, next-most, next-above never (omega arith) f g)
 
   -- it is one of them
   pub next-one : nextTick p d next < never
-      → ((i : ℕ) × (i < p .n) × (nat d i ≡ nextTick p d next)) ⊎ ((next < p .commands) × (nat (p .ticks) next ≡ nextTick p d next))
+      → ((i : ℕ) × (i < p .counts .n) × (nat d i ≡ nextTick p d next)) ⊎ ((next < p .counts .commands) × (nat (p .commands .ticks) next ≡ nextTick p d next))
   unfolding nextTick commandTick
   next-one h =
-      min-cases least command (One (min least command)) (λ l e. let f = least-one d (p .n) (omega arith) in inl (f .0, f .1, f .2 ∙ sym e))
-      (λ l e. inr (own (ltb next (p .commands)) refl (omega arith) (sym e)))
+      min-cases least command (One (min least command)) (λ l e. let f = least-one d (p .counts .n) (omega arith) in inl (f .0, f .1, f .2 ∙ sym e))
+      (λ l e. inr (own (ltb next (p .counts .commands)) refl (omega arith) (sym e)))
     where
       least : ℕ
-      least = leastDue d (p .n)
+      least = leastDue d (p .counts .n)
 
       command : ℕ
       command = commandTick p next
 
       One : ℕ → Type 0
-      One t = ((i : ℕ) × (i < p .n) × (nat d i ≡ t)) ⊎ ((next < p .commands) × (nat (p .ticks) next ≡ t))
+      One t = ((i : ℕ) × (i < p .counts .n) × (nat d i ≡ t)) ⊎ ((next < p .counts .commands) × (nat (p .commands .ticks) next ≡ t))
 
       -- a command's tick below never is one of a command
-      own : {t : ℕ} (b : Bool) → ltb next (p .commands) ≡ b → cond b (nat (p .ticks) next) never < never → cond b (nat (p .ticks) next) never ≡ t
-          → (next < p .commands) × (nat (p .ticks) next ≡ t)
-      own true e l k = (ltb-true next (p .commands) e, k)
+      own : {t : ℕ} (b : Bool) → ltb next (p .counts .commands) ≡ b → cond b (nat (p .commands .ticks) next) never < never → cond b (nat (p .commands .ticks) next) never ≡ t
+          → (next < p .counts .commands) × (nat (p .commands .ticks) next ≡ t)
+      own true e l k = (ltb-true next (p .counts .commands) e, k)
       own false e l k = absurd (omega arith)
 
 -- ---- by an engine's
 module _ (p : Plan) (r : Running) where
-  pub tick-due : (i : ℕ) → i < p .n → tickOf p r ≤ nat (r .d) i
+  pub tick-due : (i : ℕ) → i < p .counts .n → tickOf p r ≤ nat (r .d) i
   unfolding tickOf
-  tick-due = next-due p (r .d) (r .next)
+  tick-due = next-due p (r .d) (r .clocks .next)
 
-  pub tick-command : r .next < p .commands → tickOf p r ≤ nat (p .ticks) (r .next)
+  pub tick-command : r .clocks .next < p .counts .commands → tickOf p r ≤ nat (p .commands .ticks) (r .clocks .next)
   unfolding tickOf
-  tick-command = next-command p (r .d) (r .next)
+  tick-command = next-command p (r .d) (r .clocks .next)
 
-  pub tick-above : (c : ℕ) → c ≤ never → ((i : ℕ) → i < p .n → c ≤ nat (r .d) i) → (r .next < p .commands → c ≤ nat (p .ticks) (r .next))
+  pub tick-above : (c : ℕ) → c ≤ never → ((i : ℕ) → i < p .counts .n → c ≤ nat (r .d) i) → (r .clocks .next < p .counts .commands → c ≤ nat (p .commands .ticks) (r .clocks .next))
       → c ≤ tickOf p r
   unfolding tickOf
-  tick-above = next-above p (r .d) (r .next)
+  tick-above = next-above p (r .d) (r .clocks .next)

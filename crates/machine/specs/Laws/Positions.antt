@@ -33,7 +33,7 @@ move-most l t x upper lower s above below since early =
     let e = rw (due-moving l x upper lower s m) at early in let c = ticks-rounded x upper lower s above below m in
     let k : t - l ≤ ticksTo x upper lower s = omega arith in omega (arith, mul-le-mul-left ∣ s ∣ k))
 
-module _ (p : Plan) (r : Running) (sound : SoundRunning p r) (i : ℕ) (used : i < p .n) where
+module _ (p : Plan) (r : Running) (sound : SoundRunning p r) (i : ℕ) (used : i < p .counts .n) where
   pub inside : Between p (r .q) i (int (r .x) i)
   inside = near-between p (r .q) i (int (r .x) i) .0 (sound .integrators i used .near)
 
@@ -47,7 +47,7 @@ module _ (p : Plan) (r : Running) (sound : SoundRunning p r) (i : ℕ) (used : i
   output : ∣ int (r .q) i ∣ ≤ M
   output = sound .integrators i used .output
 
-  pub moved-before : (t : ℕ) → r .clock ≤ t → nat (r .l) i ≤ t
+  pub moved-before : (t : ℕ) → r .clocks .clock ≤ t → nat (r .l) i ≤ t
   moved-before t since = omega (arith, sound .integrators i used .moved)
 
   pub slope-size : ∣ int (r .s) i ∣ ≤ 56 * 2 ^ 38
@@ -59,7 +59,7 @@ module _ (p : Plan) (r : Running) (sound : SoundRunning p r) (i : ℕ) (used : i
       i)
 
   -- before its due tick it stays strictly between its levels
-  pub stays-inside : (t : ℕ) → r .clock ≤ t → t < nat (r .d) i → Between p (r .q) i (positionAt r t i)
+  pub stays-inside : (t : ℕ) → r .clocks .clock ≤ t → t < nat (r .d) i → Between p (r .q) i (positionAt r t i)
   unfolding positionAt
   stays-inside t since early =
       let before = rw due-is at early in
@@ -71,8 +71,8 @@ module _ (p : Plan) (r : Running) (sound : SoundRunning p r) (i : ℕ) (used : i
   pub position-size : ∣ positionOf r i ∣ < 2 ^ 31
   unfolding positionOf
   position-size =
-      inside-size p (r .q) i rule output (positionAt r (r .clock) i)
-      (stays-inside (r .clock) (omega arith) (sound .integrators i used .ahead))
+      inside-size p (r .q) i rule output (positionAt r (r .clocks .clock) i)
+      (stays-inside (r .clocks .clock) (omega arith) (sound .integrators i used .ahead))
 
   -- the due tick of one that moves
   due-soon : (int (r .s) i ≡ pos 0 → ⊥) → nat (r .d) i ≤ 2000000000 + (2 ^ 31 - 1)
@@ -92,14 +92,14 @@ module _ (p : Plan) (r : Running) (sound : SoundRunning p r) (i : ℕ) (used : i
       (λ m. inr (due-soon m))
 
   -- up to the due tick: the distance is below 2^31, and the last tick's move goes past the level by less than the slope's size
-  move-size : (t : ℕ) → r .clock ≤ t → t ≤ nat (r .d) i → ∣ int (r .s) i *ℤ pos (t - nat (r .l) i) ∣ < 2 ^ 31 + 56 * 2 ^ 38
+  move-size : (t : ℕ) → r .clocks .clock ≤ t → t ≤ nat (r .d) i → ∣ int (r .s) i *ℤ pos (t - nat (r .l) i) ∣ < 2 ^ 31 + 56 * 2 ^ 38
   move-size t since early =
       let x = int (r .x) i in let s = int (r .s) i in let d = distance x (upperLevel p (r .q) i) (lowerLevel p (r .q) i) s in
       let e = rw due-is at early in
       let move = move-most _ t _ _ _ _ (inside .above) (inside .below) (moved-before t since) e in
       omega (arith, zs, prod s (pos (t - nat (r .l) i)), slope-size, distance-most p (r .q) i rule output x inside s, tight d)
 
-  pub elapsed-size : (t : ℕ) → r .clock ≤ t → t ≤ nat (r .d) i → ∣ int (r .s) i *ℤ pos (t - nat (r .l) i) ∣ < 2 ^ 32 + 2 ^ 44
+  pub elapsed-size : (t : ℕ) → r .clocks .clock ≤ t → t ≤ nat (r .d) i → ∣ int (r .s) i *ℤ pos (t - nat (r .l) i) ∣ < 2 ^ 32 + 2 ^ 44
   elapsed-size t since early = omega (arith, move-size t since early)
 
   -- the value that it takes there

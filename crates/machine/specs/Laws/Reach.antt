@@ -17,94 +17,94 @@ use Rattle.machine.specs.Reach.{Changed, due, commanded, Depends, itself
 
 -- ---- commands
 module _ (p : Plan) (t j : ℕ) where
-  pub sets-means : (e : ℕ) → Means (setsInput p t j e) ((nat (p .ticks) e ≡ t) × (nat (p .numbers) e ≡ j))
+  pub sets-means : (e : ℕ) → Means (setsInput p t j e) ((nat (p .commands .ticks) e ≡ t) × (nat (p .commands .inputs) e ≡ j))
   unfolding setsInput
-  sets-means e = both (eqb-means (nat (p .ticks) e) t) (eqb-means (nat (p .numbers) e) j)
+  sets-means e = both (eqb-means (nat (p .commands .ticks) e) t) (eqb-means (nat (p .commands .inputs) e) j)
 
-  pub commanded-means : Means (isCommanded p t j) ((e : ℕ) × (e < p .commands) × (nat (p .ticks) e ≡ t) × (nat (p .numbers) e ≡ j))
+  pub commanded-means : Means (isCommanded p t j) ((e : ℕ) × (e < p .counts .commands) × (nat (p .commands .ticks) e ≡ t) × (nat (p .commands .inputs) e ≡ j))
   unfolding isCommanded
   commanded-means = (
-    λ h. let f = some-found (setsInput p t j) (p .commands) h in let s = sets-means (f .0) .0 (f .2) in (f .0, f .1, s .0, s .1),
-    λ f. some-here (setsInput p t j) (p .commands) (f .0) (f .1) (sets-means (f .0) .1 (f .2, f .3)),
+    λ h. let f = some-found (setsInput p t j) (p .counts .commands) h in let s = sets-means (f .0) .0 (f .2) in (f .0, f .1, s .0, s .1),
+    λ f. some-here (setsInput p t j) (p .counts .commands) (f .0) (f .1) (sets-means (f .0) .1 (f .2, f .3)),
   )
 
 module _ (p : Plan) (d : List ℕ) (t : ℕ) where
   -- ---- what changes
   changes-found : (i : ℕ) → changes p d t i ≡ true → Changed p d t i
   unfolding changes isDue
-  changes-found i = go (ltb i (p .n)) (ltb i (p .n + p .m)) refl refl
+  changes-found i = go (ltb i (p .counts .n)) (ltb i (p .counts .n + p .counts .m)) refl refl
     where
-      go : (a b : Bool) → ltb i (p .n) ≡ a → ltb i (p .n + p .m) ≡ b → cond a (eqb (nat d i) t) (b && isCommanded p t (i - p .n)) ≡ true
+      go : (a b : Bool) → ltb i (p .counts .n) ≡ a → ltb i (p .counts .n + p .counts .m) ≡ b → cond a (eqb (nat d i) t) (b && isCommanded p t (i - p .counts .n)) ≡ true
           → Changed p d t i
-      go true b h k e = due (ltb-true i (p .n) h) (eqb-true (nat d i) t e)
+      go true b h k e = due (ltb-true i (p .counts .n) h) (eqb-true (nat d i) t e)
       go false true h k e =
-          let c = commanded-means p t (i - p .n) .0 e in let l = ltb-false i (p .n) h in
-          commanded {i = i} (i - p .n) (c .0) (omega arith) (omega (arith, ltb-true i (p .n + p .m) k)) (c .1) (c .2) (c .3)
+          let c = commanded-means p t (i - p .counts .n) .0 e in let l = ltb-false i (p .counts .n) h in
+          commanded {i = i} (i - p .counts .n) (c .0) (omega arith) (omega (arith, ltb-true i (p .counts .n + p .counts .m) k)) (c .1) (c .2) (c .3)
       go false false h k e = absurd (true≢false (sym e))
 
-  changes-here : {i : ℕ} → Changed p d t i → (i < p .n + p .m) × (changes p d t i ≡ true)
+  changes-here : {i : ℕ} → Changed p d t i → (i < p .counts .n + p .counts .m) × (changes p d t i ≡ true)
   unfolding changes isDue
-  changes-here {i} (due h e) = (omega arith, rw (lt-ltb i (p .n) h, eq-eqb (nat d i) t e))
+  changes-here {i} (due h e) = (omega arith, rw (lt-ltb i (p .counts .n) h, eq-eqb (nat d i) t e))
   changes-here {i} (commanded j e k h l a b) =
-      let c = commanded-means p t j .1 (e, l, a, b) in let same : i - p .n ≡ j = omega arith in
-      (omega arith, rw (le-ltb i (p .n) (omega arith), lt-ltb i (p .n + p .m) (omega arith), same, c))
+      let c = commanded-means p t j .1 (e, l, a, b) in let same : i - p .counts .n ≡ j = omega arith in
+      (omega arith, rw (le-ltb i (p .counts .n) (omega arith), lt-ltb i (p .counts .n + p .counts .m) (omega arith), same, c))
 
   pub changes-means : (i : ℕ) → (changes p d t i ≡ true → Changed p d t i) × (Changed p d t i → changes p d t i ≡ true)
   changes-means i = (changes-found i, λ c. changes-here c .1)
 
   -- ---- what depends on it: a source below n + m + j has its answer once j nodes are looked at
-  depends-same : (j k i : ℕ) → j ≤ k → i < p .n + p .m + j → dependsWith p d t k i ≡ dependsWith p d t j i
+  depends-same : (j k i : ℕ) → j ≤ k → i < p .counts .n + p .counts .m + j → dependsWith p d t k i ≡ dependsWith p d t j i
   unfolding dependsWith
-  depends-same = settled-at (p .n + p .m) (dependsWith p d t) _ (λ j i. refl)
+  depends-same = settled-at (p .counts .n + p .counts .m) (dependsWith p d t) _ (λ j i. refl)
 
-  depends-found : (k i : ℕ) → k ≤ p .k → dependsWith p d t k i ≡ true → Depends p d t i
+  depends-found : (k i : ℕ) → k ≤ p .counts .k → dependsWith p d t k i ≡ true → Depends p d t i
   unfolding dependsWith
   depends-found zero i h = λ e. itself (changes-found i e)
   depends-found (suc k) i h =
-      go (λ s e. depends-found k s (omega arith) e) (eqb i (p .n + p .m + k)) refl (dependsWith p d t k a) refl
-      (eqb (nat (p .kinds) k) 2) refl
+      go (λ s e. depends-found k s (omega arith) e) (eqb i (p .counts .n + p .counts .m + k)) refl (dependsWith p d t k a) refl
+      (eqb (nat (p .nodes .kinds) k) 2) refl
     where
       a : ℕ
-      a = nat (p .lefts) k
+      a = nat (p .nodes .a) k
 
       b : ℕ
-      b = nat (p .rights) k
+      b = nat (p .nodes .b) k
 
-      go : ((s : ℕ) → dependsWith p d t k s ≡ true → Depends p d t s) → (this : Bool) → eqb i (p .n + p .m + k) ≡ this
-          → (onA : Bool) → dependsWith p d t k a ≡ onA → (two : Bool) → eqb (nat (p .kinds) k) 2 ≡ two
+      go : ((s : ℕ) → dependsWith p d t k s ≡ true → Depends p d t s) → (this : Bool) → eqb i (p .counts .n + p .counts .m + k) ≡ this
+          → (onA : Bool) → dependsWith p d t k a ≡ onA → (two : Bool) → eqb (nat (p .nodes .kinds) k) 2 ≡ two
           → cond this (onA || (not two && dependsWith p d t k b)) (dependsWith p d t k i) ≡ true → Depends p d t i
-      go ih true f true g two u e = left k (eqb-true i (p .n + p .m + k) f) h (ih a g)
+      go ih true f true g two u e = left k (eqb-true i (p .counts .n + p .counts .m + k) f) h (ih a g)
       go ih true f false g true u e = absurd (true≢false (sym e))
-      go ih true f false g false u e = right k (eqb-true i (p .n + p .m + k) f) h (eqb-false (nat (p .kinds) k) 2 u) (ih b e)
+      go ih true f false g false u e = right k (eqb-true i (p .counts .n + p .counts .m + k) f) h (eqb-false (nat (p .nodes .kinds) k) 2 u) (ih b e)
       go ih false f onA g two u e = ih i e
 
   -- an operand's answer is known where its node is looked at
-  operand : (j i : ℕ) → j < p .k → i < p .n + p .m + j → dependsWith p d t (p .k) i ≡ true → dependsWith p d t j i ≡ true
-  operand j i h l e = sym (depends-same j (p .k) i (omega arith) l) ∙ e
+  operand : (j i : ℕ) → j < p .counts .k → i < p .counts .n + p .counts .m + j → dependsWith p d t (p .counts .k) i ≡ true → dependsWith p d t j i ≡ true
+  operand j i h l e = sym (depends-same j (p .counts .k) i (omega arith) l) ∙ e
 
   -- by the plan rules a node's operands stand below it
   module _ (rules : PlanRules p) where
-    depends-here : {i : ℕ} → Depends p d t i → dependsWith p d t (p .k) i ≡ true
+    depends-here : {i : ℕ} → Depends p d t i → dependsWith p d t (p .counts .k) i ≡ true
     unfolding dependsWith
-    depends-here {i} (itself c) = let h = changes-here c in depends-same 0 (p .k) i (omega arith) (omega (arith, h .0)) ∙ h .1
+    depends-here {i} (itself c) = let h = changes-here c in depends-same 0 (p .counts .k) i (omega arith) (omega (arith, h .0)) ∙ h .1
     depends-here {i} (left j e h l) =
-        let on = operand j (nat (p .lefts) j) h (rules .nodes j h .left) (depends-here l) in
-        depends-same (suc j) (p .k) i h (omega arith) ∙ rw (eq-eqb i (p .n + p .m + j) e, on)
+        let on = operand j (nat (p .nodes .a) j) h (rules .nodes j h .left) (depends-here l) in
+        depends-same (suc j) (p .counts .k) i h (omega arith) ∙ rw (eq-eqb i (p .counts .n + p .counts .m + j) e, on)
     depends-here {i} (right j e h kind r) =
-        let on = operand j (nat (p .rights) j) h (rules .nodes j h .right kind) (depends-here r) in
-        depends-same (suc j) (p .k) i h (omega arith)
-        ∙ rw (eq-eqb i (p .n + p .m + j) e, ne-eqb (nat (p .kinds) j) 2 kind, on, or-true (dependsWith p d t j (nat (p .lefts) j)))
+        let on = operand j (nat (p .nodes .b) j) h (rules .nodes j h .right kind) (depends-here r) in
+        depends-same (suc j) (p .counts .k) i h (omega arith)
+        ∙ rw (eq-eqb i (p .counts .n + p .counts .m + j) e, ne-eqb (nat (p .nodes .kinds) j) 2 kind, on, or-true (dependsWith p d t j (nat (p .nodes .a) j)))
 
   -- ---- which integrators are reached
-  link-means : (i e : ℕ) → Means (linkReaches p d t i e) ((nat (p .targets) e ≡ i) × (dependsWith p d t (p .k) (nat (p .sources) e) ≡ true))
+  link-means : (i e : ℕ) → Means (linkReaches p d t i e) ((nat (p .links .targets) e ≡ i) × (dependsWith p d t (p .counts .k) (nat (p .links .sources) e) ≡ true))
   unfolding linkReaches
-  link-means i e = both (eqb-means (nat (p .targets) e) i) (λ h. h, λ h. h)
+  link-means i e = both (eqb-means (nat (p .links .targets) e) i) (λ h. h, λ h. h)
 
   reached-found : (i : ℕ) → reached p d t i ≡ true → Reached p d t i
   unfolding reached
   reached-found i h =
-      let f = some-found (linkReaches p d t i) (p .links) h in let l = link-means i (f .0) .0 (f .2) in
-      link (f .0) (f .1) (l .0) (depends-found (p .k) (nat (p .sources) (f .0)) (omega arith) (l .1))
+      let f = some-found (linkReaches p d t i) (p .counts .links) h in let l = link-means i (f .0) .0 (f .2) in
+      link (f .0) (f .1) (l .0) (depends-found (p .counts .k) (nat (p .links .sources) (f .0)) (omega arith) (l .1))
 
   -- one that is not
   pub reached-false : (i : ℕ) → (Reached p d t i → ⊥) → reached p d t i ≡ false
@@ -114,5 +114,5 @@ module _ (p : Plan) (d : List ℕ) (t : ℕ) where
   unfolding reached
   reach-means i rules = (reached-found i, here)
     where
-      here : Reached p d t i → some (linkReaches p d t i) (p .links) ≡ true
-      here (link e h k s) = some-here (linkReaches p d t i) (p .links) e h (link-means i e .1 (k, depends-here rules s))
+      here : Reached p d t i → some (linkReaches p d t i) (p .counts .links) ≡ true
+      here (link e h k s) = some-here (linkReaches p d t i) (p .counts .links) e h (link-means i e .1 (k, depends-here rules s))

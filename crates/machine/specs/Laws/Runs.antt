@@ -114,24 +114,24 @@ module _ (p : Plan) where
   run-sound = along (λ r end. SoundRunning p end) (λ r ok. ok) (λ engine r end ok ih. ih)
 
   -- ---- the clock goes on
-  instant-clock : (engine : Engine) (r : Running) → SoundRunning p r → r .clock < instant p engine r .clock
+  instant-clock : (engine : Engine) (r : Running) → SoundRunning p r → r .clocks .clock < instant p engine r .clocks .clock
   unfolding instant takenAt
   instant-clock engine r ok = tick-after p r ok
 
-  clock-least : (engines : List Engine) (r : Running) → SoundRunning p r → r .clock ≤ afterBy engines r .clock
+  clock-least : (engines : List Engine) (r : Running) → SoundRunning p r → r .clocks .clock ≤ afterBy engines r .clocks .clock
   clock-least =
-      along (λ r end. r .clock ≤ end .clock) (λ r ok. omega arith) (λ engine r end ok ih. omega (arith, instant-clock engine r ok))
+      along (λ r end. r .clocks .clock ≤ end .clocks .clock) (λ r ok. omega arith) (λ engine r end ok ih. omega (arith, instant-clock engine r ok))
 
   -- a run that is still paused has moved it
   pub clock-moves : (engine : Engine) (engines : List Engine) (r : Running) → SoundRunning p r
-      → isPaused p (afterBy (engine ∷ engines) r) ≡ true → r .clock < afterBy (engine ∷ engines) r .clock
+      → isPaused p (afterBy (engine ∷ engines) r) ≡ true → r .clocks .clock < afterBy (engine ∷ engines) r .clocks .clock
   unfolding afterBy
   clock-moves engine engines r ok = go (isPaused p r) refl
     where
       next : Running
       next = instant p engine r
 
-      go : (b : Bool) → isPaused p r ≡ b → isPaused p (cond b (afterBy engines next) r) ≡ true → r .clock < cond b (afterBy engines next) r .clock
+      go : (b : Bool) → isPaused p r ≡ b → isPaused p (cond b (afterBy engines next) r) ≡ true → r .clocks .clock < cond b (afterBy engines next) r .clocks .clock
       go true e t = omega (arith, instant-clock engine r ok, clock-least engines next (instant-sound p r ok e engine))
       go false e t = absurd (true≢false (sym t ∙ e))
 

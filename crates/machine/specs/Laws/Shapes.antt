@@ -20,9 +20,9 @@ module _ (p : Plan) where
       record {
         x = s .starts;
         q = s .starts;
-        s = length-row (pos 0) 32 (p .n) _;
-        l = length-row 0 32 (p .n) _;
-        d = length-row 0 32 (p .n) _;
+        s = length-row (pos 0) 32 (p .counts .n) _;
+        l = length-row 0 32 (p .counts .n) _;
+        d = length-row 0 32 (p .counts .n) _;
         inputs = s .firsts;
       }
 
@@ -30,12 +30,12 @@ module _ (p : Plan) where
   unfolding instant takenAt outputs settings
   instant-shaped engine r =
       record {
-        x = length-row (pos 0) 32 (p .n) _;
-        q = length-row (pos 0) 32 (p .n) _;
-        s = length-row (pos 0) 32 (p .n) _;
-        l = length-row 0 32 (p .n) _;
-        d = length-row 0 32 (p .n) _;
-        inputs = length-row (pos 0) 8 (p .m) _;
+        x = length-row (pos 0) 32 (p .counts .n) _;
+        q = length-row (pos 0) 32 (p .counts .n) _;
+        s = length-row (pos 0) 32 (p .counts .n) _;
+        l = length-row 0 32 (p .counts .n) _;
+        d = length-row 0 32 (p .counts .n) _;
+        inputs = length-row (pos 0) 8 (p .counts .m) _;
       }
 
   pub after-shaped : (engine : Engine) (b : ℕ) (r : Running) → RunningShaped r → RunningShaped (after p engine b r)

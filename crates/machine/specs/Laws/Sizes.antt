@@ -41,34 +41,34 @@ node-size kind lo hi a b l h =
     (size-cond (leZ b a) _ _ M h l)))
 
 -- of the nodes' operands, whether or not a node's kind uses them
-pub operands-most : (p : Plan) → PlanRules p → (j : ℕ) → j < p .k → (nat (p .lefts) j ≤ 54) × (nat (p .rights) j ≤ 54)
-operands-most p rules j h = go (counts-of p (rules .counts)) (rules .nodes j h) (eqb (nat (p .kinds) j) 2) refl
+pub operands-most : (p : Plan) → PlanRules p → (j : ℕ) → j < p .counts .k → (nat (p .nodes .a) j ≤ 54) × (nat (p .nodes .b) j ≤ 54)
+operands-most p rules j h = go (counts-of p (rules .counts)) (rules .nodes j h) (eqb (nat (p .nodes .kinds) j) 2) refl
   where
-    go : Counts p → NodeRule p j → (b : Bool) → eqb (nat (p .kinds) j) 2 ≡ b → (nat (p .lefts) j ≤ 54) × (nat (p .rights) j ≤ 54)
-    go c r true e = omega (arith, r .unused (eqb-true (nat (p .kinds) j) 2 e))
-    go c r false e = omega (arith, r .right (eqb-false (nat (p .kinds) j) 2 e))
+    go : Counts p → NodeRule p j → (b : Bool) → eqb (nat (p .nodes .kinds) j) 2 ≡ b → (nat (p .nodes .a) j ≤ 54) × (nat (p .nodes .b) j ≤ 54)
+    go c r true e = omega (arith, r .unused (eqb-true (nat (p .nodes .kinds) j) 2 e))
+    go c r false e = omega (arith, r .right (eqb-false (nat (p .nodes .kinds) j) 2 e))
 
-limits-size : (p : Plan) (j : ℕ) → NodeRule p j → (∣ int (p .lows) j ∣ ≤ M) × (∣ int (p .highs) j ∣ ≤ M)
+limits-size : (p : Plan) (j : ℕ) → NodeRule p j → (∣ int (p .nodes .lows) j ∣ ≤ M) × (∣ int (p .nodes .highs) j ∣ ≤ M)
 limits-size p j r =
-    let w = node-limits p j r in (within-size M (int (p .lows) j) .0 (w .0), within-size M (int (p .highs) j) .0 (w .1))
+    let w = node-limits p j r in (within-size M (int (p .nodes .lows) j) .0 (w .0), within-size M (int (p .nodes .highs) j) .0 (w .1))
 
-module _ (p : Plan) (q u : List ℤ) (rules : PlanRules p) (outputs : (i : ℕ) → i < p .n → ∣ int q i ∣ ≤ M)
-    (inputs : (j : ℕ) → j < p .m → ∣ int u j ∣ ≤ M) where
-  with-size : (j : ℕ) → j ≤ p .k → (i : ℕ) → ∣ valueWith p q u j i ∣ ≤ M
+module _ (p : Plan) (q u : List ℤ) (rules : PlanRules p) (outputs : (i : ℕ) → i < p .counts .n → ∣ int q i ∣ ≤ M)
+    (inputs : (j : ℕ) → j < p .counts .m → ∣ int u j ∣ ≤ M) where
+  with-size : (j : ℕ) → j ≤ p .counts .k → (i : ℕ) → ∣ valueWith p q u j i ∣ ≤ M
   unfolding valueWith
-  with-size zero h i = go (ltb i (p .n)) (ltb i (p .n + p .m)) refl refl
+  with-size zero h i = go (ltb i (p .counts .n)) (ltb i (p .counts .n + p .counts .m)) refl refl
     where
-      go : (a b : Bool) → ltb i (p .n) ≡ a → ltb i (p .n + p .m) ≡ b → ∣ cond a (int q i) (cond b (int u (i - p .n)) (pos 0)) ∣ ≤ M
-      go true b e d = outputs i (ltb-true i (p .n) e)
-      go false true e d = inputs (i - p .n) (omega (arith, ltb-true, ltb-false))
+      go : (a b : Bool) → ltb i (p .counts .n) ≡ a → ltb i (p .counts .n + p .counts .m) ≡ b → ∣ cond a (int q i) (cond b (int u (i - p .counts .n)) (pos 0)) ∣ ≤ M
+      go true b e d = outputs i (ltb-true i (p .counts .n) e)
+      go false true e d = inputs (i - p .counts .n) (omega (arith, ltb-true, ltb-false))
       go false false e d = omega arith
   with-size (suc j) h i =
       let l = limits-size p j (rules .nodes j h) in
-      size-cond (eqb i (p .n + p .m + j)) _ _ M (node-size (nat (p .kinds) j) _ _ _ _ (l .0) (l .1)) (with-size j (omega arith) i)
+      size-cond (eqb i (p .counts .n + p .counts .m + j)) _ _ M (node-size (nat (p .nodes .kinds) j) _ _ _ _ (l .0) (l .1)) (with-size j (omega arith) i)
 
   pub value-size : (i : ℕ) → ∣ valueOf p q u i ∣ ≤ M
   unfolding valueOf
-  value-size i = with-size (p .k) (omega arith) i
+  value-size i = with-size (p .counts .k) (omega arith) i
 
   pub difference-size : (i j : ℕ) → ∣ valueOf p q u i -ℤ valueOf p q u j ∣ ≤ 2 ^ 31
   difference-size i j = size-sub (valueOf p q u i) (valueOf p q u j) M M (value-size i) (value-size j)
@@ -77,32 +77,32 @@ module _ (p : Plan) (q u : List ℤ) (rules : PlanRules p) (outputs : (i : ℕ) 
   product-size i j = size-mul (valueOf p q u i) (valueOf p q u j) M M (value-size i) (value-size j)
 
   -- ---- the rate
-  pub term-size : (e : ℕ) → e < p .links → ∣ int (p .coefficients) e *ℤ valueOf p q u (nat (p .sources) e) ∣ ≤ 2 ^ 54
+  pub term-size : (e : ℕ) → e < p .counts .links → ∣ int (p .links .coefficients) e *ℤ valueOf p q u (nat (p .links .sources) e) ∣ ≤ 2 ^ 54
   term-size e h =
-      let c = int (p .coefficients) e in
-      size-mul c (valueOf p q u (nat (p .sources) e)) 16777216 M (within-size 16777216 c .0 (rules .links e h .coefficient))
-      (value-size (nat (p .sources) e))
+      let c = int (p .links .coefficients) e in
+      size-mul c (valueOf p q u (nat (p .links .sources) e)) 16777216 M (within-size 16777216 c .0 (rules .links e h .coefficient))
+      (value-size (nat (p .links .sources) e))
 
   -- each own link adds at most one term's size
-  sum-by-links : (i e : ℕ) → e ≤ p .links → ∣ sumOver p q u i e ∣ ≤ ownLinks p i e * 2 ^ 54
+  sum-by-links : (i e : ℕ) → e ≤ p .counts .links → ∣ sumOver p q u i e ∣ ≤ ownLinks p i e * 2 ^ 54
   unfolding sumOver countOf
   sum-by-links i zero h = omega arith
-  sum-by-links i (suc e) h = go (eqb (nat (p .targets) e) i) (sum-by-links i e (omega arith))
+  sum-by-links i (suc e) h = go (eqb (nat (p .links .targets) e) i) (sum-by-links i e (omega arith))
     where
       v : ℤ
-      v = int (p .coefficients) e *ℤ valueOf p q u (nat (p .sources) e)
+      v = int (p .links .coefficients) e *ℤ valueOf p q u (nat (p .links .sources) e)
 
       go : (b : Bool) → ∣ sumOver p q u i e ∣ ≤ ownLinks p i e * 2 ^ 54
           → ∣ sumOver p q u i e +ℤ cond b v (pos 0) ∣ ≤ cond b (suc (ownLinks p i e)) (ownLinks p i e) * 2 ^ 54
       go true k = omega (arith, sum (sumOver p q u i e) v, term-size e h)
       go false k = omega (arith, sum (sumOver p q u i e) (pos 0))
 
-  pub sum-size : (i e : ℕ) → e ≤ p .links → ∣ sumOver p q u i e ∣ ≤ 56 * 2 ^ 54
+  pub sum-size : (i e : ℕ) → e ≤ p .counts .links → ∣ sumOver p q u i e ∣ ≤ 56 * 2 ^ 54
   sum-size i e h = omega (arith, sum-by-links i e h, own-before p rules i e h)
 
   pub rate-size : (i : ℕ) → ∣ rateOf p q u i ∣ ≤ 56 * 2 ^ 38
   unfolding rateOf
-  rate-size i = floor-size (sumOver p q u i (p .links)) 65536 (56 * 2 ^ 38) (sum-size i (p .links) (omega arith))
+  rate-size i = floor-size (sumOver p q u i (p .counts .links)) 65536 (56 * 2 ^ 38) (sum-size i (p .counts .links) (omega arith))
 
   pub rate-most : (i : ℕ) → ∣ rateOf p q u i ∣ < 2 ^ 44
   rate-most i = omega (arith, rate-size i)

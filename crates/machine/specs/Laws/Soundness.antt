@@ -33,62 +33,62 @@ use Rattle.machine.specs.declared.Engine.the-variants.{Lazy, Eager}
 
 -- ---- the engines
 -- what an engine leaves alone is neither due nor reached
-pub covers : (p : Plan) (engine : Engine) (d : List ℕ) (t i : ℕ) → i < p .n → moves p engine d t i ≡ false → (isDue d t i || reached p d t i) ≡ false
+pub covers : (p : Plan) (engine : Engine) (d : List ℕ) (t i : ℕ) → i < p .counts .n → moves p engine d t i ≡ false → (isDue d t i || reached p d t i) ≡ false
 unfolding moves
 covers p Lazy d t i h e = e
 covers p Eager d t i h e = absurd (true≢false e)
 
 -- at a tick past the clock and up to the horizon, up to which nothing is due, and at which the due ones' values are within ±M
 pub record Takes (p : Plan) (r : Running) (t : ℕ) : Type 0 where
-  pub after : r .clock < t
+  pub after : r .clocks .clock < t
   pub until : t ≤ p .horizon
-  pub least : (i : ℕ) → i < p .n → t ≤ nat (r .d) i
-  pub within : (i : ℕ) → i < p .n → isDue (r .d) t i ≡ true → ∣ positionAt r t i ∣ ≤ M
+  pub least : (i : ℕ) → i < p .counts .n → t ≤ nat (r .d) i
+  pub within : (i : ℕ) → i < p .counts .n → isDue (r .d) t i ≡ true → ∣ positionAt r t i ∣ ≤ M
 
 module _ (p : Plan) (r : Running) (ok : SoundRunning p r) (t : ℕ) (takes : Takes p r t) where
   limits : Counts p
   limits = counts-of p (ok .plan .counts)
 
-  from : r .clock ≤ t
+  from : r .clocks .clock ≤ t
   from = omega (arith, takes .after)
 
-  pub output-size : (i : ℕ) → i < p .n → ∣ int (outputs p r t) i ∣ ≤ M
+  pub output-size : (i : ℕ) → i < p .counts .n → ∣ int (outputs p r t) i ∣ ≤ M
   output-size i h = rw (outputs-at p limits r t i h) (go (isDue (r .d) t i) refl)
     where
       go : (b : Bool) → isDue (r .d) t i ≡ b → ∣ cond b (positionAt r t i) (int (r .q) i) ∣ ≤ M
       go true e = takes .within i h e
       go false e = ok .integrators i h .output
 
-  pub setting-size : (j : ℕ) → j < p .m → ∣ int (settings p (r .inputs) t) j ∣ ≤ M
+  pub setting-size : (j : ℕ) → j < p .counts .m → ∣ int (settings p (r .inputs) t) j ∣ ≤ M
   setting-size = settings-size p (ok .plan) (r .inputs) t (λ k l. within-size M _ .0 (ok .inputs k l))
 
   -- a due integrator stands at its output; the others stay between their levels
-  pub near-output : (i : ℕ) → i < p .n → pos ∣ positionAt r t i -ℤ int (outputs p r t) i ∣ <ℤ int (p .quanta) i
+  pub near-output : (i : ℕ) → i < p .counts .n → pos ∣ positionAt r t i -ℤ int (outputs p r t) i ∣ <ℤ int (p .integrators .quanta) i
   near-output i h = rw (outputs-at p limits r t i h) (go (isDue (r .d) t i) refl)
     where
-      go : (b : Bool) → isDue (r .d) t i ≡ b → pos ∣ positionAt r t i -ℤ cond b (positionAt r t i) (int (r .q) i) ∣ <ℤ int (p .quanta) i
-      go true e = near-itself (positionAt r t i) (int (p .quanta) i) (ok .plan .integrators i h .least)
+      go : (b : Bool) → isDue (r .d) t i ≡ b → pos ∣ positionAt r t i -ℤ cond b (positionAt r t i) (int (r .q) i) ∣ <ℤ int (p .integrators .quanta) i
+      go true e = near-itself (positionAt r t i) (int (p .integrators .quanta) i) (ok .plan .integrators i h .least)
       go false e = near-between p (r .q) i (positionAt r t i) .1 (between-then p r ok t from (takes .least) i h e)
 
   -- whoever moves
-  module _ (moved : ℕ → Bool) (covers : (i : ℕ) → i < p .n → moved i ≡ false → (isDue (r .d) t i || reached p (r .d) t i) ≡ false) where
+  module _ (moved : ℕ → Bool) (covers : (i : ℕ) → i < p .counts .n → moved i ≡ false → (isDue (r .d) t i || reached p (r .d) t i) ≡ false) where
     -- one that does not move is not due, and keeps its output
-    near-then : (i : ℕ) → i < p .n → pos ∣ int (takenAt p r t moved .x) i -ℤ int (outputs p r t) i ∣ <ℤ int (p .quanta) i
+    near-then : (i : ℕ) → i < p .counts .n → pos ∣ int (takenAt p r t moved .x) i -ℤ int (outputs p r t) i ∣ <ℤ int (p .integrators .quanta) i
     near-then i h = rw (x-at p limits r t moved i h) (go (moved i) refl)
       where
-        go : (b : Bool) → moved i ≡ b → pos ∣ cond b (positionAt r t i) (int (r .x) i) -ℤ int (outputs p r t) i ∣ <ℤ int (p .quanta) i
+        go : (b : Bool) → moved i ≡ b → pos ∣ cond b (positionAt r t i) (int (r .x) i) -ℤ int (outputs p r t) i ∣ <ℤ int (p .integrators .quanta) i
         go true e = near-output i h
         go false e =
             rw (output-kept p limits r t i h (not-due p r ok t from (takes .least) moved covers i h e)) (ok .integrators i h .near)
 
-    moved-then : (i : ℕ) → i < p .n → cond (moved i) t (nat (r .l) i) ≤ t
+    moved-then : (i : ℕ) → i < p .counts .n → cond (moved i) t (nat (r .l) i) ≤ t
     moved-then i h = go (moved i)
       where
         go : (b : Bool) → cond b t (nat (r .l) i) ≤ t
         go true = omega arith
         go false = omega (arith, takes .after, ok .integrators i h .moved)
 
-    integrator-then : (i : ℕ) → i < p .n → SoundIntegrator p (takenAt p r t moved) i
+    integrator-then : (i : ℕ) → i < p .counts .n → SoundIntegrator p (takenAt p r t moved) i
     unfolding takenAt slopeThen dueThen dueOf
     integrator-then i h =
         let soon : t < never = omega (arith, takes .until, ok .plan .horizon .1) in
@@ -118,29 +118,29 @@ module _ (p : Plan) (r : Running) (ok : SoundRunning p r) (t : ℕ) (takes : Tak
           inputs = λ j h. within-size M _ .1 (setting-size j h);
           next = refl;
           instants = omega (arith, ok .instants, takes .after);
-          updates = omega (arith, ok .updates, countOf-le moved (p .n));
+          updates = omega (arith, ok .updates, countOf-le moved (p .counts .n));
           plan-unused = ok .plan-unused;
           running-unused =
               record {
-                x = λ i h. row-unused (pos 0) 32 (p .n) _ i h;
-                q = λ i h. row-unused (pos 0) 32 (p .n) _ i h;
-                s = λ i h. row-unused (pos 0) 32 (p .n) _ i h;
-                l = λ i h. row-unused 0 32 (p .n) _ i h;
-                d = λ i h. row-unused 0 32 (p .n) _ i h;
-                inputs = λ j h. row-unused (pos 0) 8 (p .m) _ j h;
+                x = λ i h. row-unused (pos 0) 32 (p .counts .n) _ i h;
+                q = λ i h. row-unused (pos 0) 32 (p .counts .n) _ i h;
+                s = λ i h. row-unused (pos 0) 32 (p .counts .n) _ i h;
+                l = λ i h. row-unused 0 32 (p .counts .n) _ i h;
+                d = λ i h. row-unused 0 32 (p .counts .n) _ i h;
+                inputs = λ j h. row-unused (pos 0) 8 (p .counts .m) _ j h;
               };
         }
 
 -- ---- the next instant of a sound state lies past the clock
 module _ (p : Plan) (r : Running) (ok : SoundRunning p r) where
-  pub clock-soon : r .clock < never
+  pub clock-soon : r .clocks .clock < never
   clock-soon = omega (arith, ok .clock, ok .plan .horizon .1)
 
-  pub tick-after : r .clock < tickOf p r
-  tick-after = tick-above p r (suc (r .clock)) clock-soon (λ i h. ok .integrators i h .ahead) command
+  pub tick-after : r .clocks .clock < tickOf p r
+  tick-after = tick-above p r (suc (r .clocks .clock)) clock-soon (λ i h. ok .integrators i h .ahead) command
     where
-      command : r .next < p .commands → r .clock < nat (p .ticks) (r .next)
-      command h = rw (ok .next) (command-first p (r .clock) (rw (ok .next) at h))
+      command : r .clocks .next < p .counts .commands → r .clocks .clock < nat (p .commands .ticks) (r .clocks .next)
+      command h = rw (ok .next) (command-first p (r .clocks .clock) (rw (ok .next) at h))
 
   -- where the state is paused, that instant is taken
   pub takes-next : isPaused p r ≡ true → Takes p r (tickOf p r)

@@ -39,26 +39,26 @@ module _ (d : List ℕ) (t : ℕ) (value : ℕ → ℤ) (i : ℕ) where
       clear false e f = refl
 
 module _ (p : Plan) (d : List ℕ) (t : ℕ) (value : ℕ → ℤ) where
-  found : First (bars d t value) 0 (p .n) (barring p d t value)
+  found : First (bars d t value) 0 (p .counts .n) (barring p d t value)
   unfolding barring
-  found = first (bars d t value) 0 (p .n)
+  found = first (bars d t value) 0 (p .counts .n)
 
   -- none below it bars the instant, and it does where it is an integrator
-  barring-is : (f : ℕ) → f ≤ p .n → ((j : ℕ) → j < f → nat d j ≡ t → ∣ value j ∣ ≤ M) → (f < p .n → bars d t value f ≡ true)
+  barring-is : (f : ℕ) → f ≤ p .counts .n → ((j : ℕ) → j < f → nat d j ≡ t → ∣ value j ∣ ≤ M) → (f < p .counts .n → bars d t value f ≡ true)
       → f ≡ barring p d t value
   unfolding barring
   barring-is f h none this =
-      first-unique (bars d t value) 0 (p .n) f
+      first-unique (bars d t value) 0 (p .counts .n) f
       (record { from = omega arith; most = omega arith; earlier = clear; passes = λ l. this (omega arith) })
     where
       clear : (j : ℕ) → 0 ≤ j → j < f → bars d t value j ≡ false
       clear j k l = bars-false d t value j .1 (none j l)
 
   -- no integrator bars the instant
-  barring-none : (p .n ≤ barring p d t value) ↔ ((i : ℕ) → i < p .n → nat d i ≡ t → ∣ value i ∣ ≤ M)
+  barring-none : (p .counts .n ≤ barring p d t value) ↔ ((i : ℕ) → i < p .counts .n → nat d i ≡ t → ∣ value i ∣ ≤ M)
   barring-none = (
     λ h i l. bars-false d t value i .0 (found .earlier i (omega arith) (omega arith)),
-    λ f. omega (arith, barring-is (p .n) (omega arith) f (λ l. absurd (omega arith))),
+    λ f. omega (arith, barring-is (p .counts .n) (omega arith) f (λ l. absurd (omega arith))),
   )
 
   -- the instant is not behind the end
@@ -71,16 +71,16 @@ module _ (p : Plan) (d : List ℕ) (t : ℕ) (value : ℕ → ℤ) where
   status-finished (inr h) = rw (lt-ltb (p .horizon) t h, or-true (eqb t never))
 
   -- with the lowest integrator that bars it
-  pub status-range : (t ≡ never → ⊥) → t ≤ p .horizon → (i : ℕ) → i < p .n → nat d i ≡ t → M < ∣ value i ∣
+  pub status-range : (t ≡ never → ⊥) → t ≤ p .horizon → (i : ℕ) → i < p .counts .n → nat d i ≡ t → M < ∣ value i ∣
       → ((j : ℕ) → j < i → nat d j ≡ t → ∣ value j ∣ ≤ M) → (statusAt p d t value ≡ 2) × (integratorAt p d t value ≡ i)
   unfolding integratorAt statusAt
   status-range h l i k e b f =
-      let this = barring-is i (omega arith) f (λ m. bars-true d t value i e b) in let in-range = lt-ltb i (p .n) k in
+      let this = barring-is i (omega arith) f (λ m. bars-true d t value i e b) in let in-range = lt-ltb i (p .counts .n) k in
       (rw (going h l, ← this, in-range), rw (going h l, ← this, in-range))
 
-  pub status-paused : (t ≡ never → ⊥) → t ≤ p .horizon → ((i : ℕ) → i < p .n → nat d i ≡ t → ∣ value i ∣ ≤ M) → statusAt p d t value ≡ 0
+  pub status-paused : (t ≡ never → ⊥) → t ≤ p .horizon → ((i : ℕ) → i < p .counts .n → nat d i ≡ t → ∣ value i ∣ ≤ M) → statusAt p d t value ≡ 0
   unfolding statusAt
-  status-paused h l f = rw (going h l, le-ltb (barring p d t value) (p .n) (barring-none .1 f))
+  status-paused h l f = rw (going h l, le-ltb (barring p d t value) (p .counts .n) (barring-none .1 f))
 
   pub no-integrator : (statusAt p d t value ≡ 2 → ⊥) → integratorAt p d t value ≡ 0
   unfolding integratorAt
@@ -88,27 +88,27 @@ module _ (p : Plan) (d : List ℕ) (t : ℕ) (value : ℕ → ℤ) where
 
   pub status-most : statusAt p d t value ≤ 2
   unfolding statusAt
-  status-most = go (eqb t never || ltb (p .horizon) t) (ltb (barring p d t value) (p .n))
+  status-most = go (eqb t never || ltb (p .horizon) t) (ltb (barring p d t value) (p .counts .n))
     where
       go : (a b : Bool) → cond a 1 (cond b 2 0) ≤ 2
       go true b = omega arith
       go false true = omega arith
       go false false = omega arith
 
-  pub integrator-most : p .n ≤ 32 → integratorAt p d t value ≤ 31
+  pub integrator-most : p .counts .n ≤ 32 → integratorAt p d t value ≤ 31
   unfolding integratorAt statusAt
-  integrator-most h = go (eqb t never || ltb (p .horizon) t) (ltb (barring p d t value) (p .n)) refl
+  integrator-most h = go (eqb t never || ltb (p .horizon) t) (ltb (barring p d t value) (p .counts .n)) refl
     where
-      go : (a b : Bool) → ltb (barring p d t value) (p .n) ≡ b → cond (eqb (cond a 1 (cond b 2 0)) 2) (barring p d t value) 0 ≤ 31
+      go : (a b : Bool) → ltb (barring p d t value) (p .counts .n) ≡ b → cond (eqb (cond a 1 (cond b 2 0)) 2) (barring p d t value) 0 ≤ 31
       go true b e = omega arith
-      go false true e = omega (arith, ltb-true (barring p d t value) (p .n) e)
+      go false true e = omega (arith, ltb-true (barring p d t value) (p .counts .n) e)
       go false false e = omega arith
 
   -- ---- what a status of 0 says
   module _ (zero-status : statusAt p d t value ≡ 0) where
-    tests : (eqb t never ≡ false) × (ltb (p .horizon) t ≡ false) × (ltb (barring p d t value) (p .n) ≡ false)
+    tests : (eqb t never ≡ false) × (ltb (p .horizon) t ≡ false) × (ltb (barring p d t value) (p .counts .n) ≡ false)
     unfolding statusAt
-    tests = go (eqb t never) (ltb (p .horizon) t) (ltb (barring p d t value) (p .n)) zero-status
+    tests = go (eqb t never) (ltb (p .horizon) t) (ltb (barring p d t value) (p .counts .n)) zero-status
       where
         go : (a b c : Bool) → _≡_ {A = ℕ} (cond (a || b) 1 (cond c 2 0)) 0 → (a ≡ false) × (b ≡ false) × (c ≡ false)
         go true b c e = absurd (omega arith)
@@ -119,14 +119,14 @@ module _ (p : Plan) (d : List ℕ) (t : ℕ) (value : ℕ → ℤ) where
     pub paused-horizon : t ≤ p .horizon
     paused-horizon = ltb-false (p .horizon) t (tests .1)
 
-    pub paused-size : (i : ℕ) → i < p .n → nat d i ≡ t → ∣ value i ∣ ≤ M
-    paused-size = barring-none .0 (ltb-false (barring p d t value) (p .n) (tests .2))
+    pub paused-size : (i : ℕ) → i < p .counts .n → nat d i ≡ t → ∣ value i ∣ ≤ M
+    paused-size = barring-none .0 (ltb-false (barring p d t value) (p .counts .n) (tests .2))
 
 -- ---- values that agree give one status and one integrator
-module _ (p : Plan) (d : List ℕ) (t : ℕ) (value value′ : ℕ → ℤ) (same : (i : ℕ) → i < p .n → value i ≡ value′ i) where
+module _ (p : Plan) (d : List ℕ) (t : ℕ) (value value′ : ℕ → ℤ) (same : (i : ℕ) → i < p .counts .n → value i ≡ value′ i) where
   barring-same : barring p d t value ≡ barring p d t value′
   unfolding barring bars
-  barring-same = first-ext (bars d t value) (bars d t value′) 0 (p .n) (λ i h. rw (same i (omega arith)))
+  barring-same = first-ext (bars d t value) (bars d t value′) 0 (p .counts .n) (λ i h. rw (same i (omega arith)))
 
   pub status-same : statusAt p d t value ≡ statusAt p d t value′
   unfolding statusAt
@@ -149,5 +149,5 @@ module _ (p : Plan) (r : Running) (paused : isPaused p r ≡ true) where
   pub tick-horizon : tickOf p r ≤ p .horizon
   tick-horizon = paused-horizon p (r .d) (tickOf p r) (positionAt r (tickOf p r)) zero-status
 
-  pub due-size : (i : ℕ) → i < p .n → nat (r .d) i ≡ tickOf p r → ∣ positionAt r (tickOf p r) i ∣ ≤ M
+  pub due-size : (i : ℕ) → i < p .counts .n → nat (r .d) i ≡ tickOf p r → ∣ positionAt r (tickOf p r) i ∣ ≤ M
   due-size = paused-size p (r .d) (tickOf p r) (positionAt r (tickOf p r)) zero-status

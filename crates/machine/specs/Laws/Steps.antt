@@ -41,26 +41,26 @@ module _ (p : Plan) (rules : PlanRules p) (engine : Engine) (r : Running) where
   then = instant p engine r
 
   -- ---- 1. outputs
-  pub step-due : (i : ℕ) → i < p .n → nat (r .d) i ≡ t → int (then .q) i ≡ positionAt r t i
+  pub step-due : (i : ℕ) → i < p .counts .n → nat (r .d) i ≡ t → int (then .q) i ≡ positionAt r t i
   unfolding instant takenAt outputs
   step-due = output-due p limits (r .d) t (positionAt r t) (r .q)
 
-  pub step-not-due : (i : ℕ) → i < p .n → (nat (r .d) i ≡ t → ⊥) → int (then .q) i ≡ int (r .q) i
+  pub step-not-due : (i : ℕ) → i < p .counts .n → (nat (r .d) i ≡ t → ⊥) → int (then .q) i ≡ int (r .q) i
   unfolding instant takenAt outputs
   step-not-due = output-not-due p limits (r .d) t (positionAt r t) (r .q)
 
   -- ---- 2. inputs
-  pub step-set : (j e : ℕ) → j < p .m → e < p .commands → nat (p .ticks) e ≡ t → nat (p .numbers) e ≡ j → int (then .inputs) j ≡ int (p .values) e
+  pub step-set : (j e : ℕ) → j < p .counts .m → e < p .counts .commands → nat (p .commands .ticks) e ≡ t → nat (p .commands .inputs) e ≡ j → int (then .inputs) j ≡ int (p .commands .values) e
   unfolding instant takenAt
   step-set = setting-of p rules (r .inputs) t
 
-  pub step-not-set : (j : ℕ) → j < p .m → ((e : ℕ) → e < p .commands → nat (p .ticks) e ≡ t → nat (p .numbers) e ≡ j → ⊥)
+  pub step-not-set : (j : ℕ) → j < p .counts .m → ((e : ℕ) → e < p .counts .commands → nat (p .commands .ticks) e ≡ t → nat (p .commands .inputs) e ≡ j → ⊥)
       → int (then .inputs) j ≡ int (r .inputs) j
   unfolding instant takenAt
   step-not-set = setting-not-set p rules (r .inputs) t
 
   -- ---- 5. who moves
-  module _ (i : ℕ) (h : i < p .n) (m : Moves p engine (r .d) t i) where
+  module _ (i : ℕ) (h : i < p .counts .n) (m : Moves p engine (r .d) t i) where
     moving : moves p engine (r .d) t i ≡ true
     moving = moves-means p rules engine (r .d) t i .1 m
 
@@ -81,7 +81,7 @@ module _ (p : Plan) (rules : PlanRules p) (engine : Engine) (r : Running) where
     step-d =
         d-at p limits r t (moves p engine (r .d) t) i h ∙ rw (moving, step-x, step-s, x-then p limits r t i h)
 
-  pub step-not-moved : (i : ℕ) → i < p .n → (Moves p engine (r .d) t i → ⊥)
+  pub step-not-moved : (i : ℕ) → i < p .counts .n → (Moves p engine (r .d) t i → ⊥)
       → (int (then .x) i ≡ int (r .x) i) × (nat (then .l) i ≡ nat (r .l) i) × (int (then .s) i ≡ int (r .s) i) × (nat (then .d) i ≡ nat (r .d) i)
   unfolding instant
   step-not-moved i h n =

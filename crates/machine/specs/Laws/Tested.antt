@@ -38,8 +38,8 @@ module _ (p : Plan) (r : Running) where
   unused-means : Means (runningUnused p r) (RunningUnused p r)
   unfolding runningUnused
   unused-means =
-      let marks = both (both (unused-int (p .n) (r .x)) (unused-int (p .n) (r .q))) (unused-int (p .n) (r .s)) in
-      let all = both (both (both marks (unused-nat (p .n) (r .l))) (unused-nat (p .n) (r .d))) (unused-int (p .m) (r .inputs)) in (
+      let marks = both (both (unused-int (p .counts .n) (r .x)) (unused-int (p .counts .n) (r .q))) (unused-int (p .counts .n) (r .s)) in
+      let all = both (both (both marks (unused-nat (p .counts .n) (r .l))) (unused-nat (p .counts .n) (r .d))) (unused-int (p .counts .m) (r .inputs)) in (
         λ t. let h = all .0 t in record {
           x = h .0 .0 .0 .0 .0;
           q = h .0 .0 .0 .0 .1;
@@ -55,7 +55,7 @@ module _ (p : Plan) (r : Running) where
   unfolding integratorSound
   integrator-means i =
       let x = int (r .x) i in let q = int (r .q) i in let s = int (r .s) i in let l = nat (r .l) i in let d = nat (r .d) i in
-      let ticks = both (leb-means l (r .clock)) (ltb-means (r .clock) d) in
+      let ticks = both (leb-means l (r .clocks .clock)) (ltb-means (r .clocks .clock) d) in
       let levels = both (both (both ticks (within-true M q)) (ltZ-true (lowerLevel p (r .q) i) x)) (ltZ-true x (upperLevel p (r .q) i)) in
       let all = both (both levels (same-means s (rateOf p (r .q) (r .inputs) i))) (eqb-means d (dueOf p (r .q) i l x s)) in
       let near = near-between p (r .q) i x in (
@@ -74,10 +74,10 @@ pub sound-means : (st : State) → (isSound st ≡ true) ↔ Sound st
 unfolding isSound runningSound
 sound-means st =
     let p = st .plan in let r = st .run in
-    let integrators = both (leb-means (r .clock) (p .horizon)) (every-means (integrator-means p r) (p .n)) in
-    let inputs = both integrators (every-means (λ j. within-means M (int (r .inputs) j)) (p .m)) in
-    let counted = both (both inputs (eqb-means (r .next) (nextCommand p (r .clock)))) (leb-means (r .instants) (r .clock)) in
-    let all = both (plan-means p) (both (both counted (leb-means (r .updates) (p .n * r .instants))) (unused-means p r)) in (
+    let integrators = both (leb-means (r .clocks .clock) (p .horizon)) (every-means (integrator-means p r) (p .counts .n)) in
+    let inputs = both integrators (every-means (λ j. within-means M (int (r .inputs) j)) (p .counts .m)) in
+    let counted = both (both inputs (eqb-means (r .clocks .next) (nextCommand p (r .clocks .clock)))) (leb-means (r .clocks .instants) (r .clocks .clock)) in
+    let all = both (plan-means p) (both (both counted (leb-means (r .clocks .updates) (p .counts .n * r .clocks .instants))) (unused-means p r)) in (
       λ t. let h = all .0 t in let c = h .1 .0 .0 in record {
         plan = h .0 .0;
         plan-unused = h .0 .1;

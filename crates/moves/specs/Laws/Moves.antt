@@ -83,28 +83,28 @@ module _ (t : ℕ) (ranges sources : List ℕ) (coefficients quanta values : Lis
 
 -- ---- at an instant; `values` holds the values of all sources there
 module _ (p : Plan) (r : Running) (sound : SoundRunning p r) (t : ℕ) (takes : Takes p r t) (values : List ℤ)
-    (same : (i : ℕ) → i < p .n + p .m + p .k → int values i ≡ valueOf p (outputs p r t) (settings p (r .inputs) t) i) (moved : ℕ → Bool) where
+    (same : (i : ℕ) → i < p .counts .n + p .counts .m + p .counts .k → int values i ≡ valueOf p (outputs p r t) (settings p (r .inputs) t) i) (moved : ℕ → Bool) where
   limits : Counts p
   limits = counts-of p (sound .plan .counts)
 
   abbrev before : Motion
   before = moving (r .x) (r .s) (r .l) (r .d)
 
-  place : (i : ℕ) → placeOf t (rangesOf p) (p .sources) (p .coefficients) (p .quanta) values i before ≡ positionAt r t i
+  place : (i : ℕ) → placeOf t (rangesOf p) (p .links .sources) (p .links .coefficients) (p .integrators .quanta) values i before ≡ positionAt r t i
   unfolding placeOf positionAt
   place i = refl
 
-  output : (i : ℕ) → i < p .n → int values i ≡ int (outputs p r t) i
+  output : (i : ℕ) → i < p .counts .n → int values i ≡ int (outputs p r t) i
   output i h = same i (omega arith) ∙ integrator-value p (outputs p r t) (settings p (r .inputs) t) i h
 
-  slope : (i : ℕ) → i < p .n → slopeOf t (rangesOf p) (p .sources) (p .coefficients) (p .quanta) values i ≡ slopeThen p r t i
+  slope : (i : ℕ) → i < p .counts .n → slopeOf t (rangesOf p) (p .links .sources) (p .links .coefficients) (p .integrators .quanta) values i ≡ slopeThen p r t i
   unfolding slopeOf slopeThen
   slope i h = own-rate p (sound .plan) values (outputs p r t) (settings p (r .inputs) t) same i h
 
   pub all-movable : ((i : ℕ) → ∣ int values i ∣ ≤ M)
-      → AllMovable t (rangesOf p) (p .sources) (p .coefficients) (p .quanta) values (maskOf moved (p .n)) before
+      → AllMovable t (rangesOf p) (p .links .sources) (p .links .coefficients) (p .integrators .quanta) values (maskOf moved (p .counts .n)) before
   all-movable sized i e =
-      let h = mask-member moved (p .n) i e in
+      let h = mask-member moved (p .counts .n) i e in
       record {
         used = omega (arith, limits .n);
         rated = own-rated p (sound .plan) values sized i h;
@@ -122,20 +122,20 @@ module _ (p : Plan) (r : Running) (sound : SoundRunning p r) (t : ℕ) (takes : 
         d = cond b (dueThen p r t i) (nat (r .d) i);
       }
 
-  figures-then : (i : ℕ) → i < p .n → (b : Bool)
-      → cond b (movedFigures t (rangesOf p) (p .sources) (p .coefficients) (p .quanta) values i (figuresAt before i)) (figuresAt before i)
+  figures-then : (i : ℕ) → i < p .counts .n → (b : Bool)
+      → cond b (movedFigures t (rangesOf p) (p .links .sources) (p .links .coefficients) (p .integrators .quanta) values i (figuresAt before i)) (figuresAt before i)
       ≡ figuresThen i b
   unfolding movedFigures dueFrom positionAt
   figures-then i h true = rw (slope i h, output i h, x-then p limits r t i h, ← due-is-then p limits r t i h)
   figures-then i h false = refl
 
   pub moved-figures : RunningShaped r
-      → each (moveOne t (rangesOf p) (p .sources) (p .coefficients) (p .quanta) values) (has (maskOf moved (p .n))) 32 before
+      → each (moveOne t (rangesOf p) (p .links .sources) (p .links .coefficients) (p .integrators .quanta) values) (has (maskOf moved (p .counts .n))) 32 before
       ≡ moving (takenAt p r t moved .x) (takenAt p r t moved .s) (takenAt p r t moved .l) (takenAt p r t moved .d)
   unfolding takenAt
   moved-figures shaped =
       let u = sound .running-unused in
-      moved-rows t (rangesOf p) (p .sources) (p .coefficients) (p .quanta) values moved (p .n) (limits .n) before
+      moved-rows t (rangesOf p) (p .links .sources) (p .links .coefficients) (p .integrators .quanta) values moved (p .counts .n) (limits .n) before
       (record { x = shaped .x; s = shaped .s; l = shaped .l; d = shaped .d })
       (λ i h. rw (u .x i h, u .s i h, u .l i h, u .d i h))
       (λ i. figuresThen i (moved i)) (λ i h. figures-then i h (moved i))

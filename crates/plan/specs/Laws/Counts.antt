@@ -6,12 +6,12 @@ use Rattle.plan.specs.Rules.{CountsRule}
 use Rattle.plan.specs.declared.Plan.{Plan}
 
 pub record Counts (p : Plan) : Type 0 where
-  pub n-least : 1 ≤ p .n
-  pub n : p .n ≤ 32
-  pub m : p .m ≤ 8
-  pub k : p .k ≤ 16
-  pub links : p .links ≤ 256
-  pub commands : p .commands ≤ 64
+  pub n-least : 1 ≤ p .counts .n
+  pub n : p .counts .n ≤ 32
+  pub m : p .counts .m ≤ 8
+  pub k : p .counts .k ≤ 16
+  pub links : p .counts .links ≤ 256
+  pub commands : p .counts .commands ≤ 64
 
 pub counts-of : (p : Plan) → CountsRule p → Counts p
 unfolding counts

@@ -34,30 +34,30 @@ p and q = (p, q)
 pub plan-unused : (p : Plan) → Means (planUnused p) (PlanUnused p)
 unfolding planUnused
 plan-unused p =
-    let first = both (both (unused-int _ (p .starts)) (unused-int _ (p .quanta))) (unused-int _ (p .firsts)) in
-    let sides = both (both (both first (unused-nat _ (p .kinds))) (unused-nat _ (p .lefts))) (unused-nat _ (p .rights)) in
-    let nodes = both (both sides (unused-int _ (p .lows))) (unused-int _ (p .highs)) in
-    let links = both (both (both nodes (unused-nat _ (p .targets))) (unused-nat _ (p .sources))) (unused-int _ (p .coefficients)) in
-    let whole = both (both (both links (unused-nat _ (p .ticks))) (unused-nat _ (p .numbers))) (unused-int _ (p .values)) in (
+    let first = both (both (unused-int _ (p .integrators .starts)) (unused-int _ (p .integrators .quanta))) (unused-int _ (p .inputs .firsts)) in
+    let sides = both (both (both first (unused-nat _ (p .nodes .kinds))) (unused-nat _ (p .nodes .a))) (unused-nat _ (p .nodes .b)) in
+    let nodes = both (both sides (unused-int _ (p .nodes .lows))) (unused-int _ (p .nodes .highs)) in
+    let links = both (both (both nodes (unused-nat _ (p .links .targets))) (unused-nat _ (p .links .sources))) (unused-int _ (p .links .coefficients)) in
+    let whole = both (both (both links (unused-nat _ (p .commands .ticks))) (unused-nat _ (p .commands .inputs))) (unused-int _ (p .commands .values)) in (
       λ t. let c = whole .0 t in let l = c .0 .0 .0 in let n = l .0 .0 .0 in let s = n .0 .0 in let f = s .0 .0 .0 in
           record {
             starts = f .0 .0;
             quanta = f .0 .1;
             firsts = f .1;
             kinds = s .0 .0 .1;
-            lefts = s .0 .1;
-            rights = s .1;
+            a = s .0 .1;
+            b = s .1;
             lows = n .0 .1;
             highs = n .1;
             targets = l .0 .0 .1;
             sources = l .0 .1;
             coefficients = l .1;
             ticks = c .0 .0 .1;
-            numbers = c .0 .1;
+            inputs = c .0 .1;
             values = c .1;
           },
-      λ u. whole .1 (u .starts and u .quanta and u .firsts and u .kinds and u .lefts and u .rights and u .lows and u .highs
-          and u .targets and u .sources and u .coefficients and u .ticks and u .numbers and u .values),
+      λ u. whole .1 (u .starts and u .quanta and u .firsts and u .kinds and u .a and u .b and u .lows and u .highs
+          and u .targets and u .sources and u .coefficients and u .ticks and u .inputs and u .values),
     )
 
 -- ---- the plan that a file holds
@@ -78,15 +78,15 @@ module _ (file : List ℕ) where
     quanta = column-unused (pos 0) _ 0 1;
     firsts = column-unused (pos 0) _ 1 0;
     kinds = column-unused 0 _ 2 0;
-    lefts = column-unused 0 _ 2 1;
-    rights = column-unused 0 _ 2 2;
+    a = column-unused 0 _ 2 1;
+    b = column-unused 0 _ 2 2;
     lows = column-unused (pos 0) _ 2 3;
     highs = column-unused (pos 0) _ 2 4;
     targets = column-unused 0 _ 3 0;
     sources = column-unused 0 _ 3 1;
     coefficients = column-unused (pos 0) _ 3 2;
     ticks = column-unused 0 _ 4 0;
-    numbers = column-unused 0 _ 4 1;
+    inputs = column-unused 0 _ 4 1;
     values = column-unused (pos 0) _ 4 2;
   }
 
@@ -97,14 +97,14 @@ module _ (file : List ℕ) where
     quanta = column-length (pos 0) _ 0 1;
     firsts = column-length (pos 0) _ 1 0;
     kinds = column-length 0 _ 2 0;
-    lefts = column-length 0 _ 2 1;
-    rights = column-length 0 _ 2 2;
+    a = column-length 0 _ 2 1;
+    b = column-length 0 _ 2 2;
     lows = column-length (pos 0) _ 2 3;
     highs = column-length (pos 0) _ 2 4;
     targets = column-length 0 _ 3 0;
     sources = column-length 0 _ 3 1;
     coefficients = column-length (pos 0) _ 3 2;
     ticks = column-length 0 _ 4 0;
-    numbers = column-length 0 _ 4 1;
+    inputs = column-length 0 _ 4 1;
     values = column-length (pos 0) _ 4 2;
   }

@@ -27,14 +27,14 @@ idle-shaped = record {
   quanta = refl;
   firsts = refl;
   kinds = refl;
-  lefts = refl;
-  rights = refl;
+  a = refl;
+  b = refl;
   lows = refl;
   highs = refl;
   targets = refl;
   sources = refl;
   coefficients = refl;
   ticks = refl;
-  numbers = refl;
+  inputs = refl;
   values = refl;
 }

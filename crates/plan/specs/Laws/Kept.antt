@@ -35,35 +35,35 @@ module _ (p : Plan) where
   pub integrator-kept : (i : ℕ) → Means (integratorKept p i) (IntegratorRule p i)
   unfolding integratorKept
   integrator-kept i =
-      let quantum = int (p .quanta) i in
-      let all = both (both (within-means M (int (p .starts) i)) (leZ-true (pos 1) quantum)) (leZ-true quantum (pos M)) in
+      let quantum = int (p .integrators .quanta) i in
+      let all = both (both (within-means M (int (p .integrators .starts) i)) (leZ-true (pos 1) quantum)) (leZ-true quantum (pos M)) in
       (λ t. let h = all .0 t in record { start = h .0 .0; least = h .0 .1; most = h .1 }, λ r. all .1 ((r .start, r .least), r .most))
 
   pub input-kept : (j : ℕ) → Means (inputKept p j) (InputRule p j)
   unfolding inputKept
-  input-kept j = within-means M (int (p .firsts) j)
+  input-kept j = within-means M (int (p .inputs .firsts) j)
 
   pub node-kept : (j : ℕ) → Means (nodeKept p j) (NodeRule p j)
   unfolding nodeKept kindKept
   node-kept j = go (leb kind 1) (eqb kind 2) refl refl
     where
       kind : ℕ
-      kind = nat (p .kinds) j
+      kind = nat (p .nodes .kinds) j
 
       own : ℕ
-      own = p .n + p .m + j
+      own = p .counts .n + p .counts .m + j
 
       a : ℕ
-      a = nat (p .lefts) j
+      a = nat (p .nodes .a) j
 
       b : ℕ
-      b = nat (p .rights) j
+      b = nat (p .nodes .b) j
 
       lo : ℤ
-      lo = int (p .lows) j
+      lo = int (p .nodes .lows) j
 
       hi : ℤ
-      hi = int (p .highs) j
+      hi = int (p .nodes .highs) j
 
       limits : Means (within M lo && within M hi) (Within M lo × Within M hi)
       limits = both (within-means M lo) (within-means M hi)
@@ -117,10 +117,10 @@ module _ (p : Plan) where
   pub link-kept : (e : ℕ) → Means (linkLimits p e && linkOrdered p e) (LinkRule p e)
   unfolding linkLimits linkOrdered
   link-kept e =
-      let c = int (p .coefficients) e in
-      let names = both (ltb-means _ (p .n)) (ltb-means _ (p .n + p .m + p .k)) in
+      let c = int (p .links .coefficients) e in
+      let names = both (ltb-means _ (p .counts .n)) (ltb-means _ (p .counts .n + p .counts .m + p .counts .k)) in
       let limits = both (both names (negated (zero-means c))) (within-means 16777216 c) in
-      let all = both limits (ascends-means (p .targets) (p .sources) e) in (
+      let all = both limits (ascends-means (p .links .targets) (p .links .sources) e) in (
         λ t. let h = all .0 t in record {
           target = h .0 .0 .0 .0;
           source = h .0 .0 .0 .1;
@@ -135,8 +135,8 @@ module _ (p : Plan) where
   unfolding commandLimits commandOrdered
   command-kept e =
       let tick = both (leb-means 1 _) (leb-means _ (p .horizon)) in
-      let limits = both (both tick (ltb-means _ (p .m))) (within-means M (int (p .values) e)) in
-      let all = both limits (ascends-means (p .ticks) (p .numbers) e) in (
+      let limits = both (both tick (ltb-means _ (p .counts .m))) (within-means M (int (p .commands .values) e)) in
+      let all = both limits (ascends-means (p .commands .ticks) (p .commands .inputs) e) in (
         λ t. let h = all .0 t in record {
           least = h .0 .0 .0 .0;
           most = h .0 .0 .0 .1;

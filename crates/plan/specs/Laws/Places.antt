@@ -59,14 +59,14 @@ entry-places file z =
       quanta = λ i h. column-place file z (pos 0) pos 0 1 i _ (omega arith) h (omega arith) (omega arith);
       firsts = λ j h. column-place file z (pos 0) (signedOf 4) 1 0 j _ (omega arith) h (omega arith) (omega arith);
       kinds = λ j h. column-place file z 0 (λ w. w) 2 0 j _ (omega arith) h (omega arith) (omega arith);
-      lefts = λ j h. column-place file z 0 (λ w. w) 2 1 j _ (omega arith) h (omega arith) (omega arith);
-      rights = λ j h. column-place file z 0 (λ w. w) 2 2 j _ (omega arith) h (omega arith) (omega arith);
+      a = λ j h. column-place file z 0 (λ w. w) 2 1 j _ (omega arith) h (omega arith) (omega arith);
+      b = λ j h. column-place file z 0 (λ w. w) 2 2 j _ (omega arith) h (omega arith) (omega arith);
       lows = λ j h. column-place file z (pos 0) (signedOf 4) 2 3 j _ (omega arith) h (omega arith) (omega arith);
       highs = λ j h. column-place file z (pos 0) (signedOf 4) 2 4 j _ (omega arith) h (omega arith) (omega arith);
       targets = λ e h. column-place file z 0 (λ w. w) 3 0 e _ (omega arith) h (omega arith) (omega arith);
       sources = λ e h. column-place file z 0 (λ w. w) 3 1 e _ (omega arith) h (omega arith) (omega arith);
       coefficients = λ e h. column-place file z (pos 0) (signedOf 4) 3 2 e _ (omega arith) h (omega arith) (omega arith);
       ticks = λ e h. column-place file z 0 (λ w. w) 4 0 e _ (omega arith) h (omega arith) (omega arith);
-      numbers = λ e h. column-place file z 0 (λ w. w) 4 1 e _ (omega arith) h (omega arith) (omega arith);
+      inputs = λ e h. column-place file z 0 (λ w. w) 4 1 e _ (omega arith) h (omega arith) (omega arith);
       values = λ e h. column-place file z (pos 0) (signedOf 4) 4 2 e _ (omega arith) h (omega arith) (omega arith);
     }

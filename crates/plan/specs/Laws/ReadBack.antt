@@ -73,27 +73,27 @@ module _ (p : Plan) (r : PlanRules p) (u : PlanUnused p) (s : Shaped p) where
         count-back p r 2 (omega arith),
         count-back p r 3 (omega arith),
         count-back p r 4 (omega arith),
-        column-back (pos 0) (signedOf 4) 0 0 (p .starts) (omega arith) (omega arith) (s .starts) (u .starts)
-            (λ i h. signed-read (int (p .starts) i) (r .integrators i h .start)),
-        column-back (pos 0) pos 0 1 (p .quanta) (omega arith) (omega arith) (s .quanta) (u .quanta)
-            (λ i h. unsigned-read (int (p .quanta) i) (r .integrators i h .least)),
-        column-back (pos 0) (signedOf 4) 1 0 (p .firsts) (omega arith) (omega arith) (s .firsts) (u .firsts)
-            (λ j h. signed-read (int (p .firsts) j) (r .inputs j h)),
-        column-back 0 (λ w. w) 2 0 (p .kinds) (omega arith) (omega arith) (s .kinds) (u .kinds) (λ i h. refl),
-        column-back 0 (λ w. w) 2 1 (p .lefts) (omega arith) (omega arith) (s .lefts) (u .lefts) (λ i h. refl),
-        column-back 0 (λ w. w) 2 2 (p .rights) (omega arith) (omega arith) (s .rights) (u .rights) (λ i h. refl),
-        column-back (pos 0) (signedOf 4) 2 3 (p .lows) (omega arith) (omega arith) (s .lows) (u .lows)
-            (λ j h. signed-read (int (p .lows) j) (node-limits p j (r .nodes j h) .0)),
-        column-back (pos 0) (signedOf 4) 2 4 (p .highs) (omega arith) (omega arith) (s .highs) (u .highs)
-            (λ j h. signed-read (int (p .highs) j) (node-limits p j (r .nodes j h) .1)),
-        column-back 0 (λ w. w) 3 0 (p .targets) (omega arith) (omega arith) (s .targets) (u .targets) (λ i h. refl),
-        column-back 0 (λ w. w) 3 1 (p .sources) (omega arith) (omega arith) (s .sources) (u .sources) (λ i h. refl),
-        column-back (pos 0) (signedOf 4) 3 2 (p .coefficients) (omega arith) (omega arith) (s .coefficients) (u .coefficients)
-            (λ e h. signed-read (int (p .coefficients) e) (coefficient-within (r .links e h .coefficient))),
-        column-back 0 (λ w. w) 4 0 (p .ticks) (omega arith) (omega arith) (s .ticks) (u .ticks) (λ i h. refl),
-        column-back 0 (λ w. w) 4 1 (p .numbers) (omega arith) (omega arith) (s .numbers) (u .numbers) (λ i h. refl),
-        column-back (pos 0) (signedOf 4) 4 2 (p .values) (omega arith) (omega arith) (s .values) (u .values)
-            (λ e h. signed-read (int (p .values) e) (r .commands e h .value)),
+        column-back (pos 0) (signedOf 4) 0 0 (p .integrators .starts) (omega arith) (omega arith) (s .starts) (u .starts)
+            (λ i h. signed-read (int (p .integrators .starts) i) (r .integrators i h .start)),
+        column-back (pos 0) pos 0 1 (p .integrators .quanta) (omega arith) (omega arith) (s .quanta) (u .quanta)
+            (λ i h. unsigned-read (int (p .integrators .quanta) i) (r .integrators i h .least)),
+        column-back (pos 0) (signedOf 4) 1 0 (p .inputs .firsts) (omega arith) (omega arith) (s .firsts) (u .firsts)
+            (λ j h. signed-read (int (p .inputs .firsts) j) (r .inputs j h)),
+        column-back 0 (λ w. w) 2 0 (p .nodes .kinds) (omega arith) (omega arith) (s .kinds) (u .kinds) (λ i h. refl),
+        column-back 0 (λ w. w) 2 1 (p .nodes .a) (omega arith) (omega arith) (s .a) (u .a) (λ i h. refl),
+        column-back 0 (λ w. w) 2 2 (p .nodes .b) (omega arith) (omega arith) (s .b) (u .b) (λ i h. refl),
+        column-back (pos 0) (signedOf 4) 2 3 (p .nodes .lows) (omega arith) (omega arith) (s .lows) (u .lows)
+            (λ j h. signed-read (int (p .nodes .lows) j) (node-limits p j (r .nodes j h) .0)),
+        column-back (pos 0) (signedOf 4) 2 4 (p .nodes .highs) (omega arith) (omega arith) (s .highs) (u .highs)
+            (λ j h. signed-read (int (p .nodes .highs) j) (node-limits p j (r .nodes j h) .1)),
+        column-back 0 (λ w. w) 3 0 (p .links .targets) (omega arith) (omega arith) (s .targets) (u .targets) (λ i h. refl),
+        column-back 0 (λ w. w) 3 1 (p .links .sources) (omega arith) (omega arith) (s .sources) (u .sources) (λ i h. refl),
+        column-back (pos 0) (signedOf 4) 3 2 (p .links .coefficients) (omega arith) (omega arith) (s .coefficients) (u .coefficients)
+            (λ e h. signed-read (int (p .links .coefficients) e) (coefficient-within (r .links e h .coefficient))),
+        column-back 0 (λ w. w) 4 0 (p .commands .ticks) (omega arith) (omega arith) (s .ticks) (u .ticks) (λ i h. refl),
+        column-back 0 (λ w. w) 4 1 (p .commands .inputs) (omega arith) (omega arith) (s .inputs) (u .inputs) (λ i h. refl),
+        column-back (pos 0) (signedOf 4) 4 2 (p .commands .values) (omega arith) (omega arith) (s .values) (u .values)
+            (λ e h. signed-read (int (p .commands .values) e) (r .commands e h .value)),
       )
 
   -- what is found wrong with the file is what is found wrong with the plan

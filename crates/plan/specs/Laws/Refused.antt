@@ -17,35 +17,35 @@ module _ (p : Plan) where
   unfolding horizonFinding numberOf entryOf
   horizon-judged = judged-one 4 (omega arith) 0 _ Horizon (horizon-kept p) refl refl
 
-  pub integrators-judged : Judged (IntegratorRule p) 5 0 (p .n) (integratorsFinding p)
+  pub integrators-judged : Judged (IntegratorRule p) 5 0 (p .counts .n) (integratorsFinding p)
   unfolding integratorsFinding numberOf entryOf
-  integrators-judged = judged-all 5 (omega arith) _ Integrator (integrator-kept p) (λ e. refl) (λ e. refl) (p .n)
+  integrators-judged = judged-all 5 (omega arith) _ Integrator (integrator-kept p) (λ e. refl) (λ e. refl) (p .counts .n)
 
-  pub inputs-judged : Judged (InputRule p) 6 0 (p .m) (inputsFinding p)
+  pub inputs-judged : Judged (InputRule p) 6 0 (p .counts .m) (inputsFinding p)
   unfolding inputsFinding numberOf entryOf
-  inputs-judged = judged-all 6 (omega arith) _ Input (input-kept p) (λ e. refl) (λ e. refl) (p .m)
+  inputs-judged = judged-all 6 (omega arith) _ Input (input-kept p) (λ e. refl) (λ e. refl) (p .counts .m)
 
-  pub nodes-judged : Judged (NodeRule p) 7 0 (p .k) (nodesFinding p)
+  pub nodes-judged : Judged (NodeRule p) 7 0 (p .counts .k) (nodesFinding p)
   unfolding nodesFinding numberOf entryOf
-  nodes-judged = judged-all 7 (omega arith) _ Node (node-kept p) (λ e. refl) (λ e. refl) (p .k)
+  nodes-judged = judged-all 7 (omega arith) _ Node (node-kept p) (λ e. refl) (λ e. refl) (p .counts .k)
 
-  pub links-judged : Judged (LinkRule p) 8 0 (p .links) (linksFinding p)
+  pub links-judged : Judged (LinkRule p) 8 0 (p .counts .links) (linksFinding p)
   unfolding linksFinding numberOf entryOf
-  links-judged = judged-all 8 (omega arith) _ Link (link-kept p) (λ e. refl) (λ e. refl) (p .links)
+  links-judged = judged-all 8 (omega arith) _ Link (link-kept p) (λ e. refl) (λ e. refl) (p .counts .links)
 
-  pub commands-judged : Judged (CommandRule p) 9 0 (p .commands) (commandsFinding p)
+  pub commands-judged : Judged (CommandRule p) 9 0 (p .counts .commands) (commandsFinding p)
   unfolding commandsFinding numberOf entryOf
-  commands-judged = judged-all 9 (omega arith) _ Command (command-kept p) (λ e. refl) (λ e. refl) (p .commands)
+  commands-judged = judged-all 9 (omega arith) _ Command (command-kept p) (λ e. refl) (λ e. refl) (p .counts .commands)
 
   pub plan-rules : ((countsKept p ≡ true) × (isClean (planFinding p) ≡ true)) ↔ PlanRules p
   unfolding planFinding
   plan-rules =
       let clean = clean-both _ _ (clean-means 4 (omega arith) 1 _ horizon-judged)
-      (clean-both _ _ (clean-means 5 (omega arith) (p .n) _ integrators-judged)
-      (clean-both _ _ (clean-means 6 (omega arith) (p .m) _ inputs-judged)
-      (clean-both _ _ (clean-means 7 (omega arith) (p .k) _ nodes-judged)
-      (clean-both _ _ (clean-means 8 (omega arith) (p .links) _ links-judged)
-      (clean-means 9 (omega arith) (p .commands) _ commands-judged))))) in (
+      (clean-both _ _ (clean-means 5 (omega arith) (p .counts .n) _ integrators-judged)
+      (clean-both _ _ (clean-means 6 (omega arith) (p .counts .m) _ inputs-judged)
+      (clean-both _ _ (clean-means 7 (omega arith) (p .counts .k) _ nodes-judged)
+      (clean-both _ _ (clean-means 8 (omega arith) (p .counts .links) _ links-judged)
+      (clean-means 9 (omega arith) (p .counts .commands) _ commands-judged))))) in (
         λ t. let h = clean .0 (t .1) in record {
           counts = counts-kept p .0 (t .0);
           horizon = h .0 0 (omega arith);

@@ -60,19 +60,19 @@ signed-small z h = unsigned-lt 4 (omega arith) z (signed-size z h)
 
 module _ (p : Plan) (j : ℕ) (r : NodeRule p j) where
   -- what a node of any kind keeps
-  node-right : nat (p .rights) j ≤ p .n + p .m + j
-  node-right = go (eqb (nat (p .kinds) j) 2) refl
+  node-right : nat (p .nodes .b) j ≤ p .counts .n + p .counts .m + j
+  node-right = go (eqb (nat (p .nodes .kinds) j) 2) refl
     where
-      go : (b : Bool) → eqb (nat (p .kinds) j) 2 ≡ b → nat (p .rights) j ≤ p .n + p .m + j
-      go true e = omega (arith, r .unused (eqb-true (nat (p .kinds) j) 2 e))
-      go false e = omega (arith, r .right (eqb-false (nat (p .kinds) j) 2 e))
+      go : (b : Bool) → eqb (nat (p .nodes .kinds) j) 2 ≡ b → nat (p .nodes .b) j ≤ p .counts .n + p .counts .m + j
+      go true e = omega (arith, r .unused (eqb-true (nat (p .nodes .kinds) j) 2 e))
+      go false e = omega (arith, r .right (eqb-false (nat (p .nodes .kinds) j) 2 e))
 
-  pub node-limits : Within M (int (p .lows) j) × Within M (int (p .highs) j)
-  node-limits = go (leb (nat (p .kinds) j) 1) refl
+  pub node-limits : Within M (int (p .nodes .lows) j) × Within M (int (p .nodes .highs) j)
+  node-limits = go (leb (nat (p .nodes .kinds) j) 1) refl
     where
-      go : (b : Bool) → leb (nat (p .kinds) j) 1 ≡ b → Within M (int (p .lows) j) × Within M (int (p .highs) j)
-      go true e = omega (arith, zs, neg (pos M), r .plain (leb-true (nat (p .kinds) j) 1 e))
-      go false e = r .limits (leb-false (nat (p .kinds) j) 1 e)
+      go : (b : Bool) → leb (nat (p .nodes .kinds) j) 1 ≡ b → Within M (int (p .nodes .lows) j) × Within M (int (p .nodes .highs) j)
+      go true e = omega (arith, zs, neg (pos M), r .plain (leb-true (nat (p .nodes .kinds) j) 1 e))
+      go false e = r .limits (leb-false (nat (p .nodes .kinds) j) 1 e)
 
 -- ---- the words of each part
 module _ (p : Plan) (r : PlanRules p) where
@@ -87,32 +87,32 @@ module _ (p : Plan) (r : PlanRules p) where
   unfolding counts entryWords integratorWords inputWords nodeWords linkWords commandWords
   entry-small k i = each-section (λ k. i < nat (counts p) k → Small (entryWords p k i)) integrator input node link command k
     where
-      integrator : i < p .n → Small (integratorWords p i)
+      integrator : i < p .counts .n → Small (integratorWords p i)
       integrator l =
           let e = r .integrators i l in
-          (signed-small (int (p .starts) i) (e .start), (signed-small (int (p .quanta) i) (quantum-within (e .least) (e .most)), tt))
+          (signed-small (int (p .integrators .starts) i) (e .start), (signed-small (int (p .integrators .quanta) i) (quantum-within (e .least) (e .most)), tt))
 
-      input : i < p .m → Small (inputWords p i)
-      input l = (signed-small (int (p .firsts) i) (r .inputs i l), tt)
+      input : i < p .counts .m → Small (inputWords p i)
+      input l = (signed-small (int (p .inputs .firsts) i) (r .inputs i l), tt)
 
-      node : i < p .k → Small (nodeWords p i)
+      node : i < p .counts .k → Small (nodeWords p i)
       node l =
           let e = r .nodes i l in
           let right = node-right p i e in
-          let low = signed-small (int (p .lows) i) (node-limits p i e .0) in
-          let high = signed-small (int (p .highs) i) (node-limits p i e .1) in
+          let low = signed-small (int (p .nodes .lows) i) (node-limits p i e .0) in
+          let high = signed-small (int (p .nodes .highs) i) (node-limits p i e .1) in
           omega (arith, r .counts 0 (omega arith), r .counts 1 (omega arith), r .counts 2 (omega arith))
 
-      link : i < p .links → Small (linkWords p i)
+      link : i < p .counts .links → Small (linkWords p i)
       link l =
           let e = r .links i l in
-          let coefficient = signed-small (int (p .coefficients) i) (coefficient-within (e .coefficient)) in
+          let coefficient = signed-small (int (p .links .coefficients) i) (coefficient-within (e .coefficient)) in
           omega (arith, r .counts 0 (omega arith), r .counts 1 (omega arith), r .counts 2 (omega arith))
 
-      command : i < p .commands → Small (commandWords p i)
+      command : i < p .counts .commands → Small (commandWords p i)
       command l =
           let e = r .commands i l in
-          let value = signed-small (int (p .values) i) (e .value) in
+          let value = signed-small (int (p .commands .values) i) (e .value) in
           omega (arith, r .horizon, r .counts 1 (omega arith))
 
   pub file-small : Small (fileWords p)

@@ -212,7 +212,7 @@ write-nodes-requires c κs =
     let p = start .args .t1 in
     let room = section-room (stage-inputs before) (omega arith) (offset .section-offset4 .ensures) in
     let f = fitting p (start .pre) in
-    (room, counts-of p (start .pre .counts) .k, f .kinds, f .lefts, f .rights, f .lows, f .highs)
+    (room, counts-of p (start .pre .counts) .k, f .kinds, f .a, f .b, f .lows, f .highs)
 
 section-offset-requires-5 : tie.Need-section-offset-requires-5
 unfolding counts
@@ -262,7 +262,7 @@ write-commands-requires c κs =
     let p = start .args .t1 in
     let room = section-room (stage-links before) (omega arith) (offset .section-offset6 .ensures) in
     let f = fitting p (start .pre) in
-    (room, counts-of p (start .pre .counts) .commands, f .ticks, f .numbers, f .values)
+    (room, counts-of p (start .pre .counts) .commands, f .ticks, f .inputs, f .values)
 
 same-length : tie.Need-same-length
 same-length c = stage-commands (c .before .before) .begun .size

@@ -47,7 +47,7 @@ module _ (t : ℕ) where
   returns c =
       let a = c .before .before .before .before .before .args in
       rw (c .follow-down .ensures, c .before .before .hand-down .ensures)
-      (followed-more (a .kinds .now) (a .lefts .now) (a .rights .now) (a .base) (a .table .now) (a .j) (omega arith))
+      (followed-more (a .kinds .now) (a .a .now) (a .b .now) (a .base) (a .table .now) (a .j) (omega arith))
 
   returns-2 : lts.Need-returns-2 (claims t) (follow-down-at t) follow-down.Post
   unfolding followedDown

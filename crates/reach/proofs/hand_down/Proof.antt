@@ -46,13 +46,13 @@ returns : tie.Need-returns
 returns c =
     let a = c .before .before .before .before .before .before .before .before .before .args in
     rw (c .add-to2 .ensures, c .before .before .before .before .before .add-to .ensures)
-    (handed-both (a .kinds .now) (a .lefts .now) (a .rights .now) (a .base) (a .table .now) (a .j) (c .before .before .before .if1 .taken))
+    (handed-both (a .kinds .now) (a .a .now) (a .b .now) (a .base) (a .table .now) (a .j) (c .before .before .before .if1 .taken))
 
 returns-2 : tie.Need-returns-2
 returns-2 c =
     let a = c .before .before .before .before .before .before .args in
     c .before .before .add-to .ensures
-    ∙ handed-left (a .kinds .now) (a .lefts .now) (a .rights .now) (a .base) (a .table .now) (a .j) (c .if1 .left)
+    ∙ handed-left (a .kinds .now) (a .a .now) (a .b .now) (a .base) (a .table .now) (a .j) (c .if1 .left)
 
 pub hand-down-spec : {M : Type 1} → statement M
 hand-down-spec =

@@ -86,8 +86,8 @@ with-source table sources b a c h out =
     some-also _ (λ i. sources i && has (nat table i) b) (c && has (nat table a) b) a 64 h (rw (eq-eqb a a refl, out)) (λ i ne. rw (ne-eqb i a ne))
 
 -- ---- a node's entry handed down to the operands that it uses
-module _ (kinds lefts rights : List ℕ) (base : ℕ) where
-  pub handed-length : (j : ℕ) (table : List ℕ) → length (handedDown kinds lefts rights base j table) ≡ length table
+module _ (kinds a b : List ℕ) (base : ℕ) where
+  pub handed-length : (j : ℕ) (table : List ℕ) → length (handedDown kinds a b base j table) ≡ length table
   unfolding handedDown
   handed-length j table = go (eqb (nat kinds j) 2) _ _ (simp length-set) (simp length-set)
     where
@@ -96,19 +96,19 @@ module _ (kinds lefts rights : List ℕ) (base : ℕ) where
       go false x y e f = f
 
   -- the same as looking at node j too: it is one of the sources if an operand that it uses is
-  pub handed-entries : (k : ℕ) → Wired lefts rights base k
-      → (table : List ℕ) (sources : ℕ → Bool) (b j : ℕ) → length table ≡ 64 → j < k → sources (base + j) ≡ false
-      → inEntries (handedDown kinds lefts rights base j table) sources b
+  pub handed-entries : (k : ℕ) → Wired a b base k
+      → (table : List ℕ) (sources : ℕ → Bool) (bit j : ℕ) → length table ≡ 64 → j < k → sources (base + j) ≡ false
+      → inEntries (handedDown kinds a b base j table) sources bit
       ≡ inEntries table
-      (λ i. cond (eqb i (base + j)) (sources (nat lefts j) || (not (eqb (nat kinds j) 2) && sources (nat rights j))) (sources i)) b
+      (λ i. cond (eqb i (base + j)) (sources (nat a j) || (not (eqb (nat kinds j) 2) && sources (nat b j))) (sources i)) bit
   unfolding handedDown
-  handed-entries k wired table sources b j len h out =
-      let l = nat lefts j in let r = nat rights j in let entry = nat table (base + j) in let left = added table l entry in
-      let one = added-entries table sources b l entry len (omega (arith, wired .room, wired .left j h)) in
-      let two = added-entries left sources b r entry (length-set table l _ ∙ len) (omega (arith, wired .room, wired .right j h)) in
-      go (eqb (nat kinds j) 2) left (added left r entry) (inEntries table sources b) (sources l) (sources r) (has entry b) one
-      (two ∙ ap (λ x. x || (sources r && has entry b)) one)
-      ∙ sym (with-source table sources b (base + j) _ (omega (arith, wired .room)) out)
+  handed-entries k wired table sources bit j len h out =
+      let l = nat a j in let r = nat b j in let entry = nat table (base + j) in let left = added table l entry in
+      let one = added-entries table sources bit l entry len (omega (arith, wired .room, wired .left j h)) in
+      let two = added-entries left sources bit r entry (length-set table l _ ∙ len) (omega (arith, wired .room, wired .right j h)) in
+      go (eqb (nat kinds j) 2) left (added left r entry) (inEntries table sources bit) (sources l) (sources r) (has entry bit) one
+      (two ∙ ap (λ x. x || (sources r && has entry bit)) one)
+      ∙ sym (with-source table sources bit (base + j) _ (omega (arith, wired .room)) out)
     where
       joins : (a l r e : Bool) → ((a || (l && e)) || (r && e)) ≡ (a || ((l || r) && e))
       joins true l r e = refl
@@ -117,7 +117,7 @@ module _ (kinds lefts rights : List ℕ) (base : ℕ) where
       joins false true false e = or-false e
       joins false false r e = refl
 
-      go : (two : Bool) (x y : List ℕ) (a l r e : Bool) → inEntries x sources b ≡ (a || (l && e))
-          → inEntries y sources b ≡ ((a || (l && e)) || (r && e)) → inEntries (cond two x y) sources b ≡ (a || ((l || (not two && r)) && e))
+      go : (two : Bool) (x y : List ℕ) (a l r e : Bool) → inEntries x sources bit ≡ (a || (l && e))
+          → inEntries y sources bit ≡ ((a || (l && e)) || (r && e)) → inEntries (cond two x y) sources bit ≡ (a || ((l || (not two && r)) && e))
       go true x y a l r e one two = one ∙ ap (λ z. a || (z && e)) (sym (or-false l))
       go false x y a l r e one two = two ∙ joins a l r e

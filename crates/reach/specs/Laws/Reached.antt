@@ -37,19 +37,19 @@ exchanged c x y = go (eqb x y) refl
 
 module _ (p : Plan) (rules : PlanRules p) where
   -- ---- what `reach_table` asks; kind 2's B is 0, and there is an integrator 0
-  pub table-wired : Wired (p .lefts) (p .rights) (p .n + p .m) (p .k)
+  pub table-wired : Wired (p .nodes .a) (p .nodes .b) (p .counts .n + p .counts .m) (p .counts .k)
   table-wired =
       record {
         room = omega (arith, counts-of p (rules .counts));
         left = λ j h. rules .nodes j h .left;
-        right = λ j h. below j h (eqb (nat (p .kinds) j) 2) refl;
+        right = λ j h. below j h (eqb (nat (p .nodes .kinds) j) 2) refl;
       }
     where
-      below : (j : ℕ) → j < p .k → (two : Bool) → eqb (nat (p .kinds) j) 2 ≡ two → nat (p .rights) j < p .n + p .m + j
-      below j h true e = omega (arith, counts-of p (rules .counts) .n-least, rules .nodes j h .unused (eqb-true (nat (p .kinds) j) 2 e))
-      below j h false e = rules .nodes j h .right (eqb-false (nat (p .kinds) j) 2 e)
+      below : (j : ℕ) → j < p .counts .k → (two : Bool) → eqb (nat (p .nodes .kinds) j) 2 ≡ two → nat (p .nodes .b) j < p .counts .n + p .counts .m + j
+      below j h true e = omega (arith, counts-of p (rules .counts) .n-least, rules .nodes j h .unused (eqb-true (nat (p .nodes .kinds) j) 2 e))
+      below j h false e = rules .nodes j h .right (eqb-false (nat (p .nodes .kinds) j) 2 e)
 
-  pub table-linked : Linked (p .targets) (p .sources) (p .links)
+  pub table-linked : Linked (p .links .targets) (p .links .sources) (p .counts .links)
   table-linked =
       let counts = counts-of p (rules .counts) in
       record {
@@ -60,124 +60,124 @@ module _ (p : Plan) (rules : PlanRules p) where
 
   -- ---- before any entry is handed down
   abbrev own : List ℕ
-  own = ownNodes (p .n + p .m) (linked (p .targets) (p .sources) (p .links)) (p .k)
+  own = ownNodes (p .counts .n + p .counts .m) (linked (p .links .targets) (p .links .sources) (p .counts .links)) (p .counts .k)
 
-  linked-length : length (linked (p .targets) (p .sources) (p .links)) ≡ 64
-  linked-length = marked-length (nat (p .sources)) (nat (p .targets)) (replicate 64 0) (p .links) ∙ length-replicate {A = ℕ} 64 0
+  linked-length : length (linked (p .links .targets) (p .links .sources) (p .counts .links)) ≡ 64
+  linked-length = marked-length (nat (p .links .sources)) (nat (p .links .targets)) (replicate 64 0) (p .counts .links) ∙ length-replicate {A = ℕ} 64 0
 
   own-length : length own ≡ 64
-  own-length = marked-length (λ j. p .n + p .m + j) (λ j. 32 + j) (linked (p .targets) (p .sources) (p .links)) (p .k) ∙ linked-length
+  own-length = marked-length (λ j. p .counts .n + p .counts .m + j) (λ j. 32 + j) (linked (p .links .targets) (p .links .sources) (p .counts .links)) (p .counts .k) ∙ linked-length
 
   module _ (chosen : ℕ → Bool) where
     abbrev linkHas : ℕ → ℕ → Bool
-    linkHas b e = chosen (nat (p .sources) e) && eqb b (nat (p .targets) e)
+    linkHas b e = chosen (nat (p .links .sources) e) && eqb b (nat (p .links .targets) e)
 
     abbrev nodeHas : ℕ → ℕ → Bool
-    nodeHas b j = chosen (p .n + p .m + j) && eqb b (32 + j)
+    nodeHas b j = chosen (p .counts .n + p .counts .m + j) && eqb b (32 + j)
 
     -- a bit is a link's or a node's
-    own-has : (b : ℕ) → inEntries own chosen b ≡ (some (linkHas b) (p .links) || some (nodeHas b) (p .k))
+    own-has : (b : ℕ) → inEntries own chosen b ≡ (some (linkHas b) (p .counts .links) || some (nodeHas b) (p .counts .k))
     own-has b =
-        marked-entries (λ j. p .n + p .m + j) (λ j. 32 + j) (linked (p .targets) (p .sources) (p .links)) chosen b (p .k) linked-length
+        marked-entries (λ j. p .counts .n + p .counts .m + j) (λ j. 32 + j) (linked (p .links .targets) (p .links .sources) (p .counts .links)) chosen b (p .counts .k) linked-length
         (λ j h. omega (arith, table-wired .room))
-        ∙ ap (λ x. x || some (nodeHas b) (p .k))
-        (marked-entries (nat (p .sources)) (nat (p .targets)) (replicate 64 0) chosen b (p .links) (length-replicate {A = ℕ} 64 0)
-        (table-linked .source) ∙ ap (λ x. x || some (linkHas b) (p .links)) (entries-none chosen b))
+        ∙ ap (λ x. x || some (nodeHas b) (p .counts .k))
+        (marked-entries (nat (p .links .sources)) (nat (p .links .targets)) (replicate 64 0) chosen b (p .counts .links) (length-replicate {A = ℕ} 64 0)
+        (table-linked .source) ∙ ap (λ x. x || some (linkHas b) (p .counts .links)) (entries-none chosen b))
 
     -- an integrator's: a link of its own names a chosen source
-    own-low : (b : ℕ) → b < 32 → inEntries own chosen b ≡ some (λ e. eqb (nat (p .targets) e) b && chosen (nat (p .sources) e)) (p .links)
+    own-low : (b : ℕ) → b < 32 → inEntries own chosen b ≡ some (λ e. eqb (nat (p .links .targets) e) b && chosen (nat (p .links .sources) e)) (p .counts .links)
     own-low b h =
         own-has b
-        ∙ ap₂ _||_ (some-ext _ _ (p .links) (λ e l. exchanged (chosen (nat (p .sources) e)) b (nat (p .targets) e)))
-        (some-none _ (p .k) (λ j l. other (chosen (p .n + p .m + j)) b (32 + j) (λ e. omega arith)))
+        ∙ ap₂ _||_ (some-ext _ _ (p .counts .links) (λ e l. exchanged (chosen (nat (p .links .sources) e)) b (nat (p .links .targets) e)))
+        (some-none _ (p .counts .k) (λ j l. other (chosen (p .counts .n + p .counts .m + j)) b (32 + j) (λ e. omega arith)))
         ∙ or-false _
 
-    own-high : (j : ℕ) → inEntries own chosen (32 + j) ≡ some (nodeHas (32 + j)) (p .k)
+    own-high : (j : ℕ) → inEntries own chosen (32 + j) ≡ some (nodeHas (32 + j)) (p .counts .k)
     own-high j =
         own-has (32 + j)
-        ∙ ap (λ x. x || some (nodeHas (32 + j)) (p .k))
-        (some-none _ (p .links)
-        (λ e h. other (chosen (nat (p .sources) e)) (32 + j) (nat (p .targets) e) (λ q. omega (arith, table-linked .target e h))))
+        ∙ ap (λ x. x || some (nodeHas (32 + j)) (p .counts .k))
+        (some-none _ (p .counts .links)
+        (λ e h. other (chosen (nat (p .links .sources) e)) (32 + j) (nat (p .links .targets) e) (λ q. omega (arith, table-linked .target e h))))
 
     -- a node's: it is chosen
-    own-node : (j : ℕ) → j < p .k → inEntries own chosen (32 + j) ≡ chosen (p .n + p .m + j)
+    own-node : (j : ℕ) → j < p .counts .k → inEntries own chosen (32 + j) ≡ chosen (p .counts .n + p .counts .m + j)
     own-node j h =
         own-high j
-        ∙ some-only (nodeHas (32 + j)) j (p .k) h (λ i ne. other (chosen (p .n + p .m + i)) (32 + j) (32 + i) (λ e. ne (omega arith)))
-        ∙ rw (eq-eqb (32 + j) (32 + j) refl) (and-true (chosen (p .n + p .m + j)))
+        ∙ some-only (nodeHas (32 + j)) j (p .counts .k) h (λ i ne. other (chosen (p .counts .n + p .counts .m + i)) (32 + j) (32 + i) (λ e. ne (omega arith)))
+        ∙ rw (eq-eqb (32 + j) (32 + j) refl) (and-true (chosen (p .counts .n + p .counts .m + j)))
 
-    own-past : (j : ℕ) → p .k ≤ j → inEntries own chosen (32 + j) ≡ false
+    own-past : (j : ℕ) → p .counts .k ≤ j → inEntries own chosen (32 + j) ≡ false
     own-past j h =
-        own-high j ∙ some-none _ (p .k) (λ i l. other (chosen (p .n + p .m + i)) (32 + j) (32 + i) (λ e. omega arith))
+        own-high j ∙ some-none _ (p .counts .k) (λ i l. other (chosen (p .counts .n + p .counts .m + i)) (32 + j) (32 + i) (λ e. omega arith))
 
   module _ (d : List ℕ) (t : ℕ) where
     -- a node that is not looked at yet
-    not-yet : (j i : ℕ) → p .n + p .m + j ≤ i → dependsWith p d t j i ≡ false
+    not-yet : (j i : ℕ) → p .counts .n + p .counts .m + j ≤ i → dependsWith p d t j i ≡ false
     unfolding dependsWith changes
-    not-yet zero i h = rw (le-ltb i (p .n) (omega arith), le-ltb i (p .n + p .m) (omega arith))
-    not-yet (suc j) i h = rw (ne-eqb i (p .n + p .m + j) (λ e. omega arith)) (not-yet j i (omega arith))
+    not-yet zero i h = rw (le-ltb i (p .counts .n) (omega arith), le-ltb i (p .counts .n + p .counts .m) (omega arith))
+    not-yet (suc j) i h = rw (ne-eqb i (p .counts .n + p .counts .m + j) (λ e. omega arith)) (not-yet j i (omega arith))
 
     -- with j nodes' entries handed down, the sources that change have what all that depend on them have without
-    followed-has : (j b : ℕ) (table : List ℕ) → j ≤ p .k → length table ≡ 64
-        → inEntries (followedDown (p .kinds) (p .lefts) (p .rights) (p .n + p .m) j table) (changes p d t) b
+    followed-has : (j b : ℕ) (table : List ℕ) → j ≤ p .counts .k → length table ≡ 64
+        → inEntries (followedDown (p .nodes .kinds) (p .nodes .a) (p .nodes .b) (p .counts .n + p .counts .m) j table) (changes p d t) b
         ≡ inEntries table (dependsWith p d t j) b
     unfolding followedDown dependsWith
     followed-has zero b table h len = refl
     followed-has (suc j) b table h len =
-        followed-has j b _ (omega arith) (handed-length (p .kinds) (p .lefts) (p .rights) (p .n + p .m) j table ∙ len)
-        ∙ handed-entries (p .kinds) (p .lefts) (p .rights) (p .n + p .m) (p .k) table-wired table (dependsWith p d t j) b j len h
-        (not-yet j (p .n + p .m + j) (omega arith))
+        followed-has j b _ (omega arith) (handed-length (p .nodes .kinds) (p .nodes .a) (p .nodes .b) (p .counts .n + p .counts .m) j table ∙ len)
+        ∙ handed-entries (p .nodes .kinds) (p .nodes .a) (p .nodes .b) (p .counts .n + p .counts .m) (p .counts .k) table-wired table (dependsWith p d t j) b j len h
+        (not-yet j (p .counts .n + p .counts .m + j) (omega arith))
 
-    not-reached : (i : ℕ) → p .n ≤ i → reached p d t i ≡ false
+    not-reached : (i : ℕ) → p .counts .n ≤ i → reached p d t i ≡ false
     unfolding reached linkReaches
-    not-reached i h = some-none _ (p .links) (λ e l. rw (ne-eqb (nat (p .targets) e) i (λ q. omega (arith, rules .links e l .target))))
+    not-reached i h = some-none _ (p .counts .links) (λ e l. rw (ne-eqb (nat (p .links .targets) e) i (λ q. omega (arith, rules .links e l .target))))
 
     -- ---- the sources that change, as a mask
-    module _ (changed : ℕ) (all : changed ≡ maskOf (changes p d t) (p .n + p .m)) where
+    module _ (changed : ℕ) (all : changed ≡ maskOf (changes p d t) (p .counts .n + p .counts .m)) where
       abbrev entries : ℕ
       entries = entriesOf (reachTable p) changed
 
       changed-has : (i : ℕ) → has changed i ≡ changes p d t i
       unfolding dependsWith
-      changed-has i = rw all (go (ltb i (p .n + p .m)) refl)
+      changed-has i = rw all (go (ltb i (p .counts .n + p .counts .m)) refl)
         where
-          go : (b : Bool) → ltb i (p .n + p .m) ≡ b → has (maskOf (changes p d t) (p .n + p .m)) i ≡ changes p d t i
-          go true e = has-maskOf (changes p d t) (p .n + p .m) i (ltb-true i (p .n + p .m) e)
+          go : (b : Bool) → ltb i (p .counts .n + p .counts .m) ≡ b → has (maskOf (changes p d t) (p .counts .n + p .counts .m)) i ≡ changes p d t i
+          go true e = has-maskOf (changes p d t) (p .counts .n + p .counts .m) i (ltb-true i (p .counts .n + p .counts .m) e)
           go false e =
-              let h = ltb-false i (p .n + p .m) e in
-              has-high _ (p .n + p .m) i (maskOf-lt (changes p d t) (p .n + p .m)) h ∙ sym (not-yet 0 i (omega arith))
+              let h = ltb-false i (p .counts .n + p .counts .m) e in
+              has-high _ (p .counts .n + p .counts .m) i (maskOf-lt (changes p d t) (p .counts .n + p .counts .m)) h ∙ sym (not-yet 0 i (omega arith))
 
-      entries-has : (b : ℕ) → has entries b ≡ inEntries own (dependsWith p d t (p .k)) b
+      entries-has : (b : ℕ) → has entries b ≡ inEntries own (dependsWith p d t (p .counts .k)) b
       unfolding reachTable tableFrom
       entries-has b =
           entries-of-has (reachTable p) changed b ∙ entries-ext (reachTable p) (has changed) (changes p d t) b changed-has
-          ∙ followed-has (p .k) b own (omega arith) own-length
+          ∙ followed-has (p .counts .k) b own (omega arith) own-length
 
       low-has : (i : ℕ) → i < 32 → has (entries % 2 ^ 32) i ≡ reached p d t i
       unfolding reached linkReaches
-      low-has i h = has-low entries 32 i h ∙ entries-has i ∙ own-low (dependsWith p d t (p .k)) i h
+      low-has i h = has-low entries 32 i h ∙ entries-has i ∙ own-low (dependsWith p d t (p .counts .k)) i h
 
-      pub reached-mask : entriesOf (reachTable p) changed % 2 ^ 32 ≡ maskOf (reached p d t) (p .n)
+      pub reached-mask : entriesOf (reachTable p) changed % 2 ^ 32 ≡ maskOf (reached p d t) (p .counts .n)
       reached-mask =
-          mask-is (entries % 2 ^ 32) (p .n) (reached p d t) (λ i h. low-has i (omega (arith, counts-of p (rules .counts) .n)))
+          mask-is (entries % 2 ^ 32) (p .counts .n) (reached p d t) (λ i h. low-has i (omega (arith, counts-of p (rules .counts) .n)))
           (λ i h. above i h (ltb i 32) refl)
         where
-          above : (i : ℕ) → p .n ≤ i → (b : Bool) → ltb i 32 ≡ b → has (entries % 2 ^ 32) i ≡ false
+          above : (i : ℕ) → p .counts .n ≤ i → (b : Bool) → ltb i 32 ≡ b → has (entries % 2 ^ 32) i ≡ false
           above i h true e = low-has i (ltb-true i 32 e) ∙ not-reached i h
           above i h false e = has-high (entries % 2 ^ 32) 32 i (mod-lt entries (pow-pos 32)) (ltb-false i 32 e)
 
-      high-has : (j : ℕ) → has (entries / 2 ^ 32) j ≡ inEntries own (dependsWith p d t (p .k)) (32 + j)
+      high-has : (j : ℕ) → has (entries / 2 ^ 32) j ≡ inEntries own (dependsWith p d t (p .counts .k)) (32 + j)
       high-has j = has-shr entries 32 j ∙ entries-has (32 + j)
 
-      pub touched-mask : entriesOf (reachTable p) changed / 2 ^ 32 ≡ maskOf (λ j. dependsWith p d t (p .k) (p .n + p .m + j)) (p .k)
+      pub touched-mask : entriesOf (reachTable p) changed / 2 ^ 32 ≡ maskOf (λ j. dependsWith p d t (p .counts .k) (p .counts .n + p .counts .m + j)) (p .counts .k)
       touched-mask =
-          mask-is (entries / 2 ^ 32) (p .k) (λ j. dependsWith p d t (p .k) (p .n + p .m + j))
-          (λ j h. high-has j ∙ own-node (dependsWith p d t (p .k)) j h) (λ j h. high-has j ∙ own-past (dependsWith p d t (p .k)) j h)
+          mask-is (entries / 2 ^ 32) (p .counts .k) (λ j. dependsWith p d t (p .counts .k) (p .counts .n + p .counts .m + j))
+          (λ j h. high-has j ∙ own-node (dependsWith p d t (p .counts .k)) j h) (λ j h. high-has j ∙ own-past (dependsWith p d t (p .counts .k)) j h)
 
 -- what the engine hands over: the due integrators and the commanded inputs, joined
-pub joined-changes : (p : Plan) (d : List ℕ) (t due commanded : ℕ) → due ≡ maskOf (isDue d t) (p .n)
-    → commanded ≡ maskOf (isCommanded p t) (p .m) → joinedOf due commanded (p .n) ≡ maskOf (changes p d t) (p .n + p .m)
+pub joined-changes : (p : Plan) (d : List ℕ) (t due commanded : ℕ) → due ≡ maskOf (isDue d t) (p .counts .n)
+    → commanded ≡ maskOf (isCommanded p t) (p .counts .m) → joinedOf due commanded (p .counts .n) ≡ maskOf (changes p d t) (p .counts .n + p .counts .m)
 unfolding changes
 joined-changes p d t due commanded e f =
     rw (e, f)
-    (joined-is (isDue d t) (isCommanded p t) (p .n) (p .m) ∙ maskOf-ext _ _ (p .n + p .m) (λ i h. rw (lt-ltb i (p .n + p .m) h)))
+    (joined-is (isDue d t) (isCommanded p t) (p .counts .n) (p .counts .m) ∙ maskOf-ext _ _ (p .counts .n + p .counts .m) (λ i h. rw (lt-ltb i (p .counts .n + p .counts .m) h)))

@@ -15,8 +15,8 @@ pub link-inside : {targets sources : List ℕ} {links : ℕ} → Linked targets 
     → (nat targets e < 64) × (nat sources e < 64)
 link-inside l e h = (omega (arith, l .target e h), l .source e h)
 
-pub operands-inside : {lefts rights : List ℕ} {base k : ℕ} → Wired lefts rights base k → (j : ℕ) → j < k
-    → (nat lefts j < 64) × (nat rights j < 64)
+pub operands-inside : {a b : List ℕ} {base k : ℕ} → Wired a b base k → (j : ℕ) → j < k
+    → (nat a j < 64) × (nat b j < 64)
 operands-inside w j h = (omega (arith, w .room, w .left j h), omega (arith, w .room, w .right j h))
 
 -- ---- turns: one more bit set
@@ -25,20 +25,20 @@ pub marked-more : (place bit : ℕ → ℕ) (table so-far : List ℕ) (e v : ℕ
 unfolding marked
 marked-more place bit table so-far e v p q = rw (q, p, add-one)
 
-module _ (kinds lefts rights : List ℕ) (base : ℕ) (table : List ℕ) (j : ℕ) where
+module _ (kinds a b : List ℕ) (base : ℕ) (table : List ℕ) (j : ℕ) where
   -- kind 2 uses its left operand only
-  pub handed-left : nat kinds j ≡ 2 → added table (nat lefts j) (nat table (base + j)) ≡ handedDown kinds lefts rights base j table
+  pub handed-left : nat kinds j ≡ 2 → added table (nat a j) (nat table (base + j)) ≡ handedDown kinds a b base j table
   unfolding handedDown
   handed-left e = rw (eq-eqb (nat kinds j) 2 e)
 
   pub handed-both : (nat kinds j ≡ 2 → ⊥)
-      → added (added table (nat lefts j) (nat table (base + j))) (nat rights j) (nat table (base + j)) ≡ handedDown kinds lefts rights base j table
+      → added (added table (nat a j) (nat table (base + j))) (nat b j) (nat table (base + j)) ≡ handedDown kinds a b base j table
   unfolding handedDown
   handed-both e = rw (ne-eqb (nat kinds j) 2 e)
 
 -- the highest node first, then those below it
-pub followed-more : (kinds lefts rights : List ℕ) (base : ℕ) (table : List ℕ) (j : ℕ) → 0 < j
-    → followedDown kinds lefts rights base (j - 1) (handedDown kinds lefts rights base (j - 1) table) ≡ followedDown kinds lefts rights base j table
+pub followed-more : (kinds a b : List ℕ) (base : ℕ) (table : List ℕ) (j : ℕ) → 0 < j
+    → followedDown kinds a b base (j - 1) (handedDown kinds a b base (j - 1) table) ≡ followedDown kinds a b base j table
 unfolding followedDown
-followed-more kinds lefts rights base table zero h = absurd (omega arith)
-followed-more kinds lefts rights base table (suc j) h = let d : suc j - 1 ≡ j = omega arith in rw d
+followed-more kinds a b base table zero h = absurd (omega arith)
+followed-more kinds a b base table (suc j) h = let d : suc j - 1 ≡ j = omega arith in rw d

@@ -13,14 +13,14 @@ use Rattle.sectionwriters.proofs.write_commands.Statement.{statement}
 use Rattle.sectionwriters.proofs.write_commands.Tie as tie
 
 abbrev Inv-loop : tie.InvT-loop
-Inv-loop buf₀ commands ticks numbers values e₀ buf e = (e ≤ commands) × Begun (joined (tripleEntry ticks numbers values) e) buf₀ buf
+Inv-loop buf₀ commands ticks inputs values e₀ buf e = (e ≤ commands) × Begun (joined (tripleEntry ticks inputs values) e) buf₀ buf
 
 abbrev μ-loop : tie.MeasureT-loop
-μ-loop buf₀ commands ticks numbers values e₀ buf e = commands - e
+μ-loop buf₀ commands ticks inputs values e₀ buf e = commands - e
 
 -- the words of each entry
 abbrev entries : tie.Start Inv-loop μ-loop → ℕ → List ℕ
-entries c = let a = c .args in tripleEntry (now (a .ticks)) (now (a .numbers)) (now (a .values))
+entries c = let a = c .args in tripleEntry (now (a .ticks)) (now (a .inputs)) (now (a .values))
 
 loop-holds : tie.Need-loop-holds Inv-loop μ-loop
 loop-holds c = (omega arith, none (entries (c .before)) (now (c .before .args .buf)))

@@ -13,14 +13,14 @@ use Rattle.sectionwriters.proofs.write_nodes.Statement.{statement}
 use Rattle.sectionwriters.proofs.write_nodes.Tie as tie
 
 abbrev Inv-loop : tie.InvT-loop
-Inv-loop buf₀ k kinds lefts rights lows highs j₀ buf j = (j ≤ k) × Begun (joined (nodeEntry kinds lefts rights lows highs) j) buf₀ buf
+Inv-loop buf₀ k kinds a b lows highs j₀ buf j = (j ≤ k) × Begun (joined (nodeEntry kinds a b lows highs) j) buf₀ buf
 
 abbrev μ-loop : tie.MeasureT-loop
-μ-loop buf₀ k kinds lefts rights lows highs j₀ buf j = k - j
+μ-loop buf₀ k kinds a b lows highs j₀ buf j = k - j
 
 -- the words of each entry
 abbrev entries : tie.Start Inv-loop μ-loop → ℕ → List ℕ
-entries c = let a = c .args in nodeEntry (now (a .kinds)) (now (a .lefts)) (now (a .rights)) (now (a .lows)) (now (a .highs))
+entries c = let a = c .args in nodeEntry (now (a .kinds)) (now (a .a)) (now (a .b)) (now (a .lows)) (now (a .highs))
 
 loop-holds : tie.Need-loop-holds Inv-loop μ-loop
 loop-holds c = (omega arith, none (entries (c .before)) (now (c .before .args .buf)))

@@ -65,7 +65,7 @@ module _ (p : Plan) (r : Running) where
   -- the other clauses of integrator i
   abbrev pub figuresAt : ℕ → Bool
   figuresAt i =
-      figuresSound (r .clock) (int (p .quanta) i) (rateOf p (r .q) (r .inputs) i)
+      figuresSound (r .clocks .clock) (int (p .integrators .quanta) i) (rateOf p (r .q) (r .inputs) i)
       (int (r .x) i) (int (r .q) i) (int (r .s) i) (nat (r .l) i) (nat (r .d) i)
 
   integrator-both : (i : ℕ) → integratorSound p r i ≡ (outputAt i && figuresAt i)
@@ -76,57 +76,57 @@ module _ (p : Plan) (r : Running) where
       go true e = rw (e, and-true)
       go false e = rw (e, and-false)
 
-  integrators-both : every (integratorSound p r) (p .n) ≡ (every outputAt (p .n) && every figuresAt (p .n))
-  integrators-both = every-both (integratorSound p r) outputAt figuresAt integrator-both (p .n)
+  integrators-both : every (integratorSound p r) (p .counts .n) ≡ (every outputAt (p .counts .n) && every figuresAt (p .counts .n))
+  integrators-both = every-both (integratorSound p r) outputAt figuresAt integrator-both (p .counts .n)
 
   -- ---- the order of the code
   abbrev pub clauses : List Bool
   clauses =
-      leb (r .clock) (p .horizon)
-      ∷ every outputAt (p .n)
-      ∷ every inputAt (p .m)
-      ∷ every figuresAt (p .n)
-      ∷ eqb (r .next) (nextCommand p (r .clock))
-      ∷ leb (r .instants) (r .clock)
-      ∷ leb (r .updates) (p .n * r .instants)
-      ∷ figuresUnused (p .n) (p .m) r
+      leb (r .clocks .clock) (p .horizon)
+      ∷ every outputAt (p .counts .n)
+      ∷ every inputAt (p .counts .m)
+      ∷ every figuresAt (p .counts .n)
+      ∷ eqb (r .clocks .next) (nextCommand p (r .clocks .clock))
+      ∷ leb (r .clocks .instants) (r .clocks .clock)
+      ∷ leb (r .clocks .updates) (p .counts .n * r .clocks .instants)
+      ∷ figuresUnused (p .counts .n) (p .counts .m) r
       ∷ []
 
   pub running-tests : passes clauses 8 ≡ runningSound p r
   unfolding passes every runningSound runningUnused figuresUnused
   running-tests =
-      let clock = leb (r .clock) (p .horizon) in let outputs = every outputAt (p .n) in let inputs = every inputAt (p .m) in
-      rw (integrators-both, ← and-assoc clock, later (clock && outputs) inputs (every figuresAt (p .n)))
+      let clock = leb (r .clocks .clock) (p .horizon) in let outputs = every outputAt (p .counts .n) in let inputs = every inputAt (p .counts .m) in
+      rw (integrators-both, ← and-assoc clock, later (clock && outputs) inputs (every figuresAt (p .counts .n)))
 
   -- ---- what testing the integrators asks, once the clock, the outputs and the inputs have passed
   abbrev pub slopes : List ℤ
-  slopes = row (pos 0) 32 (p .n) (rateOf p (r .q) (r .inputs))
+  slopes = row (pos 0) 32 (p .counts .n) (rateOf p (r .q) (r .inputs))
 
   module _ (rules : PlanRules p) where
-    slope-at : (i : ℕ) → i < p .n → int slopes i ≡ rateOf p (r .q) (r .inputs) i
-    slope-at i h = row-at (pos 0) 32 (p .n) (rateOf p (r .q) (r .inputs)) i (counts-of p (rules .counts) .n) h
+    slope-at : (i : ℕ) → i < p .counts .n → int slopes i ≡ rateOf p (r .q) (r .inputs) i
+    slope-at i h = row-at (pos 0) 32 (p .counts .n) (rateOf p (r .q) (r .inputs)) i (counts-of p (rules .counts) .n) h
 
-    module _ (outputs : every outputAt (p .n) ≡ true) (inputs : every inputAt (p .m) ≡ true) where
-      output-size : (i : ℕ) → i < p .n → ∣ int (r .q) i ∣ ≤ M
-      output-size i h = within-true M (int (r .q) i) .0 (every-true outputAt (p .n) .0 outputs i h)
+    module _ (outputs : every outputAt (p .counts .n) ≡ true) (inputs : every inputAt (p .counts .m) ≡ true) where
+      output-size : (i : ℕ) → i < p .counts .n → ∣ int (r .q) i ∣ ≤ M
+      output-size i h = within-true M (int (r .q) i) .0 (every-true outputAt (p .counts .n) .0 outputs i h)
 
-      input-size : (j : ℕ) → j < p .m → ∣ int (r .inputs) j ∣ ≤ M
-      input-size j h = within-true M (int (r .inputs) j) .0 (every-true inputAt (p .m) .0 inputs j h)
+      input-size : (j : ℕ) → j < p .counts .m → ∣ int (r .inputs) j ∣ ≤ M
+      input-size j h = within-true M (int (r .inputs) j) .0 (every-true inputAt (p .counts .m) .0 inputs j h)
 
-      pub sources-ready : (p .n ≤ 32) × (p .m ≤ 8)
-          × NodesReady (p .lefts) (p .rights) (p .lows) (p .highs) (firstValues (p .n) (p .m) (r .q) (r .inputs)) (p .n + p .m) (p .k)
+      pub sources-ready : (p .counts .n ≤ 32) × (p .counts .m ≤ 8)
+          × NodesReady (p .nodes .a) (p .nodes .b) (p .nodes .lows) (p .nodes .highs) (firstValues (p .counts .n) (p .counts .m) (r .q) (r .inputs)) (p .counts .n + p .counts .m) (p .counts .k)
       sources-ready =
           let c = counts-of p (rules .counts) in
           (c .n, c .m, nodes-ready p rules _ (first-sized p (r .q) (r .inputs) rules output-size input-size))
 
-      pub rates-ready : (p .n ≤ 32) × AllRated (p .n) (rangesOf p) (p .sources) (p .coefficients) (valuesOf p (r .q) (r .inputs))
+      pub rates-ready : (p .counts .n ≤ 32) × AllRated (p .counts .n) (rangesOf p) (p .links .sources) (p .links .coefficients) (valuesOf p (r .q) (r .inputs))
       rates-ready =
           (counts-of p (rules .counts) .n, own-rated p rules _ (values-sized p (r .q) (r .inputs) rules output-size input-size))
 
-      pub figures-ready : leb (r .clock) (p .horizon) ≡ true → AllReady (p .n) (r .clock) (p .quanta) slopes (r .q)
+      pub figures-ready : leb (r .clocks .clock) (p .horizon) ≡ true → AllReady (p .counts .n) (r .clocks .clock) (p .integrators .quanta) slopes (r .q)
       figures-ready clock i h = rw (slope-at i h) (
           record {
-            early = omega (arith, leb-true (r .clock) (p .horizon) clock, rules .horizon .1);
+            early = omega (arith, leb-true (r .clocks .clock) (p .horizon) clock, rules .horizon .1);
             least = rules .integrators i h .least;
             most = rules .integrators i h .most;
             slow = rate-most p (r .q) (r .inputs) rules output-size input-size i;
@@ -134,14 +134,14 @@ module _ (p : Plan) (r : Running) where
           })
 
     -- ---- what the comparisons of instants and updates ask
-    pub clock-fits : leb (r .clock) (p .horizon) ≡ true → Fits w64 (r .clock)
-    clock-fits clock = omega (arith, leb-true (r .clock) (p .horizon) clock, rules .horizon .1)
+    pub clock-fits : leb (r .clocks .clock) (p .horizon) ≡ true → Fits w64 (r .clocks .clock)
+    clock-fits clock = omega (arith, leb-true (r .clocks .clock) (p .horizon) clock, rules .horizon .1)
 
-    pub updates-fit : leb (r .clock) (p .horizon) ≡ true → leb (r .instants) (r .clock) ≡ true → Fits w64 (p .n * r .instants)
+    pub updates-fit : leb (r .clocks .clock) (p .horizon) ≡ true → leb (r .clocks .instants) (r .clocks .clock) ≡ true → Fits w64 (p .counts .n * r .clocks .instants)
     updates-fit clock instants =
-        let few = mul-le-mul-right (r .instants) (counts-of p (rules .counts) .n) in
-        omega (arith, leb-true (r .clock) (p .horizon) clock, leb-true (r .instants) (r .clock) instants, rules .horizon .1)
+        let few = mul-le-mul-right (r .clocks .instants) (counts-of p (rules .counts) .n) in
+        omega (arith, leb-true (r .clocks .clock) (p .horizon) clock, leb-true (r .clocks .instants) (r .clocks .clock) instants, rules .horizon .1)
 
     -- the test by the slopes that the code has worked out
-    pub figures-same : every (figuresIn (r .clock) (p .quanta) slopes (r .x) (r .q) (r .s) (r .l) (r .d)) (p .n) ≡ every figuresAt (p .n)
-    figures-same = every-same _ figuresAt (p .n) (λ i h. rw (slope-at i h))
+    pub figures-same : every (figuresIn (r .clocks .clock) (p .integrators .quanta) slopes (r .x) (r .q) (r .s) (r .l) (r .d)) (p .counts .n) ≡ every figuresAt (p .counts .n)
+    figures-same = every-same _ figuresAt (p .counts .n) (λ i h. rw (slope-at i h))

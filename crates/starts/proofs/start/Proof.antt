@@ -35,7 +35,7 @@ rates-requires c κs =
     (counts-of p (b .pre .counts) .n, start-rates-ready p (b .pre) (v .source-values .ensures) (l .link-ranges .ensures))
 
 -- the slopes that `rates` gives
-slopes : (c : tie.After-rates) → let p = entry (valued (ranged c)) .args .t1 in c .rates .result ≡ row (pos 0) 32 (p .n) (startSlope p)
+slopes : (c : tie.After-rates) → let p = entry (valued (ranged c)) .args .t1 in c .rates .result ≡ row (pos 0) 32 (p .counts .n) (startSlope p)
 slopes c =
     let l = ranged c in let v = valued l in let b = entry v in
     start-slopes (b .args .t1) (b .pre) (v .source-values .ensures) (l .link-ranges .ensures) (c .rates .ensures)

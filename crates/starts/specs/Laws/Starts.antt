@@ -36,69 +36,66 @@ zeros w k = row-none 0 w (λ i. 0) ∙ table-ext w _ _ (λ i h. same (ltb i 0) �
     same false = refl
 
 module _ (p : Plan) (rules : PlanRules p) where
-  outputs : (i : ℕ) → i < p .n → ∣ int (p .starts) i ∣ ≤ M
-  outputs i h = within-size M (int (p .starts) i) .0 (rules .integrators i h .start)
+  outputs : (i : ℕ) → i < p .counts .n → ∣ int (p .integrators .starts) i ∣ ≤ M
+  outputs i h = within-size M (int (p .integrators .starts) i) .0 (rules .integrators i h .start)
 
-  inputs : (j : ℕ) → j < p .m → ∣ int (p .firsts) j ∣ ≤ M
-  inputs j h = within-size M (int (p .firsts) j) .0 (rules .inputs j h)
+  inputs : (j : ℕ) → j < p .counts .m → ∣ int (p .inputs .firsts) j ∣ ≤ M
+  inputs j h = within-size M (int (p .inputs .firsts) j) .0 (rules .inputs j h)
 
   -- ---- the values of sources
-  pub start-nodes-ready : NodesReady (p .lefts) (p .rights) (p .lows) (p .highs) (firstValues (p .n) (p .m) (p .starts) (p .firsts)) (p .n + p .m) (p .k)
-  start-nodes-ready = nodes-ready p rules _ (first-sized p (p .starts) (p .firsts) rules outputs inputs)
+  pub start-nodes-ready : NodesReady (p .nodes .a) (p .nodes .b) (p .nodes .lows) (p .nodes .highs) (firstValues (p .counts .n) (p .counts .m) (p .integrators .starts) (p .inputs .firsts)) (p .counts .n + p .counts .m) (p .counts .k)
+  start-nodes-ready = nodes-ready p rules _ (first-sized p (p .integrators .starts) (p .inputs .firsts) rules outputs inputs)
 
   -- ---- the slopes
   module _ {values : List ℤ} {ranges : List ℕ}
-      (worked : values ≡ each (nodeStep (p .kinds) (p .lefts) (p .rights) (p .lows) (p .highs) (p .n + p .m)) (λ _. true) (p .k)
-      (firstValues (p .n) (p .m) (p .starts) (p .firsts)))
-      (found : ranges ≡ row 0 33 (p .n + 1) (firstLink (p .targets) (p .links))) where
-    values-are : values ≡ valuesOf p (p .starts) (p .firsts)
-    values-are = worked ∙ all-nodes p (p .starts) (p .firsts) rules
+      (worked : values ≡ each (nodeStep (p .nodes .kinds) (p .nodes .a) (p .nodes .b) (p .nodes .lows) (p .nodes .highs) (p .counts .n + p .counts .m)) (λ _. true) (p .counts .k)
+      (firstValues (p .counts .n) (p .counts .m) (p .integrators .starts) (p .inputs .firsts)))
+      (found : ranges ≡ row 0 33 (p .counts .n + 1) (firstLink (p .links .targets) (p .counts .links))) where
+    values-are : values ≡ valuesOf p (p .integrators .starts) (p .inputs .firsts)
+    values-are = worked ∙ all-nodes p (p .integrators .starts) (p .inputs .firsts) rules
 
     ranges-are : ranges ≡ rangesOf p
     unfolding rangesOf
     ranges-are = found
 
-    pub start-rates-ready : AllRated (p .n) ranges (p .sources) (p .coefficients) values
-    start-rates-ready = rw (values-are, ranges-are) (own-rated p rules _ (values-sized p (p .starts) (p .firsts) rules outputs inputs))
+    pub start-rates-ready : AllRated (p .counts .n) ranges (p .links .sources) (p .links .coefficients) values
+    start-rates-ready = rw (values-are, ranges-are) (own-rated p rules _ (values-sized p (p .integrators .starts) (p .inputs .firsts) rules outputs inputs))
 
     pub start-slopes : {s : List ℤ}
-        → s ≡ row (pos 0) 32 (p .n) (λ i. rangeRate (p .sources) (p .coefficients) values (nat ranges i) (nat ranges (i + 1)))
-        → s ≡ row (pos 0) 32 (p .n) (startSlope p)
+        → s ≡ row (pos 0) 32 (p .counts .n) (λ i. rangeRate (p .links .sources) (p .links .coefficients) values (nat ranges i) (nat ranges (i + 1)))
+        → s ≡ row (pos 0) 32 (p .counts .n) (startSlope p)
     unfolding startSlope
-    start-slopes e = rw (values-are, ranges-are) at e ∙ own-rates p rules _ (p .starts) (p .firsts) (values-at p (p .starts) (p .firsts) rules)
+    start-slopes e = rw (values-are, ranges-are) at e ∙ own-rates p rules _ (p .integrators .starts) (p .inputs .firsts) (values-at p (p .integrators .starts) (p .inputs .firsts) rules)
 
   -- ---- the due ticks
-  module _ {s : List ℤ} (slopes : s ≡ row (pos 0) 32 (p .n) (startSlope p)) where
-    slope-at : (i : ℕ) → i < p .n → int s i ≡ startSlope p i
-    slope-at i h = rw slopes (row-at (pos 0) 32 (p .n) (startSlope p) i (counts-of p (rules .counts) .n) h)
+  module _ {s : List ℤ} (slopes : s ≡ row (pos 0) 32 (p .counts .n) (startSlope p)) where
+    slope-at : (i : ℕ) → i < p .counts .n → int s i ≡ startSlope p i
+    slope-at i h = rw slopes (row-at (pos 0) 32 (p .counts .n) (startSlope p) i (counts-of p (rules .counts) .n) h)
 
-    pub start-dues-ready : StartsReady (p .n) (p .starts) (p .quanta) s
+    pub start-dues-ready : StartsReady (p .counts .n) (p .integrators .starts) (p .integrators .quanta) s
     start-dues-ready i h = rw (slope-at i h) (due-ready-start p i rules h)
 
     pub start-dues : {d : List ℕ}
-        → d ≡ row 0 32 (p .n) (λ i. dueTick 0 (int (p .starts) i) (int (p .starts) i +ℤ int (p .quanta) i)
-        (int (p .starts) i -ℤ int (p .quanta) i) (int s i))
-        → d ≡ row 0 32 (p .n) (startDue p)
-    start-dues e = e ∙ row-ext 0 32 (p .n) _ _ (λ i h. rw (slope-at i h) (due-is-start p i))
+        → d ≡ row 0 32 (p .counts .n) (λ i. dueTick 0 (int (p .integrators .starts) i) (int (p .integrators .starts) i +ℤ int (p .integrators .quanta) i)
+        (int (p .integrators .starts) i -ℤ int (p .integrators .quanta) i) (int s i))
+        → d ≡ row 0 32 (p .counts .n) (startDue p)
+    start-dues e = e ∙ row-ext 0 32 (p .counts .n) _ _ (λ i h. rw (slope-at i h) (due-is-start p i))
 
 -- ---- the whole
 -- as it is made, with the slopes s and the due ticks d
 abbrev pub startWith : Plan → List ℤ → List ℕ → ℕ → Running
 startWith p s d next =
     record {
-      x = p .starts;
-      q = p .starts;
+      x = p .integrators .starts;
+      q = p .integrators .starts;
       s = s;
       l = replicate 32 0;
       d = d;
-      inputs = p .firsts;
-      clock = 0;
-      next = next;
-      instants = 0;
-      updates = 0;
+      inputs = p .inputs .firsts;
+      clocks = record { clock = 0; next = next; instants = 0; updates = 0 };
     }
 
-pub start-is : (p : Plan) {s : List ℤ} {d : List ℕ} {next : ℕ} → s ≡ row (pos 0) 32 (p .n) (startSlope p) → d ≡ row 0 32 (p .n) (startDue p)
+pub start-is : (p : Plan) {s : List ℤ} {d : List ℕ} {next : ℕ} → s ≡ row (pos 0) 32 (p .counts .n) (startSlope p) → d ≡ row 0 32 (p .counts .n) (startDue p)
     → next ≡ nextCommand p 0 → startWith p s d next ≡ startOf p
 unfolding startOf
-start-is p e f g = rw (e, f, g, zeros 32 (p .n))
+start-is p e f g = rw (e, f, g, zeros 32 (p .counts .n))

@@ -38,34 +38,34 @@ joined-cut f n (suc k) e = rw (add-suc, e (n + k) (omega arith), append-nil) (jo
 
 -- ---- the events of an instant: `changed` is the mask of the sources that change, whose values stand in `values`
 module _ (p : Plan) (rules : PlanRules p) (d : List ℕ) (t : ℕ) (q u values : List ℤ) (changed : ℕ)
-    (mask : changed ≡ maskOf (changes p d t) (p .n + p .m)) (value : (i : ℕ) → i < p .n + p .m → int values i ≡ valueWith p q u zero i) where
-  changed-below : (i : ℕ) → i < p .n + p .m → has changed i ≡ changes p d t i
-  changed-below i h = rw mask (has-maskOf (changes p d t) (p .n + p .m) i h)
+    (mask : changed ≡ maskOf (changes p d t) (p .counts .n + p .counts .m)) (value : (i : ℕ) → i < p .counts .n + p .counts .m → int values i ≡ valueWith p q u zero i) where
+  changed-below : (i : ℕ) → i < p .counts .n + p .counts .m → has changed i ≡ changes p d t i
+  changed-below i h = rw mask (has-maskOf (changes p d t) (p .counts .n + p .counts .m) i h)
 
-  changed-above : (i : ℕ) → p .n + p .m ≤ i → has changed i ≡ false
-  changed-above i h = rw mask (has-high (maskOf (changes p d t) (p .n + p .m)) (p .n + p .m) i (maskOf-lt (changes p d t) (p .n + p .m)) h)
+  changed-above : (i : ℕ) → p .counts .n + p .counts .m ≤ i → has changed i ≡ false
+  changed-above i h = rw mask (has-high (maskOf (changes p d t) (p .counts .n + p .counts .m)) (p .counts .n + p .counts .m) i (maskOf-lt (changes p d t) (p .counts .n + p .counts .m)) h)
 
   pub events-are : eventsIn changed t values ≡ eventsAt p t d q u
   unfolding eventsIn eventsAt
   events-are =
       let limits = counts-of p (rules .counts) in
-      let all : p .n + p .m + (64 - (p .n + p .m)) ≡ 64 = omega arith in
-      ap (joined written) (sym all) ∙ joined-cut written (p .n + p .m) (64 - (p .n + p .m)) (λ i h. rw (changed-above i h))
-      ∙ joined-ext written (λ i. cond (changes p d t i) (eventBytes t i (valueWith p q u zero i)) []) (p .n + p .m)
+      let all : p .counts .n + p .counts .m + (64 - (p .counts .n + p .counts .m)) ≡ 64 = omega arith in
+      ap (joined written) (sym all) ∙ joined-cut written (p .counts .n + p .counts .m) (64 - (p .counts .n + p .counts .m)) (λ i h. rw (changed-above i h))
+      ∙ joined-ext written (λ i. cond (changes p d t i) (eventBytes t i (valueWith p q u zero i)) []) (p .counts .n + p .counts .m)
       (λ i h. rw (changed-below i h, value i h))
     where
       written : ℕ → List ℕ
       written i = cond (has changed i) (eventBytes t i (int values i)) []
 
   -- writing them asks for room and for values of their size
-  pub events-ready : (at size : ℕ) → at + (p .n + p .m) * 12 ≤ size → ((i : ℕ) → i < p .n + p .m → ∣ int values i ∣ ≤ M)
+  pub events-ready : (at size : ℕ) → at + (p .counts .n + p .counts .m) * 12 ≤ size → ((i : ℕ) → i < p .counts .n + p .counts .m → ∣ int values i ∣ ≤ M)
       → EventsReady changed t values at size
   events-ready at size room sized =
       record {
-        room = omega (arith, ap length events-are, length-events p t d q u, countOf-le (changes p d t) (p .n + p .m));
-        sized = λ i h. inside i h (ltb i (p .n + p .m)) refl;
+        room = omega (arith, ap length events-are, length-events p t d q u, countOf-le (changes p d t) (p .counts .n + p .counts .m));
+        sized = λ i h. inside i h (ltb i (p .counts .n + p .counts .m)) refl;
       }
     where
-      inside : (i : ℕ) → has changed i ≡ true → (b : Bool) → ltb i (p .n + p .m) ≡ b → ∣ int values i ∣ ≤ M
-      inside i h true e = sized i (ltb-true i (p .n + p .m) e)
-      inside i h false e = absurd (true≢false (sym h ∙ changed-above i (ltb-false i (p .n + p .m) e)))
+      inside : (i : ℕ) → has changed i ≡ true → (b : Bool) → ltb i (p .counts .n + p .counts .m) ≡ b → ∣ int values i ∣ ≤ M
+      inside i h true e = sized i (ltb-true i (p .counts .n + p .counts .m) e)
+      inside i h false e = absurd (true≢false (sym h ∙ changed-above i (ltb-false i (p .counts .n + p .counts .m) e)))

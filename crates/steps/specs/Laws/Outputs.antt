@@ -47,35 +47,35 @@ stores-values r t =
     }
 
 -- ---- all of the due ones
-module _ (p : Plan) (r : Running) (sound : SoundRunning p r) (shaped : RunningShaped r) (t due : ℕ) (due-set : due ≡ maskOf (isDue (r .d) t) (p .n))
+module _ (p : Plan) (r : Running) (sound : SoundRunning p r) (shaped : RunningShaped r) (t due : ℕ) (due-set : due ≡ maskOf (isDue (r .d) t) (p .counts .n))
     (values : List ℤ) (full : length values ≡ 64) (o : Outputting)
     (walk : o ≡ each (outputOne t (r .x) (r .s) (r .l)) (has due) 32 (outputting (r .q) values)) where
   limits : Counts p
   limits = counts-of p (sound .plan .counts)
 
-  walked-outputs : Walked outputIn (taken r t) (λ o. length (o .q) ≡ 32) (isDue (r .d) t) (p .n) (outputting (r .q) values) o
+  walked-outputs : Walked outputIn (taken r t) (λ o. length (o .q) ≡ 32) (isDue (r .d) t) (p .counts .n) (outputting (r .q) values) o
   walked-outputs =
       rw (walk, due-set)
-      (walked (stores-outputs r t) (isDue (r .d) t) (outputting (r .q) values) (shaped .q) (p .n) 32 (limits .n) (limits .n))
+      (walked (stores-outputs r t) (isDue (r .d) t) (outputting (r .q) values) (shaped .q) (p .counts .n) 32 (limits .n) (limits .n))
 
-  walked-values : Walked valueIn (taken r t) (λ o. length (o .values) ≡ 64) (isDue (r .d) t) (p .n) (outputting (r .q) values) o
+  walked-values : Walked valueIn (taken r t) (λ o. length (o .values) ≡ 64) (isDue (r .d) t) (p .counts .n) (outputting (r .q) values) o
   walked-values =
       rw (walk, due-set)
-      (walked (stores-values r t) (isDue (r .d) t) (outputting (r .q) values) full (p .n) 32 (limits .n) (omega (arith, limits .n)))
+      (walked (stores-values r t) (isDue (r .d) t) (outputting (r .q) values) full (p .counts .n) 32 (limits .n) (omega (arith, limits .n)))
 
   pub outputs-are : o .q ≡ outputs p r t
   unfolding outputs
   outputs-are =
       let w = walked-outputs in
-      row-is (pos 0) 32 (p .n) _ (o .q) (w .full) (λ i h. w .past i h ∙ sound .running-unused .q i h) (w .at)
+      row-is (pos 0) 32 (p .counts .n) _ (o .q) (w .full) (λ i h. w .past i h ∙ sound .running-unused .q i h) (w .at)
 
   pub values-full : length (o .values) ≡ 64
   values-full = walked-values .full
 
   -- the sources above the integrators keep their values
-  pub values-kept : (i : ℕ) → p .n ≤ i → int (o .values) i ≡ int values i
+  pub values-kept : (i : ℕ) → p .counts .n ≤ i → int (o .values) i ≡ int values i
   values-kept = walked-values .past
 
   -- where `values` held the outputs before, it holds the new ones
-  pub values-are : ((i : ℕ) → i < p .n → int values i ≡ int (r .q) i) → (i : ℕ) → i < p .n → int (o .values) i ≡ int (outputs p r t) i
+  pub values-are : ((i : ℕ) → i < p .counts .n → int values i ≡ int (r .q) i) → (i : ℕ) → i < p .counts .n → int (o .values) i ≡ int (outputs p r t) i
   values-are same i h = walked-values .at i h ∙ rw (same i h) (sym (outputs-at p limits r t i h))

@@ -66,119 +66,119 @@ module _ (p : Plan) (t j : ℕ) where
   unfolding some
   some-next e f = rw f (or-false (some (setsInput p t j) e))
 
-  other-tick : (e : ℕ) → (nat (p .ticks) e ≡ t → ⊥) → setsInput p t j e ≡ false
+  other-tick : (e : ℕ) → (nat (p .commands .ticks) e ≡ t → ⊥) → setsInput p t j e ≡ false
   other-tick e h = means-false (sets-means p t j e .0) (λ s. h (s .0))
 
-  own-tick : (e : ℕ) → nat (p .ticks) e ≡ t → setsInput p t j e ≡ eqb (nat (p .numbers) e) j
+  own-tick : (e : ℕ) → nat (p .commands .ticks) e ≡ t → setsInput p t j e ≡ eqb (nat (p .commands .inputs) e) j
   unfolding setsInput
-  own-tick e h = rw (eq-eqb (nat (p .ticks) e) t h)
+  own-tick e h = rw (eq-eqb (nat (p .commands .ticks) e) t h)
 
 -- ---- one command after the other
 -- Those commands of tick t are obeyed that stand before the next one; u and `values` are the values of inputs and of sources before.
 record ObeyedTo (p : Plan) (u values : List ℤ) (t : ℕ) (o : Obeying) : Type 0 where
-  most : o .next ≤ p .commands
-  earlier : (e : ℕ) → e < o .next → nat (p .ticks) e ≤ t
-  ahead : o .next < p .commands → t ≤ nat (p .ticks) (o .next)
+  most : o .next ≤ p .counts .commands
+  earlier : (e : ℕ) → e < o .next → nat (p .commands .ticks) e ≤ t
+  ahead : o .next < p .counts .commands → t ≤ nat (p .commands .ticks) (o .next)
   width : length (o .inputs) ≡ 8
   inputs : (j : ℕ) → int (o .inputs) j ≡ settingOf p u t j (o .next)
-  unused : UnusedInt (p .m) (o .inputs)
-  small : o .commanded < 2 ^ p .m
+  unused : UnusedInt (p .counts .m) (o .inputs)
+  small : o .commanded < 2 ^ p .counts .m
   commanded : (j : ℕ) → has (o .commanded) j ≡ some (setsInput p t j) (o .next)
   same-length : length (o .values) ≡ length values
-  sources : ((j : ℕ) → j < p .m → int values (p .n + j) ≡ int u j) → (j : ℕ) → j < p .m → int (o .values) (p .n + j) ≡ settingOf p u t j (o .next)
-  kept : (i : ℕ) → ((e : ℕ) → e < o .next → nat (p .ticks) e ≡ t → i ≡ p .n + nat (p .numbers) e → ⊥) → int (o .values) i ≡ int values i
+  sources : ((j : ℕ) → j < p .counts .m → int values (p .counts .n + j) ≡ int u j) → (j : ℕ) → j < p .counts .m → int (o .values) (p .counts .n + j) ≡ settingOf p u t j (o .next)
+  kept : (i : ℕ) → ((e : ℕ) → e < o .next → nat (p .commands .ticks) e ≡ t → i ≡ p .counts .n + nat (p .commands .inputs) e → ⊥) → int (o .values) i ≡ int values i
 
 -- the ticks of commands ascend
-ticks-ascend : (p : Plan) → PlanRules p → (d e : ℕ) → d ≤ e → e < p .commands → nat (p .ticks) d ≤ nat (p .ticks) e
+ticks-ascend : (p : Plan) → PlanRules p → (d e : ℕ) → d ≤ e → e < p .counts .commands → nat (p .commands .ticks) d ≤ nat (p .commands .ticks) e
 ticks-ascend p rules d e h l = go (eqb d e) refl
   where
-    go : (b : Bool) → eqb d e ≡ b → nat (p .ticks) d ≤ nat (p .ticks) e
-    go true s = omega (arith, ap (nat (p .ticks)) (eqb-true d e s))
+    go : (b : Bool) → eqb d e ≡ b → nat (p .commands .ticks) d ≤ nat (p .commands .ticks) e
+    go true s = omega (arith, ap (nat (p .commands .ticks)) (eqb-true d e s))
     go false s =
         let before : d < e = omega (arith, eqb-false d e s) in
         ⊎-elim (λ b. omega arith) (λ b. omega arith)
-        (ascending (p .ticks) (p .numbers) (p .commands) (λ e h. rules .commands e h .order) d e before l)
+        (ascending (p .commands .ticks) (p .commands .inputs) (p .counts .commands) (λ e h. rules .commands e h .order) d e before l)
 
 module _ (p : Plan) (rules : PlanRules p) (u values : List ℤ) (t : ℕ) (wide : length values ≡ 64) where
   abbrev obey : ℕ → Obeying → Obeying
-  obey = obeyOne t (p .n) (p .ticks) (p .numbers) (p .values)
+  obey = obeyOne t (p .counts .n) (p .commands .ticks) (p .commands .inputs) (p .commands .values)
 
   abbrev obeyAll : ℕ → ℕ → Obeying → Obeying
-  obeyAll = obeyFrom t (p .n) (p .ticks) (p .numbers) (p .values)
+  obeyAll = obeyFrom t (p .counts .n) (p .commands .ticks) (p .commands .inputs) (p .commands .values)
 
   -- one more
-  obeyed-more : (o : Obeying) → ObeyedTo p u values t o → o .next < p .commands → nat (p .ticks) (o .next) ≡ t
+  obeyed-more : (o : Obeying) → ObeyedTo p u values t o → o .next < p .counts .commands → nat (p .commands .ticks) (o .next) ≡ t
       → ObeyedTo p u values t (obey (o .next) o)
   unfolding obeyOne settingOf some
   obeyed-more o w h tick =
       let e = o .next in
-      let k = nat (p .numbers) (o .next) in
-      let v = int (p .values) (o .next) in
+      let k = nat (p .commands .inputs) (o .next) in
+      let v = int (p .commands .values) (o .next) in
       let rule = rules .commands (o .next) h in
       let limits = counts-of p (rules .counts) in
       record {
         most = omega arith;
-        earlier = λ d l. let b : d < suc e = omega arith in below-suc (λ d. nat (p .ticks) d ≤ t) b (w .earlier d) (omega arith);
+        earlier = λ d l. let b : d < suc e = omega arith in below-suc (λ d. nat (p .commands .ticks) d ≤ t) b (w .earlier d) (omega arith);
         ahead = λ l. omega (arith, ticks-ascend p rules e (e + 1) (omega arith) l);
         width = length-set (o .inputs) k v ∙ w .width;
         inputs = λ j.
             set-entry (o .inputs) k j v (omega (arith, rule .number, limits .m, w .width))
             ∙ rw (add-one, own-tick p t j e tick, w .inputs j);
         unused = λ j l. getD-set-other (o .inputs) k j v (pos 0) (λ q. omega (arith, rule .number)) ∙ w .unused j l;
-        small = with-lt (p .m) (o .commanded) k (w .small) (rule .number);
+        small = with-lt (p .counts .m) (o .commanded) k (w .small) (rule .number);
         commanded = λ j. has-with (o .commanded) k j ∙ rw (add-one, own-tick p t j e tick, w .commanded j, eqb-same j k k j sym sym);
-        same-length = length-set (o .values) (p .n + k) v ∙ w .same-length;
+        same-length = length-set (o .values) (p .counts .n + k) v ∙ w .same-length;
         sources = λ agree j l.
-            let same = eqb-same (p .n + k) (p .n + j) k j (λ q. omega arith) (λ q. omega arith) in
-            set-entry (o .values) (p .n + k) (p .n + j) v (omega (arith, rule .number, limits .n, limits .m, w .same-length))
+            let same = eqb-same (p .counts .n + k) (p .counts .n + j) k j (λ q. omega arith) (λ q. omega arith) in
+            set-entry (o .values) (p .counts .n + k) (p .counts .n + j) v (omega (arith, rule .number, limits .n, limits .m, w .same-length))
             ∙ rw (same, add-one, own-tick p t j e tick, w .sources agree j l);
         kept = λ i f.
-            getD-set-other (o .values) (p .n + k) i v (pos 0) (λ q. f e (omega arith) tick q)
+            getD-set-other (o .values) (p .counts .n + k) i v (pos 0) (λ q. f e (omega arith) tick q)
             ∙ w .kept i (λ d l. f d (omega arith));
       }
 
   -- all: the next command is of another tick, or there is none
   abbrev Done : Obeying → Type 0
-  Done o = ObeyedTo p u values t o × (o .next < p .commands → nat (p .ticks) (o .next) ≡ t → ⊥)
+  Done o = ObeyedTo p u values t o × (o .next < p .counts .commands → nat (p .commands .ticks) (o .next) ≡ t → ⊥)
 
-  obeyed-all : (left : ℕ) (o : Obeying) → o .next + left ≡ p .commands → ObeyedTo p u values t o → Done (obeyAll (o .next) left o)
+  obeyed-all : (left : ℕ) (o : Obeying) → o .next + left ≡ p .counts .commands → ObeyedTo p u values t o → Done (obeyAll (o .next) left o)
   unfolding obeyFrom obeyOne
   obeyed-all zero o l w = (w, λ h. absurd (omega arith))
   obeyed-all (suc left) o l w =
-      go (eqb (nat (p .ticks) (o .next)) t) refl
-      (λ b. obeyed-all left (obey (o .next) o) (omega arith) (obeyed-more o w (omega arith) (eqb-true (nat (p .ticks) (o .next)) t b)))
+      go (eqb (nat (p .commands .ticks) (o .next)) t) refl
+      (λ b. obeyed-all left (obey (o .next) o) (omega arith) (obeyed-more o w (omega arith) (eqb-true (nat (p .commands .ticks) (o .next)) t b)))
     where
-      go : (b : Bool) → eqb (nat (p .ticks) (o .next)) t ≡ b
-          → (eqb (nat (p .ticks) (o .next)) t ≡ true → Done (obeyAll (o .next + 1) left (obey (o .next) o)))
+      go : (b : Bool) → eqb (nat (p .commands .ticks) (o .next)) t ≡ b
+          → (eqb (nat (p .commands .ticks) (o .next)) t ≡ true → Done (obeyAll (o .next + 1) left (obey (o .next) o)))
           → Done (cond b (obeyAll (o .next + 1) left (obey (o .next) o)) o)
       go true b more = more b
-      go false b more = (w, λ h. eqb-false (nat (p .ticks) (o .next)) t b)
+      go false b more = (w, λ h. eqb-false (nat (p .commands .ticks) (o .next)) t b)
 
 -- ---- all commands of a tick
 -- What is asked before tick t: the inputs' values u and the sources' values in arrays of their full width, the clock before t, the next
 -- command by the clock, and no command of a tick between the two.
 pub record TickReady (p : Plan) (u values : List ℤ) (clock t next : ℕ) : Type 0 where
   pub inputs-width : length u ≡ 8
-  pub inputs-unused : UnusedInt (p .m) u
+  pub inputs-unused : UnusedInt (p .counts .m) u
   pub values-width : length values ≡ 64
   pub next-is : next ≡ nextCommand p clock
   pub later : clock < t
-  pub ahead : next < p .commands → t ≤ nat (p .ticks) next
+  pub ahead : next < p .counts .commands → t ≤ nat (p .commands .ticks) next
 
 -- What the commands of tick t leave.
 pub record Obeyed (p : Plan) (u values : List ℤ) (t : ℕ) (o : Obeying) : Type 0 where
   pub inputs-are : o .inputs ≡ settings p u t
-  pub commanded-are : o .commanded ≡ maskOf (isCommanded p t) (p .m)
+  pub commanded-are : o .commanded ≡ maskOf (isCommanded p t) (p .counts .m)
   pub next-is : o .next ≡ nextCommand p t
   pub same-length : length (o .values) ≡ length values
   -- the values of inputs, where those before are those of u
-  pub sources : ((j : ℕ) → j < p .m → int values (p .n + j) ≡ int u j) → (j : ℕ) → j < p .m → int (o .values) (p .n + j) ≡ int (settings p u t) j
+  pub sources : ((j : ℕ) → j < p .counts .m → int values (p .counts .n + j) ≡ int u j) → (j : ℕ) → j < p .counts .m → int (o .values) (p .counts .n + j) ≡ int (settings p u t) j
   -- the values of all sources but commanded inputs
-  pub kept : (i : ℕ) → ((j : ℕ) → j < p .m → isCommanded p t j ≡ true → i ≡ p .n + j → ⊥) → int (o .values) i ≡ int values i
+  pub kept : (i : ℕ) → ((j : ℕ) → j < p .counts .m → isCommanded p t j ≡ true → i ≡ p .counts .n + j → ⊥) → int (o .values) i ≡ int values i
 
 module _ (p : Plan) (rules : PlanRules p) (u values : List ℤ) where
   module _ (clock t next : ℕ) (ready : TickReady p u values clock t next) where
-    before : (d : ℕ) → d < next → nat (p .ticks) d < t
+    before : (d : ℕ) → d < next → nat (p .commands .ticks) d < t
     before d h = omega (arith, rw (← ready .next-is) at (command-earlier p clock d) h, ready .later)
 
     -- no command before the next one is of the tick
@@ -202,27 +202,27 @@ module _ (p : Plan) (rules : PlanRules p) (u values : List ℤ) where
           width = ready .inputs-width;
           inputs = λ j. sym (first-settings j);
           unused = ready .inputs-unused;
-          small = pow-pos (p .m);
+          small = pow-pos (p .counts .m);
           commanded = λ j. has-none j ∙ sym (first-commanded j);
           same-length = refl;
           sources = λ agree j h. agree j h ∙ sym (first-settings j);
           kept = λ i f. refl;
         }
 
-  module _ (t : ℕ) (o : Obeying) (w : ObeyedTo p u values t o) (end : o .next < p .commands → nat (p .ticks) (o .next) ≡ t → ⊥) where
-    above : o .next < p .commands → t < nat (p .ticks) (o .next)
+  module _ (t : ℕ) (o : Obeying) (w : ObeyedTo p u values t o) (end : o .next < p .counts .commands → nat (p .commands .ticks) (o .next) ≡ t → ⊥) where
+    above : o .next < p .counts .commands → t < nat (p .commands .ticks) (o .next)
     above h = omega (arith, w .ahead h, end h)
 
     -- no command from the next one on is of the tick
-    none-after : (j d : ℕ) → o .next ≤ d → d < p .commands → setsInput p t j d ≡ false
+    none-after : (j d : ℕ) → o .next ≤ d → d < p .counts .commands → setsInput p t j d ≡ false
     none-after j d h l = other-tick p t j d (λ q. omega (arith, above (omega arith), ticks-ascend p rules (o .next) d h l))
 
-    all-settings : (j : ℕ) → settingOf p u t j (p .commands) ≡ settingOf p u t j (o .next)
-    all-settings j = unchanged (settingOf p u t j) (o .next) (p .commands) (w .most) (λ d l h. setting-next p t j u d (none-after j d l h))
+    all-settings : (j : ℕ) → settingOf p u t j (p .counts .commands) ≡ settingOf p u t j (o .next)
+    all-settings j = unchanged (settingOf p u t j) (o .next) (p .counts .commands) (w .most) (λ d l h. setting-next p t j u d (none-after j d l h))
 
     all-commanded : (j : ℕ) → isCommanded p t j ≡ some (setsInput p t j) (o .next)
     unfolding isCommanded
-    all-commanded j = unchanged (some (setsInput p t j)) (o .next) (p .commands) (w .most) (λ d l h. some-next p t j d (none-after j d l h))
+    all-commanded j = unchanged (some (setsInput p t j)) (o .next) (p .counts .commands) (w .most) (λ d l h. some-next p t j d (none-after j d l h))
 
     commands-done : Obeyed p u values t o
     unfolding settings
@@ -230,40 +230,40 @@ module _ (p : Plan) (rules : PlanRules p) (u values : List ℤ) where
         let limits = counts-of p (rules .counts) in
         record {
           inputs-are =
-              sym (row-all (pos 0) 8 (p .m) (o .inputs) (w .width) (w .unused))
-              ∙ row-ext (pos 0) 8 (p .m) _ _ (λ j h. w .inputs j ∙ sym (all-settings j));
+              sym (row-all (pos 0) 8 (p .counts .m) (o .inputs) (w .width) (w .unused))
+              ∙ row-ext (pos 0) 8 (p .counts .m) _ _ (λ j h. w .inputs j ∙ sym (all-settings j));
           commanded-are =
-              mask-ext (p .m) (o .commanded) (maskOf (isCommanded p t) (p .m)) (w .small) (maskOf-lt (isCommanded p t) (p .m))
-              (λ j h. w .commanded j ∙ sym (all-commanded j) ∙ sym (has-maskOf (isCommanded p t) (p .m) j h));
+              mask-ext (p .counts .m) (o .commanded) (maskOf (isCommanded p t) (p .counts .m)) (w .small) (maskOf-lt (isCommanded p t) (p .counts .m))
+              (λ j h. w .commanded j ∙ sym (all-commanded j) ∙ sym (has-maskOf (isCommanded p t) (p .counts .m) j h));
           next-is = command-is p t (o .next) (w .most) (w .earlier) above;
           same-length = w .same-length;
           sources = λ agree j h.
-              w .sources agree j h ∙ sym (all-settings j) ∙ sym (row-at (pos 0) 8 (p .m) _ j (limits .m) h);
+              w .sources agree j h ∙ sym (all-settings j) ∙ sym (row-at (pos 0) 8 (p .counts .m) _ j (limits .m) h);
           kept = λ i f.
               w .kept i
-              (λ e h tick. f (nat (p .numbers) e) (rules .commands e (omega (arith, w .most)) .number)
-              (commanded-means p t (nat (p .numbers) e) .1 (e, omega (arith, w .most), tick, refl)));
+              (λ e h tick. f (nat (p .commands .inputs) e) (rules .commands e (omega (arith, w .most)) .number)
+              (commanded-means p t (nat (p .commands .inputs) e) .1 (e, omega (arith, w .most), tick, refl)));
         }
 
   -- the commands of tick t
   pub obeyed : (clock t next : ℕ) → TickReady p u values clock t next → {o : Obeying}
-      → o ≡ obeyFrom t (p .n) (p .ticks) (p .numbers) (p .values) next (p .commands - next) (obeying u values 0 next) → Obeyed p u values t o
+      → o ≡ obeyFrom t (p .counts .n) (p .commands .ticks) (p .commands .inputs) (p .commands .values) next (p .counts .commands - next) (obeying u values 0 next) → Obeyed p u values t o
   obeyed clock t next ready {o} e =
       let begun = commands-begun clock t next ready in
       let start = obeying u values 0 next in
-      let done = obeyed-all p rules u values t (ready .values-width) (p .commands - next) start (omega (arith, begun .most)) begun in
+      let done = obeyed-all p rules u values t (ready .values-width) (p .counts .commands - next) start (omega (arith, begun .most)) begun in
       rw e (commands-done t _ (done .0) (done .1))
 
 -- outputs and values of nodes
 module _ {p : Plan} {u values : List ℤ} {t : ℕ} {o : Obeying} (done : Obeyed p u values t o) where
-  pub outputs-kept : (i : ℕ) → i < p .n → int (o .values) i ≡ int values i
+  pub outputs-kept : (i : ℕ) → i < p .counts .n → int (o .values) i ≡ int values i
   outputs-kept i h = done .kept i (λ j l c q. omega arith)
 
-  pub nodes-kept : (i : ℕ) → p .n + p .m ≤ i → int (o .values) i ≡ int values i
+  pub nodes-kept : (i : ℕ) → p .counts .n + p .counts .m ≤ i → int (o .values) i ≡ int values i
   nodes-kept i h = done .kept i (λ j l c q. omega arith)
 
 -- what obeying them asks
-pub commands-ready : (p : Plan) → PlanRules p → (next clock : ℕ) → next ≡ nextCommand p clock → CommandsReady next (p .commands) (p .n) (p .numbers)
+pub commands-ready : (p : Plan) → PlanRules p → (next clock : ℕ) → next ≡ nextCommand p clock → CommandsReady next (p .counts .commands) (p .counts .n) (p .commands .inputs)
 commands-ready p rules next clock e =
     let limits = counts-of p (rules .counts) in
     record {

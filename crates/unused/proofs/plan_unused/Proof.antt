@@ -15,11 +15,11 @@ use Rattle.unused.proofs.plan_unused.Tie as tie
 abbrev tests : tie.Start → List Bool
 tests c =
     let p = c .args .t1 in
-    unusedInt (p .n) (p .starts) ∷ unusedInt (p .n) (p .quanta) ∷ unusedInt (p .m) (p .firsts)
-    ∷ unusedNat (p .k) (p .kinds) ∷ unusedNat (p .k) (p .lefts) ∷ unusedNat (p .k) (p .rights)
-    ∷ unusedInt (p .k) (p .lows) ∷ unusedInt (p .k) (p .highs)
-    ∷ unusedNat (p .links) (p .targets) ∷ unusedNat (p .links) (p .sources) ∷ unusedInt (p .links) (p .coefficients)
-    ∷ unusedNat (p .commands) (p .ticks) ∷ unusedNat (p .commands) (p .numbers) ∷ unusedInt (p .commands) (p .values) ∷ []
+    unusedInt (p .counts .n) (p .integrators .starts) ∷ unusedInt (p .counts .n) (p .integrators .quanta) ∷ unusedInt (p .counts .m) (p .inputs .firsts)
+    ∷ unusedNat (p .counts .k) (p .nodes .kinds) ∷ unusedNat (p .counts .k) (p .nodes .a) ∷ unusedNat (p .counts .k) (p .nodes .b)
+    ∷ unusedInt (p .counts .k) (p .nodes .lows) ∷ unusedInt (p .counts .k) (p .nodes .highs)
+    ∷ unusedNat (p .counts .links) (p .links .targets) ∷ unusedNat (p .counts .links) (p .links .sources) ∷ unusedInt (p .counts .links) (p .links .coefficients)
+    ∷ unusedNat (p .counts .commands) (p .commands .ticks) ∷ unusedNat (p .counts .commands) (p .commands .inputs) ∷ unusedInt (p .counts .commands) (p .commands .values) ∷ []
 
 all-of : (c : tie.Start) → passes (tests c) 14 ≡ planUnused (c .args .t1)
 unfolding passes every planUnused

@@ -17,10 +17,10 @@ module _ (s : tie.Start) where
   j = s .args .j
 
   abbrev left : ℕ
-  left = nat (s .args .lefts .now) j
+  left = nat (s .args .a .now) j
 
   abbrev right : ℕ
-  right = nat (s .args .rights .now) j
+  right = nat (s .args .b .now) j
 
   operands : (left < 64) × (right < 64)
   operands = (s .pre .1 .left j (s .pre .0), s .pre .1 .right j (s .pre .0))
@@ -35,29 +35,29 @@ module _ (s : tie.Start) where
   high : rd (int (s .args .highs .now) j) ≡ int (s .args .highs .now) j
   high = toZ-ofZ (fits-size (int (s .args .highs .now) j) M (s .pre .1 .high j (s .pre .0)) tt)
 
-mul-a : tie.Need-mul-a
-mul-a c = search needs
+mul-first : tie.Need-mul-first
+mul-first c = search needs
 
-element-copy-out-a : tie.Need-element-copy-out-a
-element-copy-out-a c = search needs
+element-copy-out-first : tie.Need-element-copy-out-first
+element-copy-out-first c = search needs
 
-mul-a-2 : tie.Need-mul-a-2
-mul-a-2 c = omega (arith, operands (c .before))
+mul-first-2 : tie.Need-mul-first-2
+mul-first-2 c = omega (arith, operands (c .before))
 
-element-copy-out-a-2 : tie.Need-element-copy-out-a-2
-element-copy-out-a-2 c = omega (arith, operands (c .before))
+element-copy-out-first-2 : tie.Need-element-copy-out-first-2
+element-copy-out-first-2 c = omega (arith, operands (c .before))
 
-mul-b : tie.Need-mul-b
-mul-b c = search needs
+mul-second : tie.Need-mul-second
+mul-second c = search needs
 
-element-copy-out-b : tie.Need-element-copy-out-b
-element-copy-out-b c = search needs
+element-copy-out-second : tie.Need-element-copy-out-second
+element-copy-out-second c = search needs
 
-mul-b-2 : tie.Need-mul-b-2
-mul-b-2 c = omega (arith, operands (c .before .before .before))
+mul-second-2 : tie.Need-mul-second-2
+mul-second-2 c = omega (arith, operands (c .before .before .before))
 
-element-copy-out-b-2 : tie.Need-element-copy-out-b-2
-element-copy-out-b-2 c = omega (arith, operands (c .before .before .before))
+element-copy-out-second-2 : tie.Need-element-copy-out-second-2
+element-copy-out-second-2 c = omega (arith, operands (c .before .before .before))
 
 mul-node-value : tie.Need-mul-node-value
 mul-node-value c = search needs
@@ -100,14 +100,14 @@ pub work-node-spec : {M : Type 1} → statement M
 work-node-spec =
     tie.close
     (tie.spec
-    mul-a
-    element-copy-out-a
-    mul-a-2
-    element-copy-out-a-2
-    mul-b
-    element-copy-out-b
-    mul-b-2
-    element-copy-out-b-2
+    mul-first
+    element-copy-out-first
+    mul-first-2
+    element-copy-out-first-2
+    mul-second
+    element-copy-out-second
+    mul-second-2
+    element-copy-out-second-2
     mul-node-value
     element-copy-out-node-value
     mul-node-value-2

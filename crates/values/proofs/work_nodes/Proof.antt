@@ -19,12 +19,12 @@ fits-32 : {k left : ℕ} → k ≤ 16 → left < 2 ^ k → left < 2 ^ 32
 fits-32 {k} few h = let l : k ≤ 32 = omega arith in lt-of-lt-of-le h (pow-mono l)
 
 abbrev Inv-loop : tie.InvT-loop
-Inv-loop nodes k base kinds lefts rights lows highs values₀ left₀ values left =
-    let f = nodeStep kinds lefts rights lows highs base in
-    (left < 2 ^ k) × NodesReady lefts rights lows highs values base k × (each f (has left) 32 values ≡ each f (has nodes) 32 values₀)
+Inv-loop nodes k base kinds a b lows highs values₀ left₀ values left =
+    let f = nodeStep kinds a b lows highs base in
+    (left < 2 ^ k) × NodesReady a b lows highs values base k × (each f (has left) 32 values ≡ each f (has nodes) 32 values₀)
 
 abbrev μ-loop : tie.MeasureT-loop
-μ-loop nodes k base kinds lefts rights lows highs values₀ left₀ values left = left
+μ-loop nodes k base kinds a b lows highs values₀ left₀ values left = left
 
 loop-holds : tie.Need-loop-holds Inv-loop μ-loop
 loop-holds c = (c .pre .0, c .pre .1, refl)
@@ -47,7 +47,7 @@ loop-again : tie.Need-loop-again Inv-loop μ-loop
 loop-again c =
     let a = c .before .before .before .before .before .before .args in let l = c .before .before .before .before .before .loop in
     let few = l .inv .1 .few in let j = c .before .before .before .lowest .result in let e = c .before .before .before .lowest .ensures in
-    let f = nodeStep (a .kinds .now) (a .lefts .now) (a .rights .now) (a .lows .now) (a .highs .now) (a .base) in
+    let f = nodeStep (a .kinds .now) (a .a .now) (a .b .now) (a .lows .now) (a .highs .now) (a .base) in
     rw (c .before .work-node .ensures) (
       omega (arith, rest-lt (l .left) (omega arith), c .rest .ensures),
       step-ready (a .kinds .now) _ _ _ _ (a .base) j (l .values) (a .k) (node-below few (omega arith) (l .inv .0) e) (l .inv .1),

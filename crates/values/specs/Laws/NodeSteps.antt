@@ -24,15 +24,15 @@ set-holds P xs n v z new old i = go (eqb i n) refl (ltb n (length xs)) refl
     go true e false f = rw (set-out xs n v (ltb-false n (length xs) f)) (old i)
     go false e d f = rw (getD-set-other xs n i v z (eqb-false i n e)) (old i)
 
-module _ (kinds lefts rights : List ℕ) (lows highs : List ℤ) (base j : ℕ) (values : List ℤ) where
+module _ (kinds a b : List ℕ) (lows highs : List ℤ) (base j : ℕ) (values : List ℤ) where
   abbrev then : List ℤ
-  then = nodeStep kinds lefts rights lows highs base j values
+  then = nodeStep kinds a b lows highs base j values
 
   pub step-length : length then ≡ length values
   unfolding nodeStep
   step-length = length-set values (base + j) _
 
-  pub step-own : base + j < length values → int then (base + j) ≡ nodeFrom kinds lefts rights lows highs base j values
+  pub step-own : base + j < length values → int then (base + j) ≡ nodeFrom kinds a b lows highs base j values
   unfolding nodeStep
   step-own h = getD-set-same values (base + j) _ (pos 0) h
 
@@ -40,7 +40,7 @@ module _ (kinds lefts rights : List ℕ) (lows highs : List ℤ) (base j : ℕ) 
   unfolding nodeStep
   step-other i n = getD-set-other values (base + j) i _ (pos 0) n
 
-  pub step-ready : (k : ℕ) → j < k → NodesReady lefts rights lows highs values base k → NodesReady lefts rights lows highs then base k
+  pub step-ready : (k : ℕ) → j < k → NodesReady a b lows highs values base k → NodesReady a b lows highs then base k
   unfolding nodeStep nodeFrom
   step-ready k h r =
       record {

@@ -29,33 +29,33 @@ use Rattle.values.specs.Sources.{valuesOf, firstValues, nodeFrom, nodeSt
 use Rattle.values.specs.Laws.NodeSteps.{step-length, step-own, step-other}
 
 -- all sources have room in the array
-room : (p : Plan) → PlanRules p → p .n + p .m + p .k ≤ 64
+room : (p : Plan) → PlanRules p → p .counts .n + p .counts .m + p .counts .k ≤ 64
 room p rules = go (counts-of p (rules .counts))
   where
-    go : Counts p → p .n + p .m + p .k ≤ 64
+    go : Counts p → p .counts .n + p .counts .m + p .counts .k ≤ 64
     go c = omega arith
 
 -- both operands stand below their node, also the 0 that names nothing
-operands-below : (p : Plan) → PlanRules p → (j : ℕ) → j < p .k
-    → (nat (p .lefts) j < p .n + p .m + j) × (nat (p .rights) j < p .n + p .m + j)
-operands-below p rules j h = go (counts-of p (rules .counts)) (rules .nodes j h) (eqb (nat (p .kinds) j) 2) refl
+operands-below : (p : Plan) → PlanRules p → (j : ℕ) → j < p .counts .k
+    → (nat (p .nodes .a) j < p .counts .n + p .counts .m + j) × (nat (p .nodes .b) j < p .counts .n + p .counts .m + j)
+operands-below p rules j h = go (counts-of p (rules .counts)) (rules .nodes j h) (eqb (nat (p .nodes .kinds) j) 2) refl
   where
-    go : Counts p → NodeRule p j → (b : Bool) → eqb (nat (p .kinds) j) 2 ≡ b
-        → (nat (p .lefts) j < p .n + p .m + j) × (nat (p .rights) j < p .n + p .m + j)
-    go c r true e = (r .left, omega (arith, r .unused (eqb-true (nat (p .kinds) j) 2 e)))
-    go c r false e = (r .left, r .right (eqb-false (nat (p .kinds) j) 2 e))
+    go : Counts p → NodeRule p j → (b : Bool) → eqb (nat (p .nodes .kinds) j) 2 ≡ b
+        → (nat (p .nodes .a) j < p .counts .n + p .counts .m + j) × (nat (p .nodes .b) j < p .counts .n + p .counts .m + j)
+    go c r true e = (r .left, omega (arith, r .unused (eqb-true (nat (p .nodes .kinds) j) 2 e)))
+    go c r false e = (r .left, r .right (eqb-false (nat (p .nodes .kinds) j) 2 e))
 
 -- ---- what the code asks
 pub nodes-ready : (p : Plan) → PlanRules p → (values : List ℤ) → ((i : ℕ) → ∣ int values i ∣ ≤ M)
-    → NodesReady (p .lefts) (p .rights) (p .lows) (p .highs) values (p .n + p .m) (p .k)
+    → NodesReady (p .nodes .a) (p .nodes .b) (p .nodes .lows) (p .nodes .highs) values (p .counts .n + p .counts .m) (p .counts .k)
 nodes-ready p rules values sized =
     record {
       few = counts-of p (rules .counts) .k;
       room = room p rules;
       left = λ j h. omega (arith, operands-below p rules j h .0, room p rules);
       right = λ j h. omega (arith, operands-below p rules j h .1, room p rules);
-      low = λ j h. within-size M (int (p .lows) j) .0 (node-limits p j (rules .nodes j h) .0);
-      high = λ j h. within-size M (int (p .highs) j) .0 (node-limits p j (rules .nodes j h) .1);
+      low = λ j h. within-size M (int (p .nodes .lows) j) .0 (node-limits p j (rules .nodes j h) .0);
+      high = λ j h. within-size M (int (p .nodes .highs) j) .0 (node-limits p j (rules .nodes j h) .1);
       sized = sized;
     }
 
@@ -68,52 +68,52 @@ row-sized k f h sized i = go (ltb i k) refl
 
 pub values-length : (p : Plan) (q u : List ℤ) → length (valuesOf p q u) ≡ 64
 unfolding valuesOf
-values-length p q u = length-row (pos 0) 64 (p .n + p .m + p .k) (valueOf p q u)
+values-length p q u = length-row (pos 0) 64 (p .counts .n + p .counts .m + p .counts .k) (valueOf p q u)
 
 module _ (p : Plan) (q u : List ℤ) (rules : PlanRules p) where
-  pub values-at : (i : ℕ) → i < p .n + p .m + p .k → int (valuesOf p q u) i ≡ valueOf p q u i
+  pub values-at : (i : ℕ) → i < p .counts .n + p .counts .m + p .counts .k → int (valuesOf p q u) i ≡ valueOf p q u i
   unfolding valuesOf
-  values-at i h = row-at (pos 0) 64 (p .n + p .m + p .k) (valueOf p q u) i (room p rules) h
+  values-at i h = row-at (pos 0) 64 (p .counts .n + p .counts .m + p .counts .k) (valueOf p q u) i (room p rules) h
 
-  pub values-unused : (i : ℕ) → p .n + p .m + p .k ≤ i → int (valuesOf p q u) i ≡ pos 0
+  pub values-unused : (i : ℕ) → p .counts .n + p .counts .m + p .counts .k ≤ i → int (valuesOf p q u) i ≡ pos 0
   unfolding valuesOf
-  values-unused i h = row-unused (pos 0) 64 (p .n + p .m + p .k) (valueOf p q u) i h
+  values-unused i h = row-unused (pos 0) 64 (p .counts .n + p .counts .m + p .counts .k) (valueOf p q u) i h
 
-  module _ (outputs : (i : ℕ) → i < p .n → ∣ int q i ∣ ≤ M) (inputs : (j : ℕ) → j < p .m → ∣ int u j ∣ ≤ M) where
-    pub first-sized : (i : ℕ) → ∣ int (firstValues (p .n) (p .m) q u) i ∣ ≤ M
+  module _ (outputs : (i : ℕ) → i < p .counts .n → ∣ int q i ∣ ≤ M) (inputs : (j : ℕ) → j < p .counts .m → ∣ int u j ∣ ≤ M) where
+    pub first-sized : (i : ℕ) → ∣ int (firstValues (p .counts .n) (p .counts .m) q u) i ∣ ≤ M
     unfolding firstValues
-    first-sized = row-sized (p .n + p .m) _ (omega (arith, room p rules)) (λ i h. go i h (ltb i (p .n)) refl)
+    first-sized = row-sized (p .counts .n + p .counts .m) _ (omega (arith, room p rules)) (λ i h. go i h (ltb i (p .counts .n)) refl)
       where
-        go : (i : ℕ) → i < p .n + p .m → (b : Bool) → ltb i (p .n) ≡ b → ∣ cond b (int q i) (int u (i - p .n)) ∣ ≤ M
-        go i h true e = outputs i (ltb-true i (p .n) e)
-        go i h false e = inputs (i - p .n) (omega (arith, ltb-false i (p .n) e))
+        go : (i : ℕ) → i < p .counts .n + p .counts .m → (b : Bool) → ltb i (p .counts .n) ≡ b → ∣ cond b (int q i) (int u (i - p .counts .n)) ∣ ≤ M
+        go i h true e = outputs i (ltb-true i (p .counts .n) e)
+        go i h false e = inputs (i - p .counts .n) (omega (arith, ltb-false i (p .counts .n) e))
 
     pub values-sized : (i : ℕ) → ∣ int (valuesOf p q u) i ∣ ≤ M
     unfolding valuesOf
-    values-sized = row-sized (p .n + p .m + p .k) (valueOf p q u) (room p rules) (λ i h. value-size p q u rules outputs inputs i)
+    values-sized = row-sized (p .counts .n + p .counts .m + p .counts .k) (valueOf p q u) (room p rules) (λ i h. value-size p q u rules outputs inputs i)
 
   -- ---- the nodes worked out
   abbrev base : ℕ
-  base = p .n + p .m
+  base = p .counts .n + p .counts .m
 
   abbrev step : ℕ → List ℤ → List ℤ
-  step = nodeStep (p .kinds) (p .lefts) (p .rights) (p .lows) (p .highs) base
+  step = nodeStep (p .nodes .kinds) (p .nodes .a) (p .nodes .b) (p .nodes .lows) (p .nodes .highs) base
 
   -- a node's value by those of its operands
-  node-by-operands : (j : ℕ) → j < p .k
-      → nodeOf (nat (p .kinds) j) (int (p .lows) j) (int (p .highs) j) (valueOf p q u (nat (p .lefts) j)) (valueOf p q u (nat (p .rights) j))
+  node-by-operands : (j : ℕ) → j < p .counts .k
+      → nodeOf (nat (p .nodes .kinds) j) (int (p .nodes .lows) j) (int (p .nodes .highs) j) (valueOf p q u (nat (p .nodes .a) j)) (valueOf p q u (nat (p .nodes .b) j))
       ≡ valueOf p q u (base + j)
   node-by-operands j h =
       let below = operands-below p rules j h in
-      ap₂ (nodeOf (nat (p .kinds) j) (int (p .lows) j) (int (p .highs) j)) (value-settled p q u j (nat (p .lefts) j) (omega arith) (below .0))
-      (value-settled p q u j (nat (p .rights) j) (omega arith) (below .1))
+      ap₂ (nodeOf (nat (p .nodes .kinds) j) (int (p .nodes .lows) j) (int (p .nodes .highs) j)) (value-settled p q u j (nat (p .nodes .a) j) (omega arith) (below .0))
+      (value-settled p q u j (nat (p .nodes .b) j) (omega arith) (below .1))
       ∙ sym (worked-out p q u rules j h)
 
   -- from an array that holds the values of integrators and inputs, and of the nodes that are not touched
   module _ (touched : ℕ → Bool) (values : List ℤ) (full : length values ≡ 64)
       (sources : (i : ℕ) → i < base → int values i ≡ valueWith p q u zero i)
-      (kept : (j : ℕ) → j < p .k → touched j ≡ false → int values (base + j) ≡ valueOf p q u (base + j))
-      (unused : (i : ℕ) → base + p .k ≤ i → int values i ≡ pos 0) where
+      (kept : (j : ℕ) → j < p .counts .k → touched j ≡ false → int values (base + j) ≡ valueOf p q u (base + j))
+      (unused : (i : ℕ) → base + p .counts .k ≤ i → int values i ≡ pos 0) where
     -- once the first j nodes are visited
     record Visited (j : ℕ) (now : List ℤ) : Type 0 where
       entries : length now ≡ 64
@@ -128,7 +128,7 @@ module _ (p : Plan) (q u : List ℤ) (rules : PlanRules p) where
           above = λ i h. refl;
         }
 
-    worked : (j : ℕ) (now : List ℤ) → j < p .k → Visited j now → Visited (suc j) (step j now)
+    worked : (j : ℕ) (now : List ℤ) → j < p .counts .k → Visited j now → Visited (suc j) (step j now)
     unfolding nodeFrom
     worked j now h v =
         record {
@@ -139,14 +139,14 @@ module _ (p : Plan) (q u : List ℤ) (rules : PlanRules p) where
           above = λ i l. step-other _ _ _ _ _ base j now i (λ e. omega arith) ∙ v .above i (omega arith);
         }
       where
-        own : nodeFrom (p .kinds) (p .lefts) (p .rights) (p .lows) (p .highs) base j now ≡ valueOf p q u (base + j)
+        own : nodeFrom (p .nodes .kinds) (p .nodes .a) (p .nodes .b) (p .nodes .lows) (p .nodes .highs) base j now ≡ valueOf p q u (base + j)
         own =
             let b = operands-below p rules j h in
-            ap₂ (nodeOf (nat (p .kinds) j) (int (p .lows) j) (int (p .highs) j)) (v .below (nat (p .lefts) j) (b .0))
-            (v .below (nat (p .rights) j) (b .1))
+            ap₂ (nodeOf (nat (p .nodes .kinds) j) (int (p .nodes .lows) j) (int (p .nodes .highs) j)) (v .below (nat (p .nodes .a) j) (b .0))
+            (v .below (nat (p .nodes .b) j) (b .1))
             ∙ node-by-operands j h
 
-    passed : (j : ℕ) (now : List ℤ) → j < p .k → touched j ≡ false → Visited j now → Visited (suc j) now
+    passed : (j : ℕ) (now : List ℤ) → j < p .counts .k → touched j ≡ false → Visited j now → Visited (suc j) now
     passed j now h e v =
         record {
           entries = v .entries;
@@ -155,7 +155,7 @@ module _ (p : Plan) (q u : List ℤ) (rules : PlanRules p) where
           above = λ i l. v .above i (omega arith);
         }
 
-    visited : (j : ℕ) → j ≤ p .k → Visited j (each step touched j values)
+    visited : (j : ℕ) → j ≤ p .counts .k → Visited j (each step touched j values)
     unfolding each
     visited zero h = none
     visited (suc j) h = go (touched j) refl (visited j (omega arith))
@@ -166,21 +166,21 @@ module _ (p : Plan) (q u : List ℤ) (rules : PlanRules p) where
         go false e v = passed j (each step touched j values) h e v
 
     -- every source has its value
-    pub touched-worked : each step touched (p .k) values ≡ valuesOf p q u
+    pub touched-worked : each step touched (p .counts .k) values ≡ valuesOf p q u
     touched-worked =
-        let v = visited (p .k) (omega arith) in
-        ext-getD (pos 0) _ (valuesOf p q u) (v .entries ∙ sym (values-length p q u)) (λ i h. go i (ltb i (base + p .k)) refl)
+        let v = visited (p .counts .k) (omega arith) in
+        ext-getD (pos 0) _ (valuesOf p q u) (v .entries ∙ sym (values-length p q u)) (λ i h. go i (ltb i (base + p .counts .k)) refl)
       where
-        go : (i : ℕ) (b : Bool) → ltb i (base + p .k) ≡ b → int (each step touched (p .k) values) i ≡ int (valuesOf p q u) i
-        go i true e = let h = ltb-true i (base + p .k) e in visited (p .k) (omega arith) .below i h ∙ sym (values-at i h)
+        go : (i : ℕ) (b : Bool) → ltb i (base + p .counts .k) ≡ b → int (each step touched (p .counts .k) values) i ≡ int (valuesOf p q u) i
+        go i true e = let h = ltb-true i (base + p .counts .k) e in visited (p .counts .k) (omega arith) .below i h ∙ sym (values-at i h)
         go i false e =
-            let h = ltb-false i (base + p .k) e in visited (p .k) (omega arith) .above i h ∙ unused i h ∙ sym (values-unused i h)
+            let h = ltb-false i (base + p .counts .k) e in visited (p .counts .k) (omega arith) .above i h ∙ unused i h ∙ sym (values-unused i h)
 
-  pub all-nodes : each step (λ _. true) (p .k) (firstValues (p .n) (p .m) q u) ≡ valuesOf p q u
+  pub all-nodes : each step (λ _. true) (p .counts .k) (firstValues (p .counts .n) (p .counts .m) q u) ≡ valuesOf p q u
   unfolding firstValues valueWith
   all-nodes =
-      touched-worked (λ _. true) (firstValues (p .n) (p .m) q u) (length-row (pos 0) 64 base _) first (λ j h e. absurd (true≢false e))
+      touched-worked (λ _. true) (firstValues (p .counts .n) (p .counts .m) q u) (length-row (pos 0) 64 base _) first (λ j h e. absurd (true≢false e))
       (λ i h. row-unused (pos 0) 64 base _ i (omega arith))
     where
-      first : (i : ℕ) → i < base → int (firstValues (p .n) (p .m) q u) i ≡ valueWith p q u zero i
+      first : (i : ℕ) → i < base → int (firstValues (p .counts .n) (p .counts .m) q u) i ≡ valueWith p q u zero i
       first i h = row-at (pos 0) 64 base _ i (omega (arith, room p rules)) h ∙ rw (lt-ltb i base h)

@@ -22,33 +22,33 @@ use Rattle.values.specs.Laws.SourceValues.{values-at, values-unused, tou
 -- With the due ticks d, at tick t; q₀ and u₀ are the outputs and input values before, q and u after. `values` holds the new values of
 -- integrators and inputs, and above them what it held before.
 module _ (p : Plan) (rules : PlanRules p) (d : List ℕ) (t : ℕ) (q u q₀ u₀ : List ℤ)
-    (same-q : (i : ℕ) → i < p .n → isDue d t i ≡ false → int q i ≡ int q₀ i)
-    (same-u : (j : ℕ) → j < p .m → isCommanded p t j ≡ false → int u j ≡ int u₀ j)
+    (same-q : (i : ℕ) → i < p .counts .n → isDue d t i ≡ false → int q i ≡ int q₀ i)
+    (same-u : (j : ℕ) → j < p .counts .m → isCommanded p t j ≡ false → int u j ≡ int u₀ j)
     (values : List ℤ) (full : length values ≡ 64)
-    (sources : (i : ℕ) → i < p .n + p .m → int values i ≡ valueWith p q u zero i)
-    (others : (i : ℕ) → p .n + p .m ≤ i → int values i ≡ int (valuesOf p q₀ u₀) i) where
+    (sources : (i : ℕ) → i < p .counts .n + p .counts .m → int values i ≡ valueWith p q u zero i)
+    (others : (i : ℕ) → p .counts .n + p .counts .m ≤ i → int values i ≡ int (valuesOf p q₀ u₀) i) where
   abbrev base : ℕ
-  base = p .n + p .m
+  base = p .counts .n + p .counts .m
 
   abbrev step : ℕ → List ℤ → List ℤ
-  step = nodeStep (p .kinds) (p .lefts) (p .rights) (p .lows) (p .highs) base
+  step = nodeStep (p .nodes .kinds) (p .nodes .a) (p .nodes .b) (p .nodes .lows) (p .nodes .highs) base
 
   abbrev depends : ℕ → Bool
-  depends j = dependsWith p d t (p .k) (base + j)
+  depends j = dependsWith p d t (p .counts .k) (base + j)
 
-  node-kept : (j : ℕ) → j < p .k → depends j ≡ false → int values (base + j) ≡ valueOf p q u (base + j)
+  node-kept : (j : ℕ) → j < p .counts .k → depends j ≡ false → int values (base + j) ≡ valueOf p q u (base + j)
   unfolding valueOf
   node-kept j h e =
       others (base + j) (omega arith) ∙ values-at p q₀ u₀ rules (base + j) (omega arith)
-      ∙ sym (value-kept p d t q u q₀ u₀ same-q same-u (p .k) (base + j) e)
+      ∙ sym (value-kept p d t q u q₀ u₀ same-q same-u (p .counts .k) (base + j) e)
 
-  pub touched-nodes : (touched : ℕ → Bool) → ((j : ℕ) → j < p .k → touched j ≡ depends j) → each step touched (p .k) values ≡ valuesOf p q u
+  pub touched-nodes : (touched : ℕ → Bool) → ((j : ℕ) → j < p .counts .k → touched j ≡ depends j) → each step touched (p .counts .k) values ≡ valuesOf p q u
   touched-nodes touched test =
       touched-worked p q u rules touched values full sources (λ j h e. node-kept j h (sym (test j h) ∙ e))
       (λ i h. others i (omega arith) ∙ values-unused p q₀ u₀ rules i h)
 
   -- as the code visits them, by a mask
-  pub touched-mask : (nodes : ℕ) → nodes ≡ maskOf depends (p .k) → each step (has nodes) 32 values ≡ valuesOf p q u
+  pub touched-mask : (nodes : ℕ) → nodes ≡ maskOf depends (p .counts .k) → each step (has nodes) 32 values ≡ valuesOf p q u
   touched-mask nodes e =
       let few = counts-of p (rules .counts) .k in
-      rw e (each-mask step depends (p .k) 32 values (omega arith)) ∙ touched-nodes depends (λ j h. refl)
+      rw e (each-mask step depends (p .counts .k) 32 values (omega arith)) ∙ touched-nodes depends (λ j h. refl)

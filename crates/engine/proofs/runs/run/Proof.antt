@@ -38,11 +38,21 @@ module _ (c : tie.Start Inv-loop μ-loop) where
   limits = counts-of p (sound .plan .counts)
 
   shaped : RunningShaped r
-  shaped = record { x = search needs; q = search needs; s = search needs; l = search needs; d = search needs; inputs = search needs }
+  -- where each array's length is known; `search` alone does not go as far
+  shaped =
+      let figures = c .good .0 .1 .1 .1 .0 .1 .1 in
+      record {
+        x = search (needs, figures .0 .1 .0 .1);
+        q = search (needs, figures .1 .0 .1 .0 .1);
+        s = search (needs, figures .1 .1 .0 .1 .0 .1);
+        l = search (needs, figures .1 .1 .1 .0 .1 .0 .1);
+        d = search (needs, figures .1 .1 .1 .1 .0 .1 .0 .1);
+        inputs = search (needs, figures .1 .1 .1 .1 .1 .0 .1 .0 .1);
+      }
 
 -- ---- the places that are asked for
 abbrev before-reach : tie.After-reach-table Inv-loop μ-loop → tie.Start Inv-loop μ-loop
-before-reach c = c .before .before .before .before .before .before .before .before .before .before .before .before .before
+before-reach c = c .before .before .before .before .before .before .before .before .before .before .before .before .before .before
 
 abbrev before-values : tie.After-source-values Inv-loop μ-loop → tie.Start Inv-loop μ-loop
 before-values c = before-reach (c .before .before .before .before .before .before .before .before .before)
@@ -58,7 +68,7 @@ module _ (c : tie.Then1 Inv-loop μ-loop) where
   loop = c .before .before .before
 
   abbrev values : tie.After-source-values Inv-loop μ-loop
-  values = loop .before .before .before .before .before .before .before .before .before .before .before .before .before .before
+  values = loop .before .before .before .before .before .before .before .before .before .before .before .before .before .before .before
 
   more : loop .loop .taken < before-values values .args .budget
   more = c .before .before .loop-test .taken
@@ -68,14 +78,14 @@ module _ (c : tie.Then1 Inv-loop μ-loop) where
 
 -- ---- before the loop
 link-ranges-requires : tie.Need-link-ranges-requires Inv-loop μ-loop
-link-ranges-requires c κs = let s = c .before .before .before .before in (limits s .n, limits s .links)
+link-ranges-requires c κs = let s = c .before .before .before .before .before in (limits s .n, limits s .links)
 
 add-reach-table : tie.Need-add-reach-table Inv-loop μ-loop
-add-reach-table c = let s = c .before .before .before .before .before .before in omega (arith, limits s .n, limits s .m)
+add-reach-table c = let s = c .before .before .before .before .before .before .before in omega (arith, limits s .n, limits s .m)
 
 reach-table-requires : tie.Need-reach-table-requires Inv-loop μ-loop
 reach-table-requires c κs =
-    let s = c .before .before .before .before .before .before .before .before .before .before .before .before in
+    let s = c .before .before .before .before .before .before .before .before .before .before .before .before .before in
     (limits s .k, table-wired (p s) (sound s .plan), table-linked (p s) (sound s .plan))
 
 source-values-requires : tie.Need-source-values-requires Inv-loop μ-loop
@@ -85,12 +95,12 @@ source-values-requires c κs =
 
 look-ahead-requires : tie.Need-look-ahead-requires Inv-loop μ-loop
 look-ahead-requires c κs =
-    let s = before-values (c .before .before .before .before .before .before .before .before .before .before .before .before) in
+    let s = before-values (c .before .before .before .before .before .before .before .before .before .before .before .before .before) in
     ahead-ready (p s) (r s) (sound s)
 
 loop-holds : tie.Need-loop-holds Inv-loop μ-loop
 loop-holds c =
-    let values = c .before .before .before .before .before .before .before .before .before .before .before .before .before in
+    let values = c .before .before .before .before .before .before .before .before .before .before .before .before .before .before in
     let s = before-values values in
     law.begun (p s) (s .args .engine) (s .args .budget) (r s) (s .args .buf .now) (shaped s) (sound s) (s .pre .room)
     (values .source-values .ensures) (c .look-ahead .ensures)

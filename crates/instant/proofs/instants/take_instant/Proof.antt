@@ -13,7 +13,7 @@ module _ (s : tie.Start) where
   abbrev p : Plan
   p =
       let a = s .args in
-      planOf (a .counts) (a .starts .now) (a .quanta .now) (a .firsts .now) (a .kinds .now) (a .lefts .now) (a .rights .now) (a .lows .now)
+      planOf (a .horizon) (a .counts) (a .starts .now) (a .quanta .now) (a .firsts .now) (a .kinds .now) (a .a .now) (a .b .now) (a .lows .now)
       (a .highs .now) (a .targets .now) (a .sources .now) (a .coefficients .now) (a .ticks .now) (a .numbers .now) (a .settings .now)
 
   abbrev r : Running
@@ -103,16 +103,16 @@ move-all-requires c κs =
     law.moves-ready (p s) (r s) (s .pre) (set .set-outputs .ensures) (obeyed .obey-commands .ensures) (joined .joined .ensures)
     (told .0) (told .1) (worked .work-nodes .ensures) (s .args .engine) (moved .moved-set .ensures)
 
-add-t56 : tie.Need-add-t56
-add-t56 c =
+add-instants : tie.Need-add-instants
+add-instants c =
     let s = start (outputs (commands (changes (reach (nodes (events (moves (c .before)))))))) in
     law.instants-fit (p s) (r s) (s .pre)
 
 count-requires : tie.Need-count-requires
 count-requires c κs = search needs
 
-add-t59 : tie.Need-add-t59
-add-t59 c =
+add-updates : tie.Need-add-updates
+add-updates c =
     let s = start (outputs (commands (changes (reach (nodes (events (moves (c .before .before .before)))))))) in
     law.updates-fit (p s) (r s) (s .pre) _ (c .before .count .ensures)
 
@@ -163,8 +163,8 @@ take-instant-spec =
     write-events-requires
     moved-set-requires
     move-all-requires
-    add-t56
+    add-instants
     count-requires
-    add-t59
+    add-updates
     same-length
     returns)

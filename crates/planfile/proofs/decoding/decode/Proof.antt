@@ -121,25 +121,12 @@ returns c =
     let part-4 = commands .before .before .before .before .section-in5 .ensures .0 in
     λ i. record {
       horizon = c .read-u32 .ensures .0 i;
-      n = n i;
-      m = m i;
-      k = k i;
-      links = l i;
-      commands = e i;
-      starts = column-section _ 0 n part-0 (pos 0) signedWord 0 (integrators .read-integrators .ensures .0) i;
-      quanta = column-section _ 0 n part-0 (pos 0) (λ s at. pos (word s at)) 1 (integrators .read-integrators .ensures .1) i;
-      firsts = column-section _ 1 m part-1 (pos 0) signedWord 0 (inputs .read-inputs .ensures) i;
-      kinds = column-section _ 2 k part-2 0 word 0 (nodes .read-nodes .ensures .0) i;
-      lefts = column-section _ 2 k part-2 0 word 1 (nodes .read-nodes .ensures .1 .0) i;
-      rights = column-section _ 2 k part-2 0 word 2 (nodes .read-nodes .ensures .1 .1 .0) i;
-      lows = column-section _ 2 k part-2 (pos 0) signedWord 3 (nodes .read-nodes .ensures .1 .1 .1 .0) i;
-      highs = column-section _ 2 k part-2 (pos 0) signedWord 4 (nodes .read-nodes .ensures .1 .1 .1 .1) i;
-      targets = column-section _ 3 l part-3 0 word 0 (links .read-links .ensures .0) i;
-      sources = column-section _ 3 l part-3 0 word 1 (links .read-links .ensures .1 .0) i;
-      coefficients = column-section _ 3 l part-3 (pos 0) signedWord 2 (links .read-links .ensures .1 .1) i;
-      ticks = column-section _ 4 e part-4 0 word 0 (commands .read-commands .ensures .0) i;
-      numbers = column-section _ 4 e part-4 0 word 1 (commands .read-commands .ensures .1 .0) i;
-      values = column-section _ 4 e part-4 (pos 0) signedWord 2 (commands .read-commands .ensures .1 .1) i;
+      counts = record { n = n i; m = m i; k = k i; links = l i; commands = e i };
+      integrators = record { starts = column-section _ 0 n part-0 (pos 0) signedWord 0 (integrators .read-integrators .ensures .0) i; quanta = column-section _ 0 n part-0 (pos 0) (λ s at. pos (word s at)) 1 (integrators .read-integrators .ensures .1) i };
+      inputs = record { firsts = column-section _ 1 m part-1 (pos 0) signedWord 0 (inputs .read-inputs .ensures) i };
+      nodes = record { kinds = column-section _ 2 k part-2 0 word 0 (nodes .read-nodes .ensures .0) i; a = column-section _ 2 k part-2 0 word 1 (nodes .read-nodes .ensures .1 .0) i; b = column-section _ 2 k part-2 0 word 2 (nodes .read-nodes .ensures .1 .1 .0) i; lows = column-section _ 2 k part-2 (pos 0) signedWord 3 (nodes .read-nodes .ensures .1 .1 .1 .0) i; highs = column-section _ 2 k part-2 (pos 0) signedWord 4 (nodes .read-nodes .ensures .1 .1 .1 .1) i };
+      links = record { targets = column-section _ 3 l part-3 0 word 0 (links .read-links .ensures .0) i; sources = column-section _ 3 l part-3 0 word 1 (links .read-links .ensures .1 .0) i; coefficients = column-section _ 3 l part-3 (pos 0) signedWord 2 (links .read-links .ensures .1 .1) i };
+      commands = record { ticks = column-section _ 4 e part-4 0 word 0 (commands .read-commands .ensures .0) i; inputs = column-section _ 4 e part-4 0 word 1 (commands .read-commands .ensures .1 .0) i; values = column-section _ 4 e part-4 (pos 0) signedWord 2 (commands .read-commands .ensures .1 .1) i };
     }
 
 pub decode-spec : {M : Type 1} → statement M

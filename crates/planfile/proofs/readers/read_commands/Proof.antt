@@ -9,11 +9,11 @@ use Rattle.planfile.proofs.readers.read_commands.Statement.{statement}
 use Rattle.planfile.proofs.readers.read_commands.Tie as tie
 
 abbrev Inv-loop : tie.InvT-loop
-Inv-loop part commands ticks₀ numbers₀ values₀ e₀ ticks numbers values e =
-    (e ≤ commands) × (ticks ≡ wordsOf 64 12 e part 0) × (numbers ≡ wordsOf 64 12 e part 1) × (values ≡ signedsOf 64 12 e part 2)
+Inv-loop part commands ticks₀ inputs₀ values₀ e₀ ticks inputs values e =
+    (e ≤ commands) × (ticks ≡ wordsOf 64 12 e part 0) × (inputs ≡ wordsOf 64 12 e part 1) × (values ≡ signedsOf 64 12 e part 2)
 
 abbrev μ-loop : tie.MeasureT-loop
-μ-loop part commands ticks₀ numbers₀ values₀ e₀ ticks numbers values e = commands - e
+μ-loop part commands ticks₀ inputs₀ values₀ e₀ ticks inputs values e = commands - e
 
 loop-holds : tie.Need-loop-holds Inv-loop μ-loop
 loop-holds c = search (needs, column-none)
@@ -42,11 +42,11 @@ add-read-u32 c = search needs
 read-u32-requires-2 : tie.Need-read-u32-requires-2 Inv-loop μ-loop
 read-u32-requires-2 c κs = search needs
 
-mul-numbers : tie.Need-mul-numbers Inv-loop μ-loop
-mul-numbers c = search needs
+mul-inputs : tie.Need-mul-inputs Inv-loop μ-loop
+mul-inputs c = search needs
 
-element-write-numbers : tie.Need-element-write-numbers Inv-loop μ-loop
-element-write-numbers c = search needs
+element-write-inputs : tie.Need-element-write-inputs Inv-loop μ-loop
+element-write-inputs c = search needs
 
 mul-read-i32 : tie.Need-mul-read-i32 Inv-loop μ-loop
 mul-read-i32 c = search needs
@@ -96,8 +96,8 @@ read-commands-spec =
     mul-read-u32-2
     add-read-u32
     read-u32-requires-2
-    mul-numbers
-    element-write-numbers
+    mul-inputs
+    element-write-inputs
     mul-read-i32
     add-read-i32
     read-i32-requires

@@ -9,12 +9,12 @@ use Rattle.planfile.proofs.readers.read_nodes.Statement.{statement}
 use Rattle.planfile.proofs.readers.read_nodes.Tie as tie
 
 abbrev Inv-loop : tie.InvT-loop
-Inv-loop part k kinds₀ lefts₀ rights₀ lows₀ highs₀ j₀ kinds lefts rights lows highs j =
-    (j ≤ k) × (kinds ≡ wordsOf 16 20 j part 0) × (lefts ≡ wordsOf 16 20 j part 1) × (rights ≡ wordsOf 16 20 j part 2)
+Inv-loop part k kinds₀ a₀ b₀ lows₀ highs₀ j₀ kinds a b lows highs j =
+    (j ≤ k) × (kinds ≡ wordsOf 16 20 j part 0) × (a ≡ wordsOf 16 20 j part 1) × (b ≡ wordsOf 16 20 j part 2)
     × (lows ≡ signedsOf 16 20 j part 3) × (highs ≡ signedsOf 16 20 j part 4)
 
 abbrev μ-loop : tie.MeasureT-loop
-μ-loop part k kinds₀ lefts₀ rights₀ lows₀ highs₀ j₀ kinds lefts rights lows highs j = k - j
+μ-loop part k kinds₀ a₀ b₀ lows₀ highs₀ j₀ kinds a b lows highs j = k - j
 
 loop-holds : tie.Need-loop-holds Inv-loop μ-loop
 loop-holds c = search (needs, column-none)
@@ -40,11 +40,11 @@ add-read-u32 c = search needs
 read-u32-requires-2 : tie.Need-read-u32-requires-2 Inv-loop μ-loop
 read-u32-requires-2 c κs = search needs
 
-mul-lefts : tie.Need-mul-lefts Inv-loop μ-loop
-mul-lefts c = search needs
+mul-a : tie.Need-mul-a Inv-loop μ-loop
+mul-a c = search needs
 
-element-write-lefts : tie.Need-element-write-lefts Inv-loop μ-loop
-element-write-lefts c = search needs
+element-write-a : tie.Need-element-write-a Inv-loop μ-loop
+element-write-a c = search needs
 
 mul-read-u32-3 : tie.Need-mul-read-u32-3 Inv-loop μ-loop
 mul-read-u32-3 c = search needs
@@ -55,11 +55,11 @@ add-read-u32-2 c = search needs
 read-u32-requires-3 : tie.Need-read-u32-requires-3 Inv-loop μ-loop
 read-u32-requires-3 c κs = search needs
 
-mul-rights : tie.Need-mul-rights Inv-loop μ-loop
-mul-rights c = search needs
+mul-b : tie.Need-mul-b Inv-loop μ-loop
+mul-b c = search needs
 
-element-write-rights : tie.Need-element-write-rights Inv-loop μ-loop
-element-write-rights c = search needs
+element-write-b : tie.Need-element-write-b Inv-loop μ-loop
+element-write-b c = search needs
 
 mul-read-i32 : tie.Need-mul-read-i32 Inv-loop μ-loop
 mul-read-i32 c = search needs
@@ -129,13 +129,13 @@ read-nodes-spec =
     mul-read-u32-2
     add-read-u32
     read-u32-requires-2
-    mul-lefts
-    element-write-lefts
+    mul-a
+    element-write-a
     mul-read-u32-3
     add-read-u32-2
     read-u32-requires-3
-    mul-rights
-    element-write-rights
+    mul-b
+    element-write-b
     mul-read-i32
     add-read-i32
     read-i32-requires

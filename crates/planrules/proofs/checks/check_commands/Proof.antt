@@ -13,10 +13,10 @@ use Rattle.planrules.proofs.checks.check_commands.Statement.{statement}
 use Rattle.planrules.proofs.checks.check_commands.Tie as tie
 
 abbrev Inv-loop : tie.InvT-loop
-Inv-loop horizon m commands ticks numbers values e₀ e = CleanTo (commandAt horizon m ticks numbers values) Command commands e
+Inv-loop horizon m commands ticks inputs values e₀ e = CleanTo (commandAt horizon m ticks inputs values) Command commands e
 
 abbrev μ-loop : tie.MeasureT-loop
-μ-loop horizon m commands ticks numbers values e₀ e = commands - e
+μ-loop horizon m commands ticks inputs values e₀ e = commands - e
 
 loop-holds : tie.Need-loop-holds Inv-loop μ-loop
 loop-holds c = begin _
@@ -44,7 +44,7 @@ command-limits-requires c κs = search needs
 
 -- what the first call has said of the entry
 limits : (c : tie.After-command-limits Inv-loop μ-loop) → let l = c .before .before .before .before .before in let a = l .before .args in
-    c .command-limits .result ≡ commandLimitsAt (a .horizon) (a .m) (now (a .ticks)) (now (a .numbers)) (now (a .values)) (l .loop .e)
+    c .command-limits .result ≡ commandLimitsAt (a .horizon) (a .m) (now (a .ticks)) (now (a .inputs)) (now (a .values)) (l .loop .e)
 limits c = rw (element (c .before .command-limits-arg3 .given)) at (c .command-limits .ensures)
 
 returns : tie.Need-returns Inv-loop μ-loop

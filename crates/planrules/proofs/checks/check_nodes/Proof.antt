@@ -13,10 +13,10 @@ use Rattle.planrules.proofs.checks.check_nodes.Statement.{statement}
 use Rattle.planrules.proofs.checks.check_nodes.Tie as tie
 
 abbrev Inv-loop : tie.InvT-loop
-Inv-loop base k kinds lefts rights lows highs j₀ j = CleanTo (nodeAt base kinds lefts rights lows highs) Node k j
+Inv-loop base k kinds a b lows highs j₀ j = CleanTo (nodeAt base kinds a b lows highs) Node k j
 
 abbrev μ-loop : tie.MeasureT-loop
-μ-loop base k kinds lefts rights lows highs j₀ j = k - j
+μ-loop base k kinds a b lows highs j₀ j = k - j
 
 loop-holds : tie.Need-loop-holds Inv-loop μ-loop
 loop-holds c = begin _
@@ -59,7 +59,7 @@ node-kept-requires c κs = search needs
 
 -- what the call has said of the entry
 answer : (c : tie.After-node-kept Inv-loop μ-loop) → let l = c .before .before .before .before .before .before .before in let a = l .before .args in
-    c .node-kept .result ≡ nodeAt (a .base) (now (a .kinds)) (now (a .lefts)) (now (a .rights)) (now (a .lows)) (now (a .highs)) (l .loop .j)
+    c .node-kept .result ≡ nodeAt (a .base) (now (a .kinds)) (now (a .a)) (now (a .b)) (now (a .lows)) (now (a .highs)) (l .loop .j)
 answer c = rw (element (c .before .before .node-kept-arg4 .given), element (c .before .node-kept-arg5 .given)) at (c .node-kept .ensures)
 
 returns : tie.Need-returns Inv-loop μ-loop

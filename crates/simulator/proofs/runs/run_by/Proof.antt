@@ -49,7 +49,7 @@ returns-2 c =
     (c .declined2 .ensures ∙ answers .0, answers .1)
 
 -- ---- where the budget is within its limit
-room-fits : (c : tie.Else2) → let a = c .before .before .before .before .args in a .budget * (a .state .plan .n + a .state .plan .m) * 12 ≤ 491520
+room-fits : (c : tie.Else2) → let a = c .before .before .before .before .args in a .budget * (a .state .plan .counts .n + a .state .plan .counts .m) * 12 ≤ 491520
 unfolding roomOf
 room-fits c = let e = c .before in room-most (state e .plan) (limits e) _ 1024 (c .if2 .left)
 

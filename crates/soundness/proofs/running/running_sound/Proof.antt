@@ -115,7 +115,7 @@ integrators-sound-requires c κs =
     (counts-of (plan s) (s .pre .counts) .n, rw (slopes-are a) ready)
 
 answer : (c : tie.After-integrators-sound) → let s = passed-integrators c .entry in
-    c .integrators-sound .result ≡ every (figuresAt (plan s) (run s)) (plan s .n)
+    c .integrators-sound .result ≡ every (figuresAt (plan s) (run s)) (plan s .counts .n)
 answer c =
     let a = c .before .before .before .before .before .before .before .before .before .before in let s = passed-rates a .entry in
     (rw (slopes-are a) at (c .integrators-sound .ensures)) ∙ figures-same (plan s) (run s) (s .pre)
@@ -131,7 +131,7 @@ next-command-requires : tie.Need-next-command-requires
 next-command-requires c κs = let s = passed4 (c .before .before) .entry in counts-of (plan s) (s .pre .counts) .commands
 
 next-is : (c : tie.After-next-command) → let s = passed4 (c .before .before .before) .entry in
-    c .next-command .result ≡ nextCommand (plan s) (run s .clock)
+    c .next-command .result ≡ nextCommand (plan s) (run s .clocks .clock)
 unfolding nextCommand
 next-is c = c .next-command .ensures
 
