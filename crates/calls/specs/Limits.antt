@@ -10,7 +10,7 @@ use lib.ListN.{length}
 use Rattle.integers.specs.Parts.{∣_∣}
 use Rattle.bitset.specs.Mask.{countOf}
 use Rattle.plan.specs.Format.{M, offsetIn, lengthIn}
-use Rattle.plan.specs.Lists.{nat, int}
+use Rattle.plan.specs.Lists.{natAt, intAt}
 use Rattle.plan.specs.Refusals.{sectionOf, sectionStart}
 use Rattle.plan.specs.declared.Plan.{Plan}
 use Rattle.machine.specs.Values.{valueOf, sumOver, rateOf}
@@ -57,14 +57,14 @@ pub record AnswerLimits (st : State) : Type 0 where
 -- of what a rate is made of, with outputs q and input values u within ±M, for a plan that keeps its rules
 pub record RateLimits (p : Plan) (q u : List ℤ) : Type 0 where
   pub sources : (1 ≤ p .counts .n + p .counts .m + p .counts .k) × (p .counts .n + p .counts .m + p .counts .k ≤ 56)
-  pub operands : (j : ℕ) → j < p .counts .k → (nat (p .nodes .a) j ≤ 54) × (nat (p .nodes .b) j ≤ 54)
+  pub operands : (j : ℕ) → j < p .counts .k → (natAt (p .nodes .a) j ≤ 54) × (natAt (p .nodes .b) j ≤ 54)
   -- the value of every source, so of a node's operands; their difference and product before the clip
   pub values : (i : ℕ) → ∣ valueOf p q u i ∣ ≤ M
   pub differences : (i j : ℕ) → ∣ valueOf p q u i -ℤ valueOf p q u j ∣ ≤ 2 ^ 31
   pub products : (i j : ℕ) → ∣ valueOf p q u i *ℤ valueOf p q u j ∣ ≤ 2 ^ 60
   -- the links of an integrator, what each adds, and the sum so far
-  pub own-links : (i : ℕ) → countOf (λ e. eqb (nat (p .links .targets) e) i) (p .counts .links) ≤ 56
-  pub terms : (e : ℕ) → e < p .counts .links → ∣ int (p .links .coefficients) e *ℤ valueOf p q u (nat (p .links .sources) e) ∣ ≤ 2 ^ 54
+  pub own-links : (i : ℕ) → countOf (λ e. eqb (natAt (p .links .targets) e) i) (p .counts .links) ≤ 56
+  pub terms : (e : ℕ) → e < p .counts .links → ∣ intAt (p .links .coefficients) e *ℤ valueOf p q u (natAt (p .links .sources) e) ∣ ≤ 2 ^ 54
   pub sums : (i e : ℕ) → e ≤ p .counts .links → ∣ sumOver p q u i e ∣ ≤ 56 * 2 ^ 54
   pub rate : (i : ℕ) → ∣ rateOf p q u i ∣ ≤ 56 * 2 ^ 38
 
@@ -83,25 +83,25 @@ module _ (p : Plan) (q : List ℤ) (i : ℕ) (x s : ℤ) where
 module _ (p : Plan) (r : Running) where
   -- of integrator i
   pub record IntegratorLimits (i : ℕ) : Type 0 where
-    pub levels : LevelLimits p (r .q) i (int (r .x) i) (int (r .s) i)
+    pub levels : LevelLimits p (r .q) i (intAt (r .x) i) (intAt (r .s) i)
     pub position : ∣ positionOf r i ∣ < 2 ^ 31
     -- before its due tick it stays strictly between its levels
-    pub above : (t : ℕ) → r .clocks .clock ≤ t → t < nat (r .d) i → lowerLevel p (r .q) i <ℤ positionAt r t i
-    pub below : (t : ℕ) → r .clocks .clock ≤ t → t < nat (r .d) i → positionAt r t i <ℤ upperLevel p (r .q) i
-    pub slope : ∣ int (r .s) i ∣ ≤ 56 * 2 ^ 38
-    pub due : (nat (r .d) i ≡ never) ⊎ (nat (r .d) i ≤ 2000000000 + (2 ^ 31 - 1))
+    pub above : (t : ℕ) → r .clocks .clock ≤ t → t < natAt (r .d) i → lowerLevel p (r .q) i <ℤ positionAt r t i
+    pub below : (t : ℕ) → r .clocks .clock ≤ t → t < natAt (r .d) i → positionAt r t i <ℤ upperLevel p (r .q) i
+    pub slope : ∣ intAt (r .s) i ∣ ≤ 56 * 2 ^ 38
+    pub due : (natAt (r .d) i ≡ never) ⊎ (natAt (r .d) i ≤ 2000000000 + (2 ^ 31 - 1))
     -- of one that moves: a tick, which never is not
-    pub moving : (int (r .s) i ≡ pos 0 → ⊥) → nat (r .d) i < never
+    pub moving : (intAt (r .s) i ≡ pos 0 → ⊥) → natAt (r .d) i < never
     -- up to the due tick
-    pub elapsed : (t : ℕ) → r .clocks .clock ≤ t → t ≤ nat (r .d) i → ∣ int (r .s) i *ℤ pos (t - nat (r .l) i) ∣ < 2 ^ 32 + 2 ^ 44
-    pub value : ∣ positionAt r (nat (r .d) i) i ∣ < 2 ^ 32 + 2 ^ 44
+    pub elapsed : (t : ℕ) → r .clocks .clock ≤ t → t ≤ natAt (r .d) i → ∣ intAt (r .s) i *ℤ pos (t - natAt (r .l) i) ∣ < 2 ^ 32 + 2 ^ 44
+    pub value : ∣ positionAt r (natAt (r .d) i) i ∣ < 2 ^ 32 + 2 ^ 44
 
   -- of the numbers that the listing program prints, by their digits: tick, source and value of an event; clock, instants and updates
   pub record PrintedLimits : Type 0 where
     pub tick : statusOf p r ≡ 0 → tickOf p r < 10 ^ 10
     pub source : p .counts .n + p .counts .m ≤ 10 ^ 2
-    pub output : statusOf p r ≡ 0 → (i : ℕ) → i < p .counts .n → nat (r .d) i ≡ tickOf p r → ∣ positionAt r (tickOf p r) i ∣ < 10 ^ 10
-    pub setting : (e : ℕ) → e < p .counts .commands → ∣ int (p .commands .values) e ∣ < 10 ^ 10
+    pub output : statusOf p r ≡ 0 → (i : ℕ) → i < p .counts .n → natAt (r .d) i ≡ tickOf p r → ∣ positionAt r (tickOf p r) i ∣ < 10 ^ 10
+    pub setting : (e : ℕ) → e < p .counts .commands → ∣ intAt (p .commands .values) e ∣ < 10 ^ 10
     pub clock : r .clocks .clock < 10 ^ 10
     pub instants : r .clocks .instants < 10 ^ 10
     pub updates : r .clocks .updates < 10 ^ 11

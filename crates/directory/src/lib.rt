@@ -4,7 +4,7 @@ ghost use mathlib.Core.Bool.{_&&_};
 ghost use Prim.Native.Nat.{_<_, _≤_, _^_, _%_, _/_};
 ghost use lib.Dec.{eqb};
 ghost use lib.ListN.{length};
-ghost use Rattle.plan.specs.Lists.{nat};
+ghost use Rattle.plan.specs.Lists.{natAt};
 ghost use Rattle.plan.specs.Format.{sections, entrySizes, headerLength, offsetIn, lengthIn, countIn, sectionIn};
 ghost use Rattle.plan.specs.Tests.{countKept, offsetsKept, sizesKept};
 ghost use Rattle.plan.specs.Refusals.{unless};
@@ -59,7 +59,7 @@ fn check_offsets(file: &[u8]) -> Finding
 // A section of so many bytes is a whole number of entries, and their count is inside its limits.
 fn size_kept(k: usize, bytes: u64) -> bool
     requires { ⌜ k < sections ⌝ }
-    ensures { λ r. ⌜ r ≡ (eqb (bytes % nat entrySizes k) 0 && countKept k (bytes / nat entrySizes k)) ⌝ }
+    ensures { λ r. ⌜ r ≡ (eqb (bytes % natAt entrySizes k) 0 && countKept k (bytes / natAt entrySizes k)) ⌝ }
 {
     let size = entry_size(k);
     if bytes % size != 0 {

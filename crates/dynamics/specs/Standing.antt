@@ -8,7 +8,7 @@ use lib.Dec.{ltb, eqb}
 use Rattle.integers.specs.Range.{within}
 use Rattle.bitset.specs.Mask.{has}
 use Rattle.plan.specs.Format.{M}
-use Rattle.plan.specs.Lists.{nat, int}
+use Rattle.plan.specs.Lists.{natAt, intAt}
 use Rattle.machine.specs.Due.{never}
 use Rattle.dynamics.specs.Ticks.{PositionReady}
 use Rattle.dynamics.specs.declared.status.Standing.{Standing}
@@ -16,11 +16,11 @@ use Rattle.dynamics.specs.declared.status.Standing.{Standing}
 module _ (due t : ℕ) (x s : List ℤ) (l : List ℕ) where
   -- integrator i is due, and its value at t is beyond ±M
   unfoldable pub barsIn : ℕ → Bool
-  barsIn i = has due i && not (within M (int x i +ℤ int s i *ℤ pos (t - nat l i)))
+  barsIn i = has due i && not (within M (intAt x i +ℤ intAt s i *ℤ pos (t - natAt l i)))
 
   -- what working out the due ones' values asks
   pub record DueReach : Type 0 where
-    pub ready : (i : ℕ) → has due i ≡ true → PositionReady (int x i) (int s i) (nat l i) t
+    pub ready : (i : ℕ) → has due i ≡ true → PositionReady (intAt x i) (intAt s i) (natAt l i) t
 
 -- from the lowest integrator that bars the instant, or n
 unfoldable pub standingOf : ℕ → ℕ → ℕ → ℕ → Standing

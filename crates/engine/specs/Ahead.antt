@@ -5,7 +5,7 @@ use Prim.Native.Nat.{ℕ, _≤_, min}
 use lib.IntN.{ℤ}
 use lib.Dec.{ltb}
 use Rattle.bitset.specs.Mask.{maskOf}
-use Rattle.plan.specs.Lists.{nat, firstFrom}
+use Rattle.plan.specs.Lists.{natAt, firstFrom}
 use Rattle.machine.specs.Due.{never}
 use Rattle.machine.specs.Next.{leastDue}
 use Rattle.machine.specs.Reach.{isDue}
@@ -14,7 +14,7 @@ use Rattle.engine.specs.declared.ahead.Ahead.{Ahead}
 
 module _ (n commands next : ℕ) (ticks : List ℕ) (x s : List ℤ) (l d : List ℕ) where
   unfoldable pub tickAhead : ℕ
-  tickAhead = min (leastDue d n) (cond (ltb next commands) (nat ticks next) never)
+  tickAhead = min (leastDue d n) (cond (ltb next commands) (natAt ticks next) never)
 
   unfoldable pub dueAhead : ℕ
   dueAhead = maskOf (isDue d tickAhead) n

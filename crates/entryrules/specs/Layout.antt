@@ -1,10 +1,10 @@
 -- A law of the table of sections.
 use Prim.Native.Nat.{ℕ, _<_}
 use native.Mathlib.Omega.{arith}
-use Rattle.plan.specs.Lists.{nat}
+use Rattle.plan.specs.Lists.{natAt}
 use Rattle.plan.specs.Format.{sections, entrySizes}
 use Rattle.plan.specs.Laws.Layout.{each-section}
 
 -- an entry has bytes, so a length can be divided by it
-pub size-positive : (k : ℕ) → k < sections → 0 < nat entrySizes k
-size-positive = each-section (λ k. 0 < nat entrySizes k) (omega arith) (omega arith) (omega arith) (omega arith) (omega arith)
+pub size-positive : (k : ℕ) → k < sections → 0 < natAt entrySizes k
+size-positive = each-section (λ k. 0 < natAt entrySizes k) (omega arith) (omega arith) (omega arith) (omega arith) (omega arith)

@@ -1,7 +1,7 @@
 // The sections of a plan file, in order, as a table: the bytes of an entry, and the limits of the count.
 ghost use mathlib.Core.Path.{_≡_};
 ghost use Prim.Native.Nat.{_<_};
-ghost use Rattle.plan.specs.Lists.{nat, every};
+ghost use Rattle.plan.specs.Lists.{natAt, every};
 ghost use Rattle.plan.specs.Format.{sections, entrySizes, leastCounts, largestCounts};
 ghost use Rattle.plan.specs.Tests.{countKept};
 
@@ -19,21 +19,21 @@ const LARGEST_COUNTS: [u64; 5] = [32, 8, 16, 256, 64];
 // The bytes of an entry of section k.
 pub fn entry_size(k: usize) -> u64
     requires { ⌜ k < sections ⌝ }
-    ensures { λ r. ⌜ (r ≡ nat entrySizes k) × (0 < r) ⌝ }
+    ensures { λ r. ⌜ (r ≡ natAt entrySizes k) × (0 < r) ⌝ }
 {
     ENTRY_SIZES[k]
 }
 
 fn least_count(k: usize) -> u64
     requires { ⌜ k < sections ⌝ }
-    ensures { λ r. ⌜ r ≡ nat leastCounts k ⌝ }
+    ensures { λ r. ⌜ r ≡ natAt leastCounts k ⌝ }
 {
     LEAST_COUNTS[k]
 }
 
 fn largest_count(k: usize) -> u64
     requires { ⌜ k < sections ⌝ }
-    ensures { λ r. ⌜ r ≡ nat largestCounts k ⌝ }
+    ensures { λ r. ⌜ r ≡ natAt largestCounts k ⌝ }
 {
     LARGEST_COUNTS[k]
 }
@@ -51,7 +51,7 @@ pub fn count_kept(k: usize, count: u64) -> bool
 
 // Whether the counts of a plan, in the order of the sections, are inside their limits. They may be any numbers.
 pub fn counts_kept(counts: &[usize; 5]) -> bool
-    ensures { λ r. ⌜ r ≡ every (λ k. countKept k (nat (now (counts .entry)) k)) sections ⌝ }
+    ensures { λ r. ⌜ r ≡ every (λ k. countKept k (natAt (now (counts .entry)) k)) sections ⌝ }
 {
     let mut k = 0;
     while k < SECTIONS {

@@ -10,7 +10,7 @@ use Rattle.integers.specs.Division.{ceilDiv}
 use Rattle.integers.specs.Range.{limited, within}
 use Rattle.bitset.specs.Mask.{countOf}
 use Rattle.words.specs.Word.{numberAt, bytesOf, signedOf, unsignedOf, wordOf, flat}
-use Rattle.plan.specs.Lists.{nat, int, table, row, joined, every, some, all, firstFrom}
+use Rattle.plan.specs.Lists.{natAt, intAt, table, row, joined, every, some, all, firstFrom}
 use Rattle.plan.specs.Format.{horizonIn, offsetIn, lengthIn, startIn, countIn, part, sectionIn, columnOf, columnIn, planIn}
 use Rattle.plan.specs.Tests.{longEnough, offsetsKept, countKept, sizesKept, horizonKept, kindKept, ascends, counts, countsKept, integratorKept}
 use Rattle.plan.specs.Tests.{inputKept, nodeKept, linkLimits, linkOrdered, commandLimits, commandOrdered}
@@ -212,7 +212,7 @@ further =
     ∷ case ℤ (nodeOf 2 (negsuc 4) (pos 5) (negsuc 5) (pos 0)) (negsuc 4)
     ∷ case ℤ (nodeOf 2 (negsuc 4) (pos 5) (pos 4) (pos 9)) (pos 4)
     -- a due value of −M passes, −M − 1 bars
-    ∷ case ℤ (int (lazily (pump (negsuc 1073741822) 1 (negsuc 0) (pos 65536)) 1 .q) 0) minus-m
+    ∷ case ℤ (intAt (lazily (pump (negsuc 1073741822) 1 (negsuc 0) (pos 65536)) 1 .q) 0) minus-m
     ∷ case ℕ (statusOf (pump (negsuc 1073741822) 1 (negsuc 1) (pos 65536)) (lazily (pump (negsuc 1073741822) 1 (negsuc 1) (pos 65536)) 0)) 2
     -- finished goes before range: the value would be beyond M, but its tick is above the horizon
     ∷ case ℕ (statusOf (pump (pos 1073741823) 100 (pos 9) (pos 65536)) (startOf (pump (pos 1073741823) 100 (pos 9) (pos 65536)))) 1
@@ -236,7 +236,7 @@ further =
     ∷ case ℕ (statusOf (planIn rangeFile) (startOf (planIn rangeFile))) 2
     ∷ case ℕ (integratorOf (planIn rangeFile) (startOf (planIn rangeFile))) 1
     ∷ case ℕ (lazily (planIn rangeFile) 5 .clock) 0
-    ∷ case ℤ (int (lazily (planIn rangeFile) 5 .inputs) 0) (pos 5)
+    ∷ case ℤ (intAt (lazily (planIn rangeFile) 5 .inputs) 0) (pos 5)
     ∷ case (List ℕ) (events (planIn rangeFile) Eager 5 (startOf (planIn rangeFile))) []
     ∷ case ℕ (plainIntegrator (planIn rangeFile) (plainAfter (planIn rangeFile) 5)) 1
     -- two commands at one tick are one instant, by ascending source; a command that repeats a value, at the horizon, is obeyed
@@ -270,8 +270,8 @@ further =
     ∷ case ℕ (lazily (planIn beyondFile) 1 .instants) 1
     ∷ case ℤ (positionOf (lazily (planIn beyondFile) 1) 1) (pos 1073741829)
     -- idle: its due tick is never, it is finished, and its unused entries are 0
-    ∷ case ℕ (nat (idleState .run .d) 0) 4294967295
-    ∷ case ℕ (nat (idleState .run .d) 1) 0
+    ∷ case ℕ (natAt (idleState .run .d) 0) 4294967295
+    ∷ case ℕ (natAt (idleState .run .d) 1) 0
     ∷ case ℕ (statusOf (idleState .plan) (idleState .run)) 1
     ∷ case State (startState (planIn (encode idlePlan))) idleState
     -- sound states: loaded, idle, after runs; between two instants with no instant counted

@@ -9,7 +9,7 @@ use Rattle.integers.specs.Division.{ceilDiv}
 use Rattle.integers.specs.Range.{limited, within}
 use Rattle.bitset.specs.Mask.{countOf}
 use Rattle.words.specs.Word.{numberAt, bytesOf, signedOf, unsignedOf, wordOf, flat}
-use Rattle.plan.specs.Lists.{int, table, row, joined, every, some, all, firstFrom}
+use Rattle.plan.specs.Lists.{intAt, table, row, joined, every, some, all, firstFrom}
 use Rattle.plan.specs.Format.{sections, horizonIn, offsetIn, lengthIn, startIn, countIn, part, sectionIn, columnOf, columnIn, planIn}
 use Rattle.plan.specs.Tests.{longEnough, offsetsKept, countKept, sizesKept, horizonKept, ascends, counts, countsKept, integratorKept, inputKept}
 use Rattle.plan.specs.Tests.{linkLimits, linkOrdered, commandLimits, commandOrdered}
@@ -141,7 +141,7 @@ abbrev p5-above : Case
 p5-above = case ℕ (due (pos 0) (pos 0) 10 (pos 11)) 1
 
 abbrev p5-next-output : Case
-p5-next-output = case ℤ (int (ran Lazy 1 (pumpFile (pos 0) 10 (pos 11) (pos 65536)) .state .run .q) 0) (pos 11)
+p5-next-output = case ℤ (intAt (ran Lazy 1 (pumpFile (pos 0) 10 (pos 11) (pos 65536)) .state .run .q) 0) (pos 11)
 
 -- ---- P6: "Sums −1, −65,536, 65,535, 65,536 give slopes −1, −1, 0, 1."
 
@@ -189,7 +189,7 @@ abbrev p9-m-passes : Case
 p9-m-passes = case ℕ (ran Lazy 0 passingFile .status) 0
 
 abbrev p9-m-taken : Case
-p9-m-taken = case ℤ (int (ran Lazy 1 passingFile .state .run .q) 0) (pos 1073741824)
+p9-m-taken = case ℤ (intAt (ran Lazy 1 passingFile .state .run .q) 0) (pos 1073741824)
 
 abbrev p9-above-m : Case
 p9-above-m = case ℤ (dueValue barredFile) (pos 1073741825)

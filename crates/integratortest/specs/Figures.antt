@@ -7,7 +7,7 @@ use lib.Signed.{ltZ, _≤ℤ_}
 use lib.Dec.{leb, ltb, eqb}
 use Rattle.integers.specs.Parts.{∣_∣}
 use Rattle.plan.specs.Format.{M}
-use Rattle.plan.specs.Lists.{nat, int}
+use Rattle.plan.specs.Lists.{natAt, intAt}
 use Rattle.machine.specs.Due.{dueTick}
 
 -- all but "|q| ≤ M" of `integratorSound`, for an integrator whose links make `rate`
@@ -21,7 +21,7 @@ figuresSound clock quantum rate x q s l d =
 -- the same of integrator i, where the numbers stand in arrays
 abbrev pub figuresIn : ℕ → List ℤ → List ℤ → List ℤ → List ℤ → List ℤ → List ℕ → List ℕ → ℕ → Bool
 figuresIn clock quanta rates x q s l d i =
-    figuresSound clock (int quanta i) (int rates i) (int x i) (int q i) (int s i) (nat l i) (nat d i)
+    figuresSound clock (intAt quanta i) (intAt rates i) (intAt x i) (intAt q i) (intAt s i) (natAt l i) (natAt d i)
 
 -- what the test asks
 pub record FiguresReady (clock : ℕ) (quantum rate q : ℤ) : Type 0 where
@@ -32,4 +32,4 @@ pub record FiguresReady (clock : ℕ) (quantum rate q : ℤ) : Type 0 where
   pub output : ∣ q ∣ ≤ M
 
 abbrev pub AllReady : ℕ → ℕ → List ℤ → List ℤ → List ℤ → Type 0
-AllReady n clock quanta rates q = (i : ℕ) → i < n → FiguresReady clock (int quanta i) (int rates i) (int q i)
+AllReady n clock quanta rates q = (i : ℕ) → i < n → FiguresReady clock (intAt quanta i) (intAt rates i) (intAt q i)

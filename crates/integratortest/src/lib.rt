@@ -1,7 +1,7 @@
 // The figures of the integrators in a sound state.
 ghost use mathlib.Core.Path.{_≡_};
 ghost use Prim.Native.Nat.{_≤_};
-ghost use Rattle.plan.specs.Lists.{nat, int, every};
+ghost use Rattle.plan.specs.Lists.{natAt, intAt, every};
 ghost use Rattle.integratortest.specs.Figures.{figuresSound, FiguresReady, AllReady};
 use dynamics::due_tick;
 use plan::INTEGRATORS;
@@ -52,8 +52,8 @@ pub fn integrators_sound<'a>(
     d: &'a [u32; INTEGRATORS],
 ) -> bool
     requires { ⌜ (n ≤ 32) × AllReady n clock (now quanta) (now rates) (now q) ⌝ }
-    ensures { λ r. ⌜ r ≡ every (λ i. figuresSound clock (int (now (quanta .entry)) i) (int (now (rates .entry)) i) (int (now (x .entry)) i)
-        (int (now (q .entry)) i) (int (now (s .entry)) i) (nat (now (l .entry)) i) (nat (now (d .entry)) i)) n ⌝ }
+    ensures { λ r. ⌜ r ≡ every (λ i. figuresSound clock (intAt (now (quanta .entry)) i) (intAt (now (rates .entry)) i) (intAt (now (x .entry)) i)
+        (intAt (now (q .entry)) i) (intAt (now (s .entry)) i) (natAt (now (l .entry)) i) (natAt (now (d .entry)) i)) n ⌝ }
 {
     let mut i: usize = 0;
     while i < n {

@@ -7,7 +7,7 @@ use lib.Signed.{ltZ, _≤ℤ_, _<ℤ_}
 use lib.Dec.{eqb}
 use Rattle.integers.specs.Parts.{up, ∣_∣}
 use Rattle.integers.specs.Division.{ceilDiv}
-use Rattle.plan.specs.Lists.{int}
+use Rattle.plan.specs.Lists.{intAt}
 use Rattle.plan.specs.declared.Plan.{Plan}
 
 -- the due tick of an integrator whose slope is 0: above every tick, the largest that 32 bits hold
@@ -16,10 +16,10 @@ never = 4294967295
 
 -- "with quantum D, the upper level is q+D and the lower q−D"
 unfoldable pub upperLevel : Plan → List ℤ → ℕ → ℤ
-upperLevel p q i = int q i +ℤ int (p .integrators .quanta) i
+upperLevel p q i = intAt q i +ℤ intAt (p .integrators .quanta) i
 
 unfoldable pub lowerLevel : Plan → List ℤ → ℕ → ℤ
-lowerLevel p q i = int q i -ℤ int (p .integrators .quanta) i
+lowerLevel p q i = intAt q i -ℤ intAt (p .integrators .quanta) i
 
 -- from x to the level ahead: the upper one for a slope above 0, else the lower. It is below 0 where x is past that level
 unfoldable pub distance : ℤ → ℤ → ℤ → ℤ → ℤ

@@ -7,7 +7,7 @@ use Prim.Native.Nat.{ℕ, zero, suc, _+_, _-_}
 use lib.IntN.{ℤ, pos, _+ℤ_, _*ℤ_}
 use Rattle.bitset.specs.Mask.{countOf}
 use Rattle.words.specs.Word.{wordOf, flat}
-use Rattle.plan.specs.Lists.{nat, int, row, joined}
+use Rattle.plan.specs.Lists.{natAt, intAt, row, joined}
 use Rattle.plan.specs.declared.Plan.{Plan}
 use Rattle.machine.specs.Values.{valueWith, rateOf}
 use Rattle.machine.specs.Due.{dueOf}
@@ -19,12 +19,12 @@ use Rattle.machine.specs.declared.Engine.the-variants.{Lazy, Eager}
 
 -- x+s×(t−l)
 unfoldable pub positionAt : Running → ℕ → ℕ → ℤ
-positionAt r t i = int (r .x) i +ℤ int (r .s) i *ℤ pos (t - nat (r .l) i)
+positionAt r t i = intAt (r .x) i +ℤ intAt (r .s) i *ℤ pos (t - natAt (r .l) i)
 
 -- the value of input j after those of the first e commands that are of tick t
 unfoldable pub settingOf : Plan → List ℤ → ℕ → ℕ → ℕ → ℤ
-settingOf p u t j zero = int u j
-settingOf p u t j (suc e) = cond (setsInput p t j e) (int (p .commands .values) e) (settingOf p u t j e)
+settingOf p u t j zero = intAt u j
+settingOf p u t j (suc e) = cond (setsInput p t j e) (intAt (p .commands .values) e) (settingOf p u t j e)
 
 -- 2. "Commands of tick t set their inputs."
 unfoldable pub settings : Plan → List ℤ → ℕ → List ℤ
@@ -37,7 +37,7 @@ moves p Eager d t i = true
 
 -- the same in document 01's words
 abbrev pub Moves : Plan → Engine → List ℕ → ℕ → ℕ → Type 0
-Moves p Lazy d t i = (nat d i ≡ t) ⊎ Reached p d t i
+Moves p Lazy d t i = (natAt d i ≡ t) ⊎ Reached p d t i
 Moves p Eager d t i = Unit {0}
 
 -- "Events of an instant: due integrators and commanded inputs by ascending source number, 12 bytes each: tick, source, signed value."
@@ -51,7 +51,7 @@ eventsAt p t d q u = joined (λ i. cond (changes p d t i) (eventBytes t i (value
 module _ (p : Plan) (r : Running) (t : ℕ) where
   -- 1. "The due integrators (d = t) take q = x+s×(t−l)." The others keep theirs.
   unfoldable pub outputs : List ℤ
-  outputs = row (pos 0) 32 (p .counts .n) (λ i. cond (isDue (r .d) t i) (positionAt r t i) (int (r .q) i))
+  outputs = row (pos 0) 32 (p .counts .n) (λ i. cond (isDue (r .d) t i) (positionAt r t i) (intAt (r .q) i))
 
   -- 3. and 5. the new slope, by the new outputs and inputs and the node values worked out from them
   unfoldable pub slopeThen : ℕ → ℤ
@@ -59,7 +59,7 @@ module _ (p : Plan) (r : Running) (t : ℕ) where
 
   -- 5. "x becomes x+s×(t−l) .. A due integrator gets x = q."
   unfoldable pub xThen : ℕ → ℤ
-  xThen i = cond (isDue (r .d) t i) (int outputs i) (positionAt r t i)
+  xThen i = cond (isDue (r .d) t i) (intAt outputs i) (positionAt r t i)
 
   -- 5. and the new due tick
   unfoldable pub dueThen : ℕ → ℕ
@@ -70,11 +70,11 @@ module _ (p : Plan) (r : Running) (t : ℕ) where
   unfoldable pub takenAt : (ℕ → Bool) → Running
   takenAt moved =
       record {
-        x = row (pos 0) 32 (p .counts .n) (λ i. cond (moved i) (xThen i) (int (r .x) i));
+        x = row (pos 0) 32 (p .counts .n) (λ i. cond (moved i) (xThen i) (intAt (r .x) i));
         q = outputs;
-        s = row (pos 0) 32 (p .counts .n) (λ i. cond (moved i) (slopeThen i) (int (r .s) i));
-        l = row 0 32 (p .counts .n) (λ i. cond (moved i) t (nat (r .l) i));
-        d = row 0 32 (p .counts .n) (λ i. cond (moved i) (dueThen i) (nat (r .d) i));
+        s = row (pos 0) 32 (p .counts .n) (λ i. cond (moved i) (slopeThen i) (intAt (r .s) i));
+        l = row 0 32 (p .counts .n) (λ i. cond (moved i) t (natAt (r .l) i));
+        d = row 0 32 (p .counts .n) (λ i. cond (moved i) (dueThen i) (natAt (r .d) i));
         inputs = settings p (r .inputs) t;
         clocks = record { clock = t; next = nextCommand p t; instants = r .clocks .instants + 1; updates = r .clocks .updates + countOf moved (p .counts .n) };
       }

@@ -6,7 +6,7 @@ use Prim.Native.Nat.{ℕ, zero, suc, _+_, _-_}
 use lib.IntN.{ℤ, pos, _+ℤ_, _*ℤ_}
 use lib.Dec.{eqb}
 use Rattle.bitset.specs.Mask.{countOf}
-use Rattle.plan.specs.Lists.{int, row}
+use Rattle.plan.specs.Lists.{intAt, row}
 use Rattle.plan.specs.declared.Plan.{Plan}
 use Rattle.machine.specs.Values.{rateOf}
 use Rattle.machine.specs.Due.{dueOf}
@@ -35,7 +35,7 @@ module _ (p : Plan) where
         x = x;
         q = q;
         s = row (pos 0) 32 (p .counts .n) slope;
-        d = row 0 32 (p .counts .n) (λ i. dueOf p q i t (int x i) (slope i));
+        d = row 0 32 (p .counts .n) (λ i. dueOf p q i t (intAt x i) (slope i));
         inputs = u;
         clock = t;
         next = nextCommand p t;
@@ -52,10 +52,10 @@ module _ (p : Plan) where
 
   -- where integrator i is at the next instant
   unfoldable pub plainPosition : Plain → ℕ → ℤ
-  plainPosition m i = int (m .x) i +ℤ int (m .s) i *ℤ pos (plainTick m - m .clock)
+  plainPosition m i = intAt (m .x) i +ℤ intAt (m .s) i *ℤ pos (plainTick m - m .clock)
 
   unfoldable pub plainOutputs : Plain → List ℤ
-  plainOutputs m = row (pos 0) 32 (p .counts .n) (λ i. cond (isDue (m .d) (plainTick m) i) (plainPosition m i) (int (m .q) i))
+  plainOutputs m = row (pos 0) 32 (p .counts .n) (λ i. cond (isDue (m .d) (plainTick m) i) (plainPosition m i) (intAt (m .q) i))
 
   -- one instant: all move, the due ones take their position as output, the commands of the tick set their inputs
   unfoldable pub plainInstant : Plain → Plain

@@ -6,7 +6,7 @@ use lib.Signed.{_<ℤ_}
 use lib.ListN.{length}
 use Rattle.integers.specs.Parts.{∣_∣}
 use Rattle.plan.specs.Format.{M}
-use Rattle.plan.specs.Lists.{nat, int}
+use Rattle.plan.specs.Lists.{natAt, intAt}
 use Rattle.plan.specs.Rules.{Within, PlanRules}
 use Rattle.plan.specs.Unused.{UnusedNat, UnusedInt, PlanUnused}
 use Rattle.plan.specs.declared.Plan.{Plan}
@@ -28,15 +28,15 @@ pub record RunningUnused (p : Plan) (r : Running) : Type 0 where
 -- what is asked of integrator i
 pub record SoundIntegrator (p : Plan) (r : Running) (i : ℕ) : Type 0 where
   -- "l ≤ c < d"
-  pub moved : nat (r .l) i ≤ r .clocks .clock
-  pub ahead : r .clocks .clock < nat (r .d) i
+  pub moved : natAt (r .l) i ≤ r .clocks .clock
+  pub ahead : r .clocks .clock < natAt (r .d) i
   -- "|q| ≤ M"
-  pub output : ∣ int (r .q) i ∣ ≤ M
+  pub output : ∣ intAt (r .q) i ∣ ≤ M
   -- "|x−q| < D"
-  pub near : pos ∣ int (r .x) i -ℤ int (r .q) i ∣ <ℤ int (p .integrators .quanta) i
+  pub near : pos ∣ intAt (r .x) i -ℤ intAt (r .q) i ∣ <ℤ intAt (p .integrators .quanta) i
   -- "s and d keep Rate and Due"
-  pub rate : int (r .s) i ≡ rateOf p (r .q) (r .inputs) i
-  pub due : nat (r .d) i ≡ dueOf p (r .q) i (nat (r .l) i) (int (r .x) i) (int (r .s) i)
+  pub rate : intAt (r .s) i ≡ rateOf p (r .q) (r .inputs) i
+  pub due : natAt (r .d) i ≡ dueOf p (r .q) i (natAt (r .l) i) (intAt (r .x) i) (intAt (r .s) i)
 
 pub record SoundRunning (p : Plan) (r : Running) : Type 0 where
   -- "its plan keeps all rules above"
@@ -45,7 +45,7 @@ pub record SoundRunning (p : Plan) (r : Running) : Type 0 where
   pub clock : r .clocks .clock ≤ p .horizon
   pub integrators : (i : ℕ) → i < p .counts .n → SoundIntegrator p r i
   -- "inputs are within ±M"
-  pub inputs : (j : ℕ) → j < p .counts .m → Within M (int (r .inputs) j)
+  pub inputs : (j : ℕ) → j < p .counts .m → Within M (intAt (r .inputs) j)
   -- "the next command is the first with tick above c, or the command count if none"
   pub next : r .clocks .next ≡ nextCommand p (r .clocks .clock)
   -- "instants ≤ c; updates ≤ n×instants"

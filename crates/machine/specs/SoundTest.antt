@@ -7,7 +7,7 @@ use lib.Dec.{leb, ltb, eqb}
 use Rattle.integers.specs.Parts.{∣_∣}
 use Rattle.integers.specs.Range.{within}
 use Rattle.plan.specs.Format.{M}
-use Rattle.plan.specs.Lists.{nat, int, every}
+use Rattle.plan.specs.Lists.{natAt, intAt, every}
 use Rattle.plan.specs.Tests.{countsKept}
 use Rattle.plan.specs.Refusals.{isClean, planFinding}
 use Rattle.plan.specs.Unused.{unusedNat, unusedInt, planUnused}
@@ -31,17 +31,17 @@ module _ (p : Plan) (r : Running) where
   -- "|x−q| < D" is tested as x strictly between the levels, since x may be any 64-bit number
   unfoldable pub integratorSound : ℕ → Bool
   integratorSound i =
-      leb (nat (r .l) i) (r .clocks .clock) && ltb (r .clocks .clock) (nat (r .d) i)
-      && within M (int (r .q) i)
-      && ltZ (lowerLevel p (r .q) i) (int (r .x) i) && ltZ (int (r .x) i) (upperLevel p (r .q) i)
-      && eqb ∣ int (r .s) i -ℤ rateOf p (r .q) (r .inputs) i ∣ 0
-      && eqb (nat (r .d) i) (dueOf p (r .q) i (nat (r .l) i) (int (r .x) i) (int (r .s) i))
+      leb (natAt (r .l) i) (r .clocks .clock) && ltb (r .clocks .clock) (natAt (r .d) i)
+      && within M (intAt (r .q) i)
+      && ltZ (lowerLevel p (r .q) i) (intAt (r .x) i) && ltZ (intAt (r .x) i) (upperLevel p (r .q) i)
+      && eqb ∣ intAt (r .s) i -ℤ rateOf p (r .q) (r .inputs) i ∣ 0
+      && eqb (natAt (r .d) i) (dueOf p (r .q) i (natAt (r .l) i) (intAt (r .x) i) (intAt (r .s) i))
 
   unfoldable pub runningSound : Bool
   runningSound =
       leb (r .clocks .clock) (p .horizon)
       && every integratorSound (p .counts .n)
-      && every (λ j. within M (int (r .inputs) j)) (p .counts .m)
+      && every (λ j. within M (intAt (r .inputs) j)) (p .counts .m)
       && eqb (r .clocks .next) (nextCommand p (r .clocks .clock))
       && leb (r .clocks .instants) (r .clocks .clock) && leb (r .clocks .updates) (p .counts .n * r .clocks .instants)
       && runningUnused

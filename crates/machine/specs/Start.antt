@@ -1,7 +1,7 @@
 -- "Start: x = q = start, l = c = 0, slopes and dues by rule, counts 0." And the idle state.
 use Prim.Native.Nat.{ℕ}
 use lib.IntN.{ℤ, pos}
-use Rattle.plan.specs.Lists.{int, row}
+use Rattle.plan.specs.Lists.{intAt, row}
 use Rattle.plan.specs.Idle.{idlePlan}
 use Rattle.plan.specs.declared.Plan.{Plan}
 use Rattle.machine.specs.Values.{rateOf}
@@ -15,7 +15,7 @@ module _ (p : Plan) where
   startSlope i = rateOf p (p .integrators .starts) (p .inputs .firsts) i
 
   unfoldable pub startDue : ℕ → ℕ
-  startDue i = dueOf p (p .integrators .starts) i 0 (int (p .integrators .starts) i) (startSlope i)
+  startDue i = dueOf p (p .integrators .starts) i 0 (intAt (p .integrators .starts) i) (startSlope i)
 
   unfoldable pub startOf : Running
   startOf =

@@ -3,7 +3,7 @@ use mathlib.Core.Bool.{Bool, true, false, cond}
 use Prim.Native.Nat.{ℕ, zero, suc, _+_}
 use lib.Dec.{eqb}
 use Rattle.bitset.specs.Mask.{countOf}
-use Rattle.plan.specs.Lists.{nat}
+use Rattle.plan.specs.Lists.{natAt}
 use Rattle.plan.specs.declared.Plan.{Plan}
 use Rattle.machine.specs.Plain.{Plain, plainAfter, lazyCount}
 use Rattle.machine.specs.declared.Running.{Running}
@@ -37,4 +37,4 @@ lazyMoves p engine (suc k) = lazyMoves p engine k + cond (isEager (engine (k + 1
 
 -- "the number of integrators with l = c"
 unfoldable pub movedNow : Plan → Running → ℕ
-movedNow p r = countOf (λ i. eqb (nat (r .l) i) (r .clocks .clock)) (p .counts .n)
+movedNow p r = countOf (λ i. eqb (natAt (r .l) i) (r .clocks .clock)) (p .counts .n)

@@ -8,7 +8,7 @@ use lib.Dec.{ltb, eqb}
 use Rattle.integers.specs.Division.{floored}
 use Rattle.integers.specs.Range.{limited}
 use Rattle.plan.specs.Format.{M}
-use Rattle.plan.specs.Lists.{nat, int}
+use Rattle.plan.specs.Lists.{natAt, intAt}
 use Rattle.plan.specs.declared.Plan.{Plan}
 
 -- "clipped to ±M"
@@ -29,10 +29,10 @@ module _ (p : Plan) (q u : List ℤ) where
   -- The value of source i once the first j nodes are worked out: "integrators 0 to n−1, inputs n to n+m−1, nodes from n+m"; "Integrators
   -- give q, inputs their value, nodes their value." A node that is not worked out yet counts as 0.
   unfoldable pub valueWith : ℕ → ℕ → ℤ
-  valueWith zero i = cond (ltb i (p .counts .n)) (int q i) (cond (ltb i (p .counts .n + p .counts .m)) (int u (i - p .counts .n)) (pos 0))
+  valueWith zero i = cond (ltb i (p .counts .n)) (intAt q i) (cond (ltb i (p .counts .n + p .counts .m)) (intAt u (i - p .counts .n)) (pos 0))
   valueWith (suc j) i =
       cond (eqb i (p .counts .n + p .counts .m + j))
-      (nodeOf (nat (p .nodes .kinds) j) (int (p .nodes .lows) j) (int (p .nodes .highs) j) (valueWith j (nat (p .nodes .a) j)) (valueWith j (nat (p .nodes .b) j)))
+      (nodeOf (natAt (p .nodes .kinds) j) (intAt (p .nodes .lows) j) (intAt (p .nodes .highs) j) (valueWith j (natAt (p .nodes .a) j)) (valueWith j (natAt (p .nodes .b) j)))
       (valueWith j i)
 
   -- "Node values are worked out in node order."
@@ -44,7 +44,7 @@ module _ (p : Plan) (q u : List ℤ) where
   sumOver i zero = pos 0
   sumOver i (suc e) =
       sumOver i e
-      +ℤ cond (eqb (nat (p .links .targets) e) i) (int (p .links .coefficients) e *ℤ valueOf (nat (p .links .sources) e)) (pos 0)
+      +ℤ cond (eqb (natAt (p .links .targets) e) i) (intAt (p .links .coefficients) e *ℤ valueOf (natAt (p .links .sources) e)) (pos 0)
 
   -- "s = floor(sum of coefficient × source value over its links / 65,536)"
   unfoldable pub rateOf : ℕ → ℤ

@@ -6,7 +6,7 @@ use Prim.Native.Nat.{ℕ, _+_, _-_, _<_}
 use lib.IntN.{ℤ, pos, _+ℤ_, _-ℤ_, _*ℤ_}
 use lib.ListN.{set}
 use Rattle.bitset.specs.Mask.{has}
-use Rattle.plan.specs.Lists.{nat, int}
+use Rattle.plan.specs.Lists.{natAt, intAt}
 use Rattle.machine.specs.Due.{dueTick}
 use Rattle.rates.specs.Links.{rangeRate, Rated}
 use Rattle.dynamics.specs.Ticks.{DueReady, PositionReady}
@@ -24,13 +24,13 @@ moving x s l d = record { x = x; s = s; l = l; d = d }
 module _ (t : ℕ) (ranges sources : List ℕ) (coefficients quanta values : List ℤ) where
   -- where integrator i is at t, its new slope, and its new due tick
   unfoldable pub placeOf : ℕ → Motion → ℤ
-  placeOf i m = int (m .x) i +ℤ int (m .s) i *ℤ pos (t - nat (m .l) i)
+  placeOf i m = intAt (m .x) i +ℤ intAt (m .s) i *ℤ pos (t - natAt (m .l) i)
 
   unfoldable pub slopeOf : ℕ → ℤ
-  slopeOf i = rangeRate sources coefficients values (nat ranges i) (nat ranges (i + 1))
+  slopeOf i = rangeRate sources coefficients values (natAt ranges i) (natAt ranges (i + 1))
 
   unfoldable pub dueFrom : ℕ → ℤ → ℕ
-  dueFrom i place = dueTick t place (int values i +ℤ int quanta i) (int values i -ℤ int quanta i) (slopeOf i)
+  dueFrom i place = dueTick t place (intAt values i +ℤ intAt quanta i) (intAt values i -ℤ intAt quanta i) (slopeOf i)
 
   unfoldable pub moveOne : ℕ → Motion → Motion
   moveOne i m =
@@ -39,9 +39,9 @@ module _ (t : ℕ) (ranges sources : List ℕ) (coefficients quanta values : Lis
   -- what that asks
   pub record Movable (i : ℕ) (m : Motion) : Type 0 where
     pub used : i < 32
-    pub rated : Rated sources coefficients values (nat ranges i) (nat ranges (i + 1))
-    pub position : PositionReady (int (m .x) i) (int (m .s) i) (nat (m .l) i) t
-    pub due : DueReady t (placeOf i m) (int values i) (int quanta i) (slopeOf i)
+    pub rated : Rated sources coefficients values (natAt ranges i) (natAt ranges (i + 1))
+    pub position : PositionReady (intAt (m .x) i) (intAt (m .s) i) (natAt (m .l) i) t
+    pub due : DueReady t (placeOf i m) (intAt values i) (intAt quanta i) (slopeOf i)
 
   abbrev pub AllMovable : ℕ → Motion → Type 0
   AllMovable moved m = (i : ℕ) → has moved i ≡ true → Movable i m

@@ -3,14 +3,14 @@ use mathlib.Core.List.{List, [], _∷_, _++_}
 use Prim.Native.Nat.{ℕ, zero, suc, _+_, _*_}
 use lib.IntN.{ℤ}
 use Rattle.words.specs.Word.{wordOf, flat}
-use Rattle.plan.specs.Lists.{nat, int, joined}
+use Rattle.plan.specs.Lists.{natAt, intAt, joined}
 use Rattle.plan.specs.Format.{sections, entrySizes, headerLength}
 use Rattle.plan.specs.Tests.{counts}
 use Rattle.plan.specs.declared.Plan.{Plan}
 
 -- of sections with these counts: the length of section k, and its offset
 abbrev pub lengthFrom : List ℕ → ℕ → ℕ
-lengthFrom counts k = nat entrySizes k * nat counts k
+lengthFrom counts k = natAt entrySizes k * natAt counts k
 
 unfoldable pub offsetFrom : List ℕ → ℕ → ℕ
 offsetFrom counts zero = headerLength
@@ -21,17 +21,17 @@ abbrev pub pairEntry : List ℕ → ℕ → List ℕ
 pairEntry counts k = offsetFrom counts k ∷ lengthFrom counts k ∷ []
 
 abbrev pub integratorEntry : List ℤ → List ℤ → ℕ → List ℕ
-integratorEntry starts quanta i = wordOf (int starts i) ∷ wordOf (int quanta i) ∷ []
+integratorEntry starts quanta i = wordOf (intAt starts i) ∷ wordOf (intAt quanta i) ∷ []
 
 abbrev pub inputEntry : List ℤ → ℕ → List ℕ
-inputEntry firsts j = wordOf (int firsts j) ∷ []
+inputEntry firsts j = wordOf (intAt firsts j) ∷ []
 
 abbrev pub nodeEntry : List ℕ → List ℕ → List ℕ → List ℤ → List ℤ → ℕ → List ℕ
 nodeEntry kinds a b lows highs j =
-    nat kinds j ∷ nat a j ∷ nat b j ∷ wordOf (int lows j) ∷ wordOf (int highs j) ∷ []
+    natAt kinds j ∷ natAt a j ∷ natAt b j ∷ wordOf (intAt lows j) ∷ wordOf (intAt highs j) ∷ []
 
 abbrev pub tripleEntry : List ℕ → List ℕ → List ℤ → ℕ → List ℕ
-tripleEntry xs ys zs e = nat xs e ∷ nat ys e ∷ wordOf (int zs e) ∷ []
+tripleEntry xs ys zs e = natAt xs e ∷ natAt ys e ∷ wordOf (intAt zs e) ∷ []
 
 module _ (p : Plan) where
   unfoldable pub lengthOf : ℕ → ℕ

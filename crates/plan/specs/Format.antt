@@ -5,7 +5,7 @@ use Prim.Native.Nat.{ℕ, zero, suc, _+_, _*_, _/_}
 use lib.IntN.{ℤ, pos}
 use lib.ListN.{length, take, drop}
 use Rattle.words.specs.Word.{word, signedWord}
-use Rattle.plan.specs.Lists.{nat, row}
+use Rattle.plan.specs.Lists.{natAt, row}
 use Rattle.plan.specs.declared.Plan.{Plan}
 
 -- "Let M = 2^30 = 1,073,741,824."
@@ -45,7 +45,7 @@ startIn file zero = headerLength
 startIn file (suc k) = offsetIn file k + lengthIn file k
 
 unfoldable pub countIn : List ℕ → ℕ → ℕ
-countIn file k = lengthIn file k / nat entrySizes k
+countIn file k = lengthIn file k / natAt entrySizes k
 
 -- `size` bytes of a file from `offset` on
 unfoldable pub part : List ℕ → ℕ → ℕ → List ℕ
@@ -61,7 +61,7 @@ columnOf unused read wide size count section column = row unused wide count (λ 
 
 -- of section k of a file
 unfoldable pub columnIn : {A : Type 0} → A → (List ℕ → ℕ → A) → List ℕ → ℕ → ℕ → List A
-columnIn unused read file k = columnOf unused read (nat largestCounts k) (nat entrySizes k) (countIn file k) (sectionIn file k)
+columnIn unused read file k = columnOf unused read (natAt largestCounts k) (natAt entrySizes k) (countIn file k) (sectionIn file k)
 
 -- a number that is not signed, among the integers
 abbrev pub unsignedWord : List ℕ → ℕ → ℤ

@@ -7,11 +7,11 @@ use lib.Dec.{ltb}
 use lib.ListN.{getD}
 
 -- entry i of a list, 0 past its end
-abbrev pub nat : List ℕ → ℕ → ℕ
-nat xs i = getD xs i 0
+abbrev pub natAt : List ℕ → ℕ → ℕ
+natAt xs i = getD xs i 0
 
-abbrev pub int : List ℤ → ℕ → ℤ
-int xs i = getD xs i (pos 0)
+abbrev pub intAt : List ℤ → ℕ → ℤ
+intAt xs i = getD xs i (pos 0)
 
 -- f 0, f 1, .., f (w - 1)
 unfoldable pub table {ℓ} : {A : Type ℓ} → ℕ → (ℕ → A) → List A

@@ -6,7 +6,7 @@ use Prim.Native.Nat.{ℕ, suc, _+_, _%_, _≤_, _<_}
 use lib.IntN.{ℤ, pos, negℤ}
 use lib.Signed.{_≤ℤ_}
 use lib.ListN.{length, getD}
-use Rattle.plan.specs.Lists.{nat, int}
+use Rattle.plan.specs.Lists.{natAt, intAt}
 use Rattle.plan.specs.Format.{M, sections, entrySizes, leastCounts, largestCounts, headerLength, offsetIn, lengthIn}
 use Rattle.plan.specs.Format.{countIn, planIn}
 use Rattle.plan.specs.Tests.{counts}
@@ -18,11 +18,11 @@ Within b z = (negℤ (pos b) ≤ℤ z) × (z ≤ℤ pos b)
 
 -- a count is inside the limits of section k
 abbrev pub CountRule : ℕ → ℕ → Type 0
-CountRule k count = (nat leastCounts k ≤ count) × (count ≤ nat largestCounts k)
+CountRule k count = (natAt leastCounts k ≤ count) × (count ≤ natAt largestCounts k)
 
 -- "Strictly ascending by" xs, "then" ys: entry e stands above its predecessor
 abbrev pub Ascends : List ℕ → List ℕ → ℕ → Type 0
-Ascends xs ys e = (d : ℕ) → suc d ≡ e → (nat xs d < nat xs e) ⊎ ((nat xs d ≡ nat xs e) × (nat ys d < nat ys e))
+Ascends xs ys e = (d : ℕ) → suc d ≡ e → (natAt xs d < natAt xs e) ⊎ ((natAt xs d ≡ natAt xs e) × (natAt ys d < natAt ys e))
 
 module _ (file : List ℕ) where
   pub record OffsetRule : Type 0 where
@@ -31,7 +31,7 @@ module _ (file : List ℕ) where
     pub last : (k : ℕ) → suc k ≡ sections → length file ≡ offsetIn file k + lengthIn file k
 
   pub record SizeRule : Type 0 where
-    pub whole : (k : ℕ) → k < sections → lengthIn file k % nat entrySizes k ≡ 0
+    pub whole : (k : ℕ) → k < sections → lengthIn file k % natAt entrySizes k ≡ 0
     pub count : (k : ℕ) → k < sections → CountRule k (countIn file k)
 
 module _ (p : Plan) where
@@ -40,45 +40,45 @@ module _ (p : Plan) where
 
   -- the counts of a plan that comes in no file
   abbrev pub CountsRule : Type 0
-  CountsRule = (k : ℕ) → k < sections → CountRule k (nat (counts p) k)
+  CountsRule = (k : ℕ) → k < sections → CountRule k (natAt (counts p) k)
 
   pub record IntegratorRule (i : ℕ) : Type 0 where
-    pub start : Within M (int (p .integrators .starts) i)
-    pub least : pos 1 ≤ℤ int (p .integrators .quanta) i
-    pub most : int (p .integrators .quanta) i ≤ℤ pos M
+    pub start : Within M (intAt (p .integrators .starts) i)
+    pub least : pos 1 ≤ℤ intAt (p .integrators .quanta) i
+    pub most : intAt (p .integrators .quanta) i ≤ℤ pos M
 
   abbrev pub InputRule : ℕ → Type 0
-  InputRule j = Within M (int (p .inputs .firsts) j)
+  InputRule j = Within M (intAt (p .inputs .firsts) j)
 
   -- "A and B, where used, name integrators, inputs or lower-numbered nodes": the sources below the node's own number
   abbrev pub Below : ℕ → ℕ → Type 0
   Below j source = source < p .counts .n + p .counts .m + j
 
   pub record NodeRule (j : ℕ) : Type 0 where
-    pub kind : nat (p .nodes .kinds) j ≤ 3
-    pub left : Below j (nat (p .nodes .a) j)
+    pub kind : natAt (p .nodes .kinds) j ≤ 3
+    pub left : Below j (natAt (p .nodes .a) j)
     -- "B is 0 and names nothing" in kind 2; the others use it
-    pub right : (nat (p .nodes .kinds) j ≡ 2 → ⊥) → Below j (nat (p .nodes .b) j)
-    pub unused : nat (p .nodes .kinds) j ≡ 2 → nat (p .nodes .b) j ≡ 0
+    pub right : (natAt (p .nodes .kinds) j ≡ 2 → ⊥) → Below j (natAt (p .nodes .b) j)
+    pub unused : natAt (p .nodes .kinds) j ≡ 2 → natAt (p .nodes .b) j ≡ 0
     -- kinds 0 and 1 "with lo and hi 0"
-    pub plain : nat (p .nodes .kinds) j ≤ 1 → (int (p .nodes .lows) j ≡ pos 0) × (int (p .nodes .highs) j ≡ pos 0)
+    pub plain : natAt (p .nodes .kinds) j ≤ 1 → (intAt (p .nodes .lows) j ≡ pos 0) × (intAt (p .nodes .highs) j ≡ pos 0)
     -- "For kinds 2 and 3 lo and hi lie within ±M."
-    pub limits : 2 ≤ nat (p .nodes .kinds) j → Within M (int (p .nodes .lows) j) × Within M (int (p .nodes .highs) j)
+    pub limits : 2 ≤ natAt (p .nodes .kinds) j → Within M (intAt (p .nodes .lows) j) × Within M (intAt (p .nodes .highs) j)
     -- kind 2 is "a limited to lo..hi, lo ≤ hi"
-    pub order : nat (p .nodes .kinds) j ≡ 2 → int (p .nodes .lows) j ≤ℤ int (p .nodes .highs) j
+    pub order : natAt (p .nodes .kinds) j ≡ 2 → intAt (p .nodes .lows) j ≤ℤ intAt (p .nodes .highs) j
 
   pub record LinkRule (e : ℕ) : Type 0 where
-    pub target : nat (p .links .targets) e < p .counts .n
-    pub source : nat (p .links .sources) e < p .counts .n + p .counts .m + p .counts .k
-    pub nonzero : int (p .links .coefficients) e ≡ pos 0 → ⊥
-    pub coefficient : Within 16777216 (int (p .links .coefficients) e)
+    pub target : natAt (p .links .targets) e < p .counts .n
+    pub source : natAt (p .links .sources) e < p .counts .n + p .counts .m + p .counts .k
+    pub nonzero : intAt (p .links .coefficients) e ≡ pos 0 → ⊥
+    pub coefficient : Within 16777216 (intAt (p .links .coefficients) e)
     pub order : Ascends (p .links .targets) (p .links .sources) e
 
   pub record CommandRule (e : ℕ) : Type 0 where
-    pub least : 1 ≤ nat (p .commands .ticks) e
-    pub most : nat (p .commands .ticks) e ≤ p .horizon
-    pub number : nat (p .commands .inputs) e < p .counts .m
-    pub value : Within M (int (p .commands .values) e)
+    pub least : 1 ≤ natAt (p .commands .ticks) e
+    pub most : natAt (p .commands .ticks) e ≤ p .horizon
+    pub number : natAt (p .commands .inputs) e < p .counts .m
+    pub value : Within M (intAt (p .commands .values) e)
     pub order : Ascends (p .commands .ticks) (p .commands .inputs) e
 
   -- "its plan keeps all rules above"
@@ -119,7 +119,7 @@ module _ (file : List ℕ) where
   Rule k e = getD rules k (λ _. Unit {0}) e
 
   abbrev pub Holds : ℕ → Type 0
-  Holds k = (e : ℕ) → e < nat ruleEntries k → Rule k e
+  Holds k = (e : ℕ) → e < natAt ruleEntries k → Rule k e
 
 -- what number and entry mean, by the rules as propositions
 pub record Answered (file : List ℕ) (number entry : ℕ) : Type 0 where
@@ -128,6 +128,6 @@ pub record Answered (file : List ℕ) (number entry : ℕ) : Type 0 where
   pub accepts : number ≡ 0 → ((k : ℕ) → Holds file k) × (entry ≡ 0)
   -- any other: the rules of lower numbers hold; the entry is one of its rule's, those below it keep the rule, and it breaks it
   pub earlier : (k : ℕ) → k < number → Holds file k
-  pub there : 0 < number → entry < nat (ruleEntries file) number
+  pub there : 0 < number → entry < natAt (ruleEntries file) number
   pub lowest : (e : ℕ) → e < entry → Rule file number e
   pub broken : 0 < number → Rule file number entry → ⊥

@@ -9,7 +9,7 @@ use lib.Dec.{leb, ltb, eqb}
 use lib.ListN.{length}
 use Rattle.integers.specs.Parts.{∣_∣}
 use Rattle.integers.specs.Range.{within}
-use Rattle.plan.specs.Lists.{nat, int, every}
+use Rattle.plan.specs.Lists.{natAt, intAt, every}
 use Rattle.plan.specs.Format.{M, sections, entrySizes, leastCounts, largestCounts, headerLength, offsetIn, lengthIn, startIn, countIn}
 use Rattle.plan.specs.declared.Plan.{Plan}
 
@@ -23,11 +23,11 @@ offsetsKept file = every (λ k. eqb (offsetIn file k) (startIn file k)) sections
 
 -- a count is inside its section's limits
 unfoldable pub countKept : ℕ → ℕ → Bool
-countKept k count = leb (nat leastCounts k) count && leb count (nat largestCounts k)
+countKept k count = leb (natAt leastCounts k) count && leb count (natAt largestCounts k)
 
 -- a section is a whole number of entries, and their count is inside its limits
 unfoldable pub sizesKept : List ℕ → Bool
-sizesKept file = every (λ k. eqb (lengthIn file k % nat entrySizes k) 0 && countKept k (countIn file k)) sections
+sizesKept file = every (λ k. eqb (lengthIn file k % natAt entrySizes k) 0 && countKept k (countIn file k)) sections
 
 -- ---- the plan
 -- "horizon (a tick, 1 to 2,000,000,000)"
@@ -62,7 +62,7 @@ ascends a b c d = ltb a c || (eqb a c && ltb b d)
 
 -- "Strictly ascending by" xs, "then" ys: entry e stands above its predecessor, if it has one
 abbrev pub follows : List ℕ → List ℕ → ℕ → Bool
-follows xs ys e = eqb e 0 || ascends (nat xs (e - 1)) (nat ys (e - 1)) (nat xs e) (nat ys e)
+follows xs ys e = eqb e 0 || ascends (natAt xs (e - 1)) (natAt ys (e - 1)) (natAt xs e) (natAt ys e)
 
 module _ (p : Plan) where
   -- the counts in the order of the sections
@@ -70,30 +70,30 @@ module _ (p : Plan) where
   counts = p .counts .n ∷ p .counts .m ∷ p .counts .k ∷ p .counts .links ∷ p .counts .commands ∷ []
 
   unfoldable pub countsKept : Bool
-  countsKept = every (λ k. countKept k (nat counts k)) sections
+  countsKept = every (λ k. countKept k (natAt counts k)) sections
 
   unfoldable pub integratorKept : ℕ → Bool
-  integratorKept i = integratorTest (int (p .integrators .starts) i) (int (p .integrators .quanta) i)
+  integratorKept i = integratorTest (intAt (p .integrators .starts) i) (intAt (p .integrators .quanta) i)
 
   -- "signed first value within ±M"
   unfoldable pub inputKept : ℕ → Bool
-  inputKept j = within M (int (p .inputs .firsts) j)
+  inputKept j = within M (intAt (p .inputs .firsts) j)
 
   unfoldable pub nodeKept : ℕ → Bool
   nodeKept j =
-      kindKept (p .counts .n + p .counts .m + j) (nat (p .nodes .kinds) j) (nat (p .nodes .a) j) (nat (p .nodes .b) j) (int (p .nodes .lows) j) (int (p .nodes .highs) j)
+      kindKept (p .counts .n + p .counts .m + j) (natAt (p .nodes .kinds) j) (natAt (p .nodes .a) j) (natAt (p .nodes .b) j) (intAt (p .nodes .lows) j) (intAt (p .nodes .highs) j)
 
   -- "Links may name any source."
   unfoldable pub linkLimits : ℕ → Bool
   linkLimits e =
-      linkTest (p .counts .n) (p .counts .n + p .counts .m + p .counts .k) (nat (p .links .targets) e) (nat (p .links .sources) e) (int (p .links .coefficients) e)
+      linkTest (p .counts .n) (p .counts .n + p .counts .m + p .counts .k) (natAt (p .links .targets) e) (natAt (p .links .sources) e) (intAt (p .links .coefficients) e)
 
   -- "Strictly ascending by target, then source."
   unfoldable pub linkOrdered : ℕ → Bool
   linkOrdered e = follows (p .links .targets) (p .links .sources) e
 
   unfoldable pub commandLimits : ℕ → Bool
-  commandLimits e = commandTest (p .horizon) (p .counts .m) (nat (p .commands .ticks) e) (nat (p .commands .inputs) e) (int (p .commands .values) e)
+  commandLimits e = commandTest (p .horizon) (p .counts .m) (natAt (p .commands .ticks) e) (natAt (p .commands .inputs) e) (intAt (p .commands .values) e)
 
   -- "Strictly ascending by tick, then input."
   unfoldable pub commandOrdered : ℕ → Bool

@@ -7,15 +7,15 @@ use lib.IntN.{ℤ, pos}
 use lib.Dec.{eqb}
 use lib.ListN.{drop}
 use Rattle.integers.specs.Parts.{∣_∣}
-use Rattle.plan.specs.Lists.{nat, int, all}
+use Rattle.plan.specs.Lists.{natAt, intAt, all}
 use Rattle.plan.specs.declared.Plan.{Plan}
 
 -- the entries of an array from k on are 0
 abbrev pub UnusedNat : ℕ → List ℕ → Type 0
-UnusedNat k xs = (i : ℕ) → k ≤ i → nat xs i ≡ 0
+UnusedNat k xs = (i : ℕ) → k ≤ i → natAt xs i ≡ 0
 
 abbrev pub UnusedInt : ℕ → List ℤ → Type 0
-UnusedInt k xs = (i : ℕ) → k ≤ i → int xs i ≡ pos 0
+UnusedInt k xs = (i : ℕ) → k ≤ i → intAt xs i ≡ pos 0
 
 -- those of a plan
 pub record PlanUnused (p : Plan) : Type 0 where

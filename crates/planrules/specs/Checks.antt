@@ -5,7 +5,7 @@ use mathlib.Core.List.{List}
 use Prim.Native.Nat.{ℕ, _+_}
 use lib.IntN.{ℤ}
 use Rattle.integers.specs.Range.{within}
-use Rattle.plan.specs.Lists.{nat, int}
+use Rattle.plan.specs.Lists.{natAt, intAt}
 use Rattle.plan.specs.Format.{M}
 use Rattle.plan.specs.Tests.{integratorTest, kindKept, linkTest, commandTest, follows}
 use Rattle.plan.specs.Refusals.{unless, firstFinding}
@@ -17,13 +17,13 @@ abbrev pub checked : (ℕ → Bool) → (ℕ → Finding) → ℕ → Finding
 checked test fault n = firstFinding (λ e. unless (test e) (fault e)) 0 n
 
 abbrev pub integratorAt : List ℤ → List ℤ → ℕ → Bool
-integratorAt starts quanta e = integratorTest (int starts e) (int quanta e)
+integratorAt starts quanta e = integratorTest (intAt starts e) (intAt quanta e)
 
 abbrev pub integratorsCheck : ℕ → List ℤ → List ℤ → Finding
 integratorsCheck n starts quanta = checked (integratorAt starts quanta) Integrator n
 
 abbrev pub inputAt : List ℤ → ℕ → Bool
-inputAt firsts e = within M (int firsts e)
+inputAt firsts e = within M (intAt firsts e)
 
 abbrev pub inputsCheck : ℕ → List ℤ → Finding
 inputsCheck m firsts = checked (inputAt firsts) Input m
@@ -31,14 +31,14 @@ inputsCheck m firsts = checked (inputAt firsts) Input m
 -- `base` is n + m, the source number of node 0
 abbrev pub nodeAt : ℕ → List ℕ → List ℕ → List ℕ → List ℤ → List ℤ → ℕ → Bool
 nodeAt base kinds a b lows highs e =
-    kindKept (base + e) (nat kinds e) (nat a e) (nat b e) (int lows e) (int highs e)
+    kindKept (base + e) (natAt kinds e) (natAt a e) (natAt b e) (intAt lows e) (intAt highs e)
 
 abbrev pub nodesCheck : ℕ → ℕ → List ℕ → List ℕ → List ℕ → List ℤ → List ℤ → Finding
 nodesCheck base k kinds a b lows highs = checked (nodeAt base kinds a b lows highs) Node k
 
 -- `all` is n + m + k, the number of sources
 abbrev pub linkLimitsAt : ℕ → ℕ → List ℕ → List ℕ → List ℤ → ℕ → Bool
-linkLimitsAt n all targets sources coefficients e = linkTest n all (nat targets e) (nat sources e) (int coefficients e)
+linkLimitsAt n all targets sources coefficients e = linkTest n all (natAt targets e) (natAt sources e) (intAt coefficients e)
 
 abbrev pub linkAt : ℕ → ℕ → List ℕ → List ℕ → List ℤ → ℕ → Bool
 linkAt n all targets sources coefficients e = linkLimitsAt n all targets sources coefficients e && follows targets sources e
@@ -47,7 +47,7 @@ abbrev pub linksCheck : ℕ → ℕ → ℕ → List ℕ → List ℕ → List �
 linksCheck n all links targets sources coefficients = checked (linkAt n all targets sources coefficients) Link links
 
 abbrev pub commandLimitsAt : ℕ → ℕ → List ℕ → List ℕ → List ℤ → ℕ → Bool
-commandLimitsAt horizon m ticks inputs values e = commandTest horizon m (nat ticks e) (nat inputs e) (int values e)
+commandLimitsAt horizon m ticks inputs values e = commandTest horizon m (natAt ticks e) (natAt inputs e) (intAt values e)
 
 abbrev pub commandAt : ℕ → ℕ → List ℕ → List ℕ → List ℤ → ℕ → Bool
 commandAt horizon m ticks inputs values e = commandLimitsAt horizon m ticks inputs values e && follows ticks inputs e

@@ -4,7 +4,7 @@ use mathlib.Core.List.{List}
 use Prim.Native.Nat.{ℕ, zero, suc, _+_, _*_, _≤_, _<_}
 use native.Mathlib.Numerals.{add-one}
 use native.Mathlib.Omega.{arith}
-use Rattle.plan.specs.Lists.{nat}
+use Rattle.plan.specs.Lists.{natAt}
 use Rattle.plan.specs.Format.{sections, largestCounts, headerLength}
 use Rattle.plan.specs.Tests.{counts}
 use Rattle.plan.specs.Rules.{CountsRule}
@@ -14,7 +14,7 @@ use Rattle.plan.specs.Encoding.{lengthFrom, offsetFrom}
 
 -- no count is above its section's limit
 abbrev pub Limited : List ℕ → Type 0
-Limited counts = (k : ℕ) → k < sections → nat counts k ≤ nat largestCounts k
+Limited counts = (k : ℕ) → k < sections → natAt counts k ≤ natAt largestCounts k
 
 module _ (cs : List ℕ) where
   -- the first offset, and each next one in the code's form

@@ -9,7 +9,7 @@ use borrow.Author.Tests.{le-leb, lt-leb}
 use Rattle.integers.specs.Parts.{zs}
 use Rattle.words.specs.Word.{written}
 use Rattle.words.specs.Flat.{length-flat}
-use Rattle.plan.specs.Lists.{nat, int, joined}
+use Rattle.plan.specs.Lists.{natAt, intAt, joined}
 use Rattle.plan.specs.Format.{M, sections, headerLength}
 use Rattle.plan.specs.Tests.{counts}
 use Rattle.plan.specs.Rules.{Within, PlanRules}
@@ -42,13 +42,13 @@ pub record Fitting (p : Plan) : Type 0 where
   pub values : Signed32 (p .counts .commands) (p .commands .values)
 
 -- a number within ±M does
-within-fits : {count : ℕ} {zs : List ℤ} → ((i : ℕ) → i < count → Within M (int zs i)) → Signed32 count zs
-within-fits {zs = xs} h = record { small = λ i l. signed-size (int xs i) (h i l) }
+within-fits : {count : ℕ} {zs : List ℤ} → ((i : ℕ) → i < count → Within M (intAt zs i)) → Signed32 count zs
+within-fits {zs = xs} h = record { small = λ i l. signed-size (intAt xs i) (h i l) }
 
 module _ (p : Plan) (r : PlanRules p) where
   -- word c of each entry of section k does
-  column-fits : (k c : ℕ) (xs : List ℕ) → k < sections → ((i : ℕ) → getD (entryWords p k i) c 0 ≡ nat xs i)
-      → Unsigned32 (nat (counts p) k) xs
+  column-fits : (k c : ℕ) (xs : List ℕ) → k < sections → ((i : ℕ) → getD (entryWords p k i) c 0 ≡ natAt xs i)
+      → Unsigned32 (natAt (counts p) k) xs
   column-fits k c xs h e = record { small = λ i l. rw (e i) at (small-at (entryWords p k i) (entry-small p r k i h l) c) }
 
   pub fitting : Fitting p

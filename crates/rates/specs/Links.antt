@@ -6,12 +6,12 @@ use lib.Dec.{leb}
 use Rattle.integers.specs.Parts.{∣_∣}
 use Rattle.integers.specs.Division.{floored}
 use Rattle.plan.specs.Format.{M}
-use Rattle.plan.specs.Lists.{nat, int, row, firstFrom}
+use Rattle.plan.specs.Lists.{natAt, intAt, row, firstFrom}
 use Rattle.plan.specs.declared.Plan.{Plan}
 
 -- the first link whose target is i or above, or the number of links
 unfoldable pub firstLink : List ℕ → ℕ → ℕ → ℕ
-firstLink targets links i = firstFrom (λ e. leb i (nat targets e)) 0 links
+firstLink targets links i = firstFrom (λ e. leb i (natAt targets e)) 0 links
 
 -- the table of a plan: integrator i's links are those from entry i to before entry i + 1
 unfoldable pub rangesOf : Plan → List ℕ
@@ -19,7 +19,7 @@ rangesOf p = row 0 33 (p .counts .n + 1) (firstLink (p .links .targets) (p .coun
 
 -- coefficient × source value of link e, where `values` holds the value of each source
 abbrev pub term : List ℕ → List ℤ → List ℤ → ℕ → ℤ
-term sources coefficients values e = int coefficients e *ℤ int values (nat sources e)
+term sources coefficients values e = intAt coefficients e *ℤ intAt values (natAt sources e)
 
 -- f a, .., f (a + d - 1), added up
 unfoldable pub sumFrom : (ℕ → ℤ) → ℕ → ℕ → ℤ
@@ -34,10 +34,10 @@ rangeRate sources coefficients values from to = floored (sumFrom (term sources c
 pub record Rated (sources : List ℕ) (coefficients values : List ℤ) (from to : ℕ) : Type 0 where
   pub order : from ≤ to
   pub few : to ≤ 256
-  pub known : (e : ℕ) → e < to → nat sources e < 64
-  pub small : (e : ℕ) → e < to → ∣ int coefficients e ∣ ≤ 16777216
-  pub sized : (i : ℕ) → ∣ int values i ∣ ≤ M
+  pub known : (e : ℕ) → e < to → natAt sources e < 64
+  pub small : (e : ℕ) → e < to → ∣ intAt coefficients e ∣ ≤ 16777216
+  pub sized : (i : ℕ) → ∣ intAt values i ∣ ≤ M
 
 -- of the first n integrators, by the table of ranges
 abbrev pub AllRated : ℕ → List ℕ → List ℕ → List ℤ → List ℤ → Type 0
-AllRated n ranges sources coefficients values = (i : ℕ) → i < n → Rated sources coefficients values (nat ranges i) (nat ranges (i + 1))
+AllRated n ranges sources coefficients values = (i : ℕ) → i < n → Rated sources coefficients values (natAt ranges i) (natAt ranges (i + 1))

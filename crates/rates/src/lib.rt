@@ -4,7 +4,7 @@ ghost use mathlib.Core.Path.{_≡_};
 ghost use Prim.Native.Nat.{_+_, _-_, _≤_, _<_};
 ghost use lib.IntN.{pos};
 ghost use lib.Dec.{leb};
-ghost use Rattle.plan.specs.Lists.{nat, row, firstFrom};
+ghost use Rattle.plan.specs.Lists.{natAt, row, firstFrom};
 ghost use Rattle.rates.specs.Links.{firstLink, rangeRate, Rated, AllRated};
 use integers::floor_65536;
 use plan::INTEGRATORS;
@@ -17,7 +17,7 @@ pub const RANGES: usize = INTEGRATORS + 1;
 // From link `from` on the first whose target is i or above, or the number of links.
 fn first_link_from(targets: &[usize; LINKS], i: usize, from: usize, links: usize) -> usize
     requires { ⌜ (from ≤ links) × (links ≤ 256) ⌝ }
-    ensures { λ r. ⌜ r ≡ firstFrom (λ e. leb i (nat (now (targets .entry)) e)) from (links - from) ⌝ }
+    ensures { λ r. ⌜ r ≡ firstFrom (λ e. leb i (natAt (now (targets .entry)) e)) from (links - from) ⌝ }
 {
     let mut e = from;
     while e < links && targets[e] < i {
@@ -72,7 +72,7 @@ pub fn rates<'a>(
 ) -> [i64; INTEGRATORS]
     requires { ⌜ (n ≤ 32) × AllRated n (now ranges) (now sources) (now coefficients) (now values) ⌝ }
     ensures { λ r. ⌜ r ≡ row (pos 0) 32 n (λ i. rangeRate (now (sources .entry)) (now (coefficients .entry)) (now (values .entry))
-        (nat (now (ranges .entry)) i) (nat (now (ranges .entry)) (i + 1))) ⌝ }
+        (natAt (now (ranges .entry)) i) (natAt (now (ranges .entry)) (i + 1))) ⌝ }
 {
     let mut slopes: [i64; INTEGRATORS] = [0; INTEGRATORS];
     let mut i: usize = 0;

@@ -5,17 +5,17 @@ use Prim.Native.Nat.{ℕ, zero, suc, _+_, _≤_, _<_}
 use lib.Dec.{eqb}
 use lib.ListN.{set, replicate}
 use Rattle.bitset.specs.Mask.{has, each, union, withBit}
-use Rattle.plan.specs.Lists.{nat}
+use Rattle.plan.specs.Lists.{natAt}
 use Rattle.plan.specs.declared.Plan.{Plan}
 
 -- bit (bit e) set in entry (place e), for each e below the end
 unfoldable pub marked : (ℕ → ℕ) → (ℕ → ℕ) → List ℕ → ℕ → List ℕ
 marked place bit table zero = table
-marked place bit table (suc e) = set (marked place bit table e) (place e) (withBit (nat (marked place bit table e) (place e)) (bit e))
+marked place bit table (suc e) = set (marked place bit table e) (place e) (withBit (natAt (marked place bit table e) (place e)) (bit e))
 
 -- each link's target in the entry of its source
 abbrev pub linked : List ℕ → List ℕ → ℕ → List ℕ
-linked targets sources links = marked (nat sources) (nat targets) (replicate 64 0) links
+linked targets sources links = marked (natAt sources) (natAt targets) (replicate 64 0) links
 
 -- each node in its own entry
 abbrev pub ownNodes : ℕ → List ℕ → ℕ → List ℕ
@@ -23,14 +23,14 @@ ownNodes base table k = marked (λ j. base + j) (λ j. 32 + j) table k
 
 -- the bits of an entry added to a source's
 abbrev pub added : List ℕ → ℕ → ℕ → List ℕ
-added table source entry = set table source (union (nat table source) entry)
+added table source entry = set table source (union (natAt table source) entry)
 
 module _ (kinds a b : List ℕ) (base : ℕ) where
   -- node j's entry added to those of the operands that it uses
   unfoldable pub handedDown : ℕ → List ℕ → List ℕ
   handedDown j table =
-      let entry = nat table (base + j) in let left = added table (nat a j) entry in
-      cond (eqb (nat kinds j) 2) left (added left (nat b j) entry)
+      let entry = natAt table (base + j) in let left = added table (natAt a j) entry in
+      cond (eqb (natAt kinds j) 2) left (added left (natAt b j) entry)
 
   -- "dependence is followed down through lower-numbered nodes": from node j - 1 down to node 0
   unfoldable pub followedDown : ℕ → List ℕ → List ℕ
@@ -46,15 +46,15 @@ reachTable p = tableFrom (p .counts .n + p .counts .m) (p .counts .k) (p .counts
 
 -- the entries of the sources in a mask, joined
 unfoldable pub entriesOf : List ℕ → ℕ → ℕ
-entriesOf table changed = each (λ i entries. union entries (nat table i)) (has changed) 64 0
+entriesOf table changed = each (λ i entries. union entries (natAt table i)) (has changed) 64 0
 
 -- what the links ask, and what the nodes ask: operands are sources of a lower number
 pub record Linked (targets sources : List ℕ) (links : ℕ) : Type 0 where
   pub few : links ≤ 256
-  pub target : (e : ℕ) → e < links → nat targets e < 32
-  pub source : (e : ℕ) → e < links → nat sources e < 64
+  pub target : (e : ℕ) → e < links → natAt targets e < 32
+  pub source : (e : ℕ) → e < links → natAt sources e < 64
 
 pub record Wired (a b : List ℕ) (base k : ℕ) : Type 0 where
   pub room : base + k ≤ 64
-  pub left : (j : ℕ) → j < k → nat a j < base + j
-  pub right : (j : ℕ) → j < k → nat b j < base + j
+  pub left : (j : ℕ) → j < k → natAt a j < base + j
+  pub right : (j : ℕ) → j < k → natAt b j < base + j

@@ -12,16 +12,16 @@ use Rattle.integers.specs.Signed64.{rd}
 use Rattle.words.specs.Word.{written}
 use Rattle.words.specs.Flat.{written-none, written-part, length-written}
 use Rattle.words.specs.Putting.{rd32, behind, back}
-use Rattle.plan.specs.Lists.{int, joined}
+use Rattle.plan.specs.Lists.{intAt, joined}
 use Rattle.plan.specs.Laws.Joined.{length-joined}
 use Rattle.sectionwriters.specs.Entries.{Signed32}
 
 -- ---- what the code reads of an array of such numbers
 module _ {count : ℕ} {zs : List ℤ} (s : Signed32 count zs) (i : ℕ) (h : i < count) where
-  pub rd-at : rd (int zs i) ≡ int zs i
-  rd-at = rd32 (int zs i) (s .small i h)
+  pub rd-at : rd (intAt zs i) ≡ intAt zs i
+  rd-at = rd32 (intAt zs i) (s .small i h)
 
-  pub rd-small : mag (rd (int zs i)) < 2 ^ 31
+  pub rd-small : mag (rd (intAt zs i)) < 2 ^ 31
   rd-small = rw rd-at (s .small i h)
 
 -- ---- lists of words one behind the other

@@ -9,7 +9,7 @@ use lib.IntN.{ℤ, pos, _+ℤ_, _*ℤ_}
 use lib.Dec.{leb, ltb}
 use lib.ListN.{length}
 use borrow.Author.Tests.{le-leb, lt-leb, lt-ltb, le-ltb}
-use Rattle.plan.specs.Lists.{nat, int}
+use Rattle.plan.specs.Lists.{natAt, intAt}
 use Rattle.plan.specs.Format.{planIn}
 use Rattle.plan.specs.Rules.{CountsRule}
 use Rattle.plan.specs.Refusals.{numberOf, entryOf, isClean, findingOf, accepted}
@@ -129,11 +129,11 @@ module _ (st : State) (i : ℕ) where
     position-above h = rw (yes, le-ltb i (st .plan .counts .n) h)
 
     module _ (known : i < st .plan .counts .n) where
-      pub position-ready : PositionReady (int (st .run .x) i) (int (st .run .s) i) (nat (st .run .l) i) (st .run .clocks .clock)
+      pub position-ready : PositionReady (intAt (st .run .x) i) (intAt (st .run .s) i) (natAt (st .run .l) i) (st .run .clocks .clock)
       position-ready =
           let sound = sound-means st .0 yes in
           ready-at (st .plan) (st .run) sound (st .run .clocks .clock) (omega arith) i known (omega (arith, sound .integrators i known .ahead))
 
-      pub position-known : PositionedAs 0 (int (st .run .x) i +ℤ int (st .run .s) i *ℤ pos (st .run .clocks .clock - nat (st .run .l) i))
+      pub position-known : PositionedAs 0 (intAt (st .run .x) i +ℤ intAt (st .run .s) i *ℤ pos (st .run .clocks .clock - natAt (st .run .l) i))
       unfolding positionedOf positionNumber positionOf positionAt
       position-known = rw (yes, lt-ltb i (st .plan .counts .n) known)

@@ -4,7 +4,7 @@ ghost use Prim.Native.Nat.{_≤_};
 ghost use lib.ListN.{length};
 ghost use Rattle.integers.specs.Range.{within};
 ghost use Rattle.plan.specs.Format.{M};
-ghost use Rattle.plan.specs.Lists.{int, every};
+ghost use Rattle.plan.specs.Lists.{intAt, every};
 ghost use Rattle.plan.specs.Rules.{PlanRules};
 ghost use Rattle.machine.specs.SoundTest.{runningSound};
 use dynamics::next_command;
@@ -20,7 +20,7 @@ use values::source_values;
 // "|q| ≤ M", and "inputs are within ±M".
 fn values_kept(values: &[i64], count: usize) -> bool
     requires { ⌜ count ≤ length (now values) ⌝ }
-    ensures { λ r. ⌜ r ≡ every (λ i. within M (int (now (values .entry)) i)) count ⌝ }
+    ensures { λ r. ⌜ r ≡ every (λ i. within M (intAt (now (values .entry)) i)) count ⌝ }
 {
     let mut i: usize = 0;
     while i < count {

@@ -3,7 +3,7 @@ ghost use mathlib.Core.Path.{_≡_};
 ghost use Prim.Native.Nat.{_≤_};
 ghost use lib.IntN.{_+ℤ_, _-ℤ_};
 ghost use Rattle.plan.specs.Rules.{PlanRules};
-ghost use Rattle.plan.specs.Lists.{int, row};
+ghost use Rattle.plan.specs.Lists.{intAt, row};
 ghost use Rattle.machine.specs.Due.{dueTick};
 ghost use Rattle.machine.specs.Start.{startOf};
 ghost use Rattle.starts.specs.Starting.{StartsReady};
@@ -25,9 +25,9 @@ fn first_dues<'a>(
     slopes: &'a [i64; INTEGRATORS],
 ) -> [u32; INTEGRATORS]
     requires { ⌜ (n ≤ 32) × StartsReady n (now starts) (now quanta) (now slopes) ⌝ }
-    ensures { λ r. ⌜ r ≡ row 0 32 n (λ i. dueTick 0 (int (now (starts .entry)) i)
-        (int (now (starts .entry)) i +ℤ int (now (quanta .entry)) i) (int (now (starts .entry)) i -ℤ int (now (quanta .entry)) i)
-        (int (now (slopes .entry)) i)) ⌝ }
+    ensures { λ r. ⌜ r ≡ row 0 32 n (λ i. dueTick 0 (intAt (now (starts .entry)) i)
+        (intAt (now (starts .entry)) i +ℤ intAt (now (quanta .entry)) i) (intAt (now (starts .entry)) i -ℤ intAt (now (quanta .entry)) i)
+        (intAt (now (slopes .entry)) i)) ⌝ }
 {
     let mut dues: [u32; INTEGRATORS] = [0; INTEGRATORS];
     let mut i: usize = 0;

@@ -6,7 +6,7 @@ use lib.IntN.{ℤ}
 use lib.Dec.{eqb}
 use lib.ListN.{set}
 use Rattle.bitset.specs.Mask.{withBit}
-use Rattle.plan.specs.Lists.{nat, int}
+use Rattle.plan.specs.Lists.{natAt, intAt}
 
 -- the input values, the values of sources, the mask of the commanded inputs, and the next command
 pub record Obeying : Type 0 where
@@ -22,16 +22,16 @@ module _ (t n : ℕ) (ticks numbers : List ℕ) (settings : List ℤ) where
   -- command e sets its input
   unfoldable pub obeyOne : ℕ → Obeying → Obeying
   obeyOne e o =
-      let j = nat numbers e in let value = int settings e in
+      let j = natAt numbers e in let value = intAt settings e in
       obeying (set (o .inputs) j value) (set (o .values) (n + j) value) (withBit (o .commanded) j) (e + 1)
 
   -- from command e on, of `left` commands, those of tick t that stand together
   unfoldable pub obeyFrom : ℕ → ℕ → Obeying → Obeying
   obeyFrom e zero o = o
-  obeyFrom e (suc left) o = cond (eqb (nat ticks e) t) (obeyFrom (e + 1) left (obeyOne e o)) o
+  obeyFrom e (suc left) o = cond (eqb (natAt ticks e) t) (obeyFrom (e + 1) left (obeyOne e o)) o
 
 pub record CommandsReady (next commands n : ℕ) (numbers : List ℕ) : Type 0 where
   pub order : next ≤ commands
   pub few : commands ≤ 64
   pub room : n ≤ 32
-  pub known : (e : ℕ) → e < commands → nat numbers e < 8
+  pub known : (e : ℕ) → e < commands → natAt numbers e < 8

@@ -8,12 +8,12 @@ use lib.ListN.{length, take, drop}
 use Rattle.integers.specs.Parts.{∣_∣}
 use Rattle.bitset.specs.Mask.{has}
 use Rattle.plan.specs.Format.{M}
-use Rattle.plan.specs.Lists.{int, joined}
+use Rattle.plan.specs.Lists.{intAt, joined}
 use Rattle.machine.specs.Instant.{eventBytes}
 
 -- one for each source in the mask, by ascending source number
 unfoldable pub eventsIn : ℕ → ℕ → List ℤ → List ℕ
-eventsIn changed t values = joined (λ i. cond (has changed i) (eventBytes t i (int values i)) []) 64
+eventsIn changed t values = joined (λ i. cond (has changed i) (eventBytes t i (intAt values i)) []) 64
 
 -- bytes in the place of those from byte `at` on
 unfoldable pub putAt : List ℕ → ℕ → List ℕ → List ℕ
@@ -21,4 +21,4 @@ putAt buffer at bytes = take at buffer ++ (bytes ++ drop (at + length bytes) buf
 
 pub record EventsReady (changed t : ℕ) (values : List ℤ) (at size : ℕ) : Type 0 where
   pub room : at + length (eventsIn changed t values) ≤ size
-  pub sized : (i : ℕ) → has changed i ≡ true → ∣ int values i ∣ ≤ M
+  pub sized : (i : ℕ) → has changed i ≡ true → ∣ intAt values i ∣ ≤ M

@@ -3,7 +3,7 @@ use mathlib.Core.List.{List}
 use Prim.Native.Nat.{ℕ, _-_}
 use lib.IntN.{ℤ, pos, _+ℤ_, _*ℤ_}
 use lib.ListN.{set}
-use Rattle.plan.specs.Lists.{nat, int}
+use Rattle.plan.specs.Lists.{natAt, intAt}
 
 -- the outputs, and the values of sources
 pub record Outputting : Type 0 where
@@ -16,5 +16,5 @@ outputting q values = record { q = q; values = values }
 -- integrator i takes its position at t
 unfoldable pub outputOne : ℕ → List ℤ → List ℤ → List ℕ → ℕ → Outputting → Outputting
 outputOne t x s l i o =
-    let value = int x i +ℤ int s i *ℤ pos (t - nat l i) in
+    let value = intAt x i +ℤ intAt s i *ℤ pos (t - natAt l i) in
     outputting (set (o .q) i value) (set (o .values) i value)

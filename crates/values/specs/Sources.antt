@@ -7,7 +7,7 @@ use lib.Dec.{ltb}
 use lib.ListN.{set}
 use Rattle.integers.specs.Parts.{∣_∣}
 use Rattle.plan.specs.Format.{M}
-use Rattle.plan.specs.Lists.{nat, int, row}
+use Rattle.plan.specs.Lists.{natAt, intAt, row}
 use Rattle.plan.specs.declared.Plan.{Plan}
 use Rattle.machine.specs.Values.{nodeOf, valueOf}
 
@@ -17,12 +17,12 @@ valuesOf p q u = row (pos 0) 64 (p .counts .n + p .counts .m + p .counts .k) (va
 
 -- integrators and inputs alone
 unfoldable pub firstValues : ℕ → ℕ → List ℤ → List ℤ → List ℤ
-firstValues n m q u = row (pos 0) 64 (n + m) (λ i. cond (ltb i n) (int q i) (int u (i - n)))
+firstValues n m q u = row (pos 0) 64 (n + m) (λ i. cond (ltb i n) (intAt q i) (intAt u (i - n)))
 
 module _ (kinds a b : List ℕ) (lows highs : List ℤ) (base : ℕ) where
   -- the value of node j by the values of its operands
   unfoldable pub nodeFrom : ℕ → List ℤ → ℤ
-  nodeFrom j values = nodeOf (nat kinds j) (int lows j) (int highs j) (int values (nat a j)) (int values (nat b j))
+  nodeFrom j values = nodeOf (natAt kinds j) (intAt lows j) (intAt highs j) (intAt values (natAt a j)) (intAt values (natAt b j))
 
   -- node j worked out
   unfoldable pub nodeStep : ℕ → List ℤ → List ℤ
@@ -32,8 +32,8 @@ module _ (kinds a b : List ℕ) (lows highs : List ℤ) (base : ℕ) where
 pub record NodesReady (a b : List ℕ) (lows highs values : List ℤ) (base k : ℕ) : Type 0 where
   pub few : k ≤ 16
   pub room : base + k ≤ 64
-  pub left : (j : ℕ) → j < k → nat a j < 64
-  pub right : (j : ℕ) → j < k → nat b j < 64
-  pub low : (j : ℕ) → j < k → ∣ int lows j ∣ ≤ M
-  pub high : (j : ℕ) → j < k → ∣ int highs j ∣ ≤ M
-  pub sized : (i : ℕ) → ∣ int values i ∣ ≤ M
+  pub left : (j : ℕ) → j < k → natAt a j < 64
+  pub right : (j : ℕ) → j < k → natAt b j < 64
+  pub low : (j : ℕ) → j < k → ∣ intAt lows j ∣ ≤ M
+  pub high : (j : ℕ) → j < k → ∣ intAt highs j ∣ ≤ M
+  pub sized : (i : ℕ) → ∣ intAt values i ∣ ≤ M

@@ -6,7 +6,7 @@ use Prim.Native.Nat.{ℕ, _+_, _-_, _*_, _≤_, _<_}
 use lib.IntN.{pos, _+ℤ_, _*ℤ_}
 use lib.ListN.{length, drop}
 use Rattle.words.specs.Word.{Bytes}
-use Rattle.plan.specs.Lists.{nat, int}
+use Rattle.plan.specs.Lists.{natAt, intAt}
 use Rattle.plan.specs.Encoding.{encode}
 use Rattle.machine.specs.Status.{statusOf, integratorOf}
 use Rattle.machine.specs.Runs.{after, events}
@@ -47,7 +47,7 @@ pub record AcceptedPromise (st : State) (buffer : List ℕ) : Type 0 where
       ≡ events (st .plan) engine budget (st .run) ++ drop (length (events (st .plan) engine budget (st .run))) buffer)
   -- "Position call: x+s×(c−l) for a numbered integrator"
   pub position : (i : ℕ) → positionedOf st i .number ≡ 0
-      → (positionedOf st i .value ≡ int (st .run .x) i +ℤ int (st .run .s) i *ℤ pos (st .run .clocks .clock - nat (st .run .l) i))
+      → (positionedOf st i .value ≡ intAt (st .run .x) i +ℤ intAt (st .run .s) i *ℤ pos (st .run .clocks .clock - natAt (st .run .l) i))
       × (positionedOf st i .state ≡ st)
 
 abbrev pub Accepted : Type 0

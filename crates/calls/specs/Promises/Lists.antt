@@ -7,7 +7,7 @@ use Prim.Native.Nat.{ℕ, _+_, _-_, _*_, _≤_, _<_}
 use lib.IntN.{pos}
 use lib.ListN.{length, drop}
 use Rattle.bitset.specs.Mask.{countOf}
-use Rattle.plan.specs.Lists.{int}
+use Rattle.plan.specs.Lists.{intAt}
 use Rattle.plan.specs.Format.{planIn}
 use Rattle.plan.specs.declared.Plan.{Plan}
 use Rattle.machine.specs.Next.{nextTick}
@@ -51,7 +51,7 @@ pub record SameAsPlain (p : Plan) (st : State) (m : Plain) : Type 0 where
   -- "that takes in status and its integrator by the rule above, the position call for every integrator"
   pub status : statusOf p (st .run) ≡ plainStatus p m
   pub integrator : integratorOf p (st .run) ≡ plainIntegrator p m
-  pub position : (i : ℕ) → i < p .counts .n → positionedOf st i ≡ record { number = 0; value = int (m .x) i; state = st }
+  pub position : (i : ℕ) → i < p .counts .n → positionedOf st i ≡ record { number = 0; value = intAt (m .x) i; state = st }
   pub no-position : (i : ℕ) → p .counts .n ≤ i → positionedOf st i ≡ record { number = 14; value = pos 0; state = st }
 
 -- "any two lists with an equal sum end alike in all of these": the states in which two lists end, and the bytes that they joined, in everything

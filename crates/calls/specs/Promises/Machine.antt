@@ -13,7 +13,7 @@ use Rattle.integers.specs.Division.{floored, Ceil}
 use Rattle.integers.specs.Range.{limited}
 use Rattle.bitset.specs.Mask.{countOf}
 use Rattle.words.specs.Word.{word, signedWord}
-use Rattle.plan.specs.Lists.{nat, int}
+use Rattle.plan.specs.Lists.{natAt, intAt}
 use Rattle.plan.specs.Format.{M}
 use Rattle.plan.specs.Rules.{PlanRules}
 use Rattle.plan.specs.declared.Plan.{Plan}
@@ -32,27 +32,27 @@ use Rattle.machine.specs.declared.Engine.{Engine}
 
 -- "Integrators give q, inputs their value, nodes their value", and what each kind makes of the values of A and B
 pub record ValuePromise (p : Plan) (q u : List ℤ) : Type 0 where
-  pub integrators : (i : ℕ) → i < p .counts .n → valueOf p q u i ≡ int q i
-  pub inputs : (j : ℕ) → j < p .counts .m → valueOf p q u (p .counts .n + j) ≡ int u j
+  pub integrators : (i : ℕ) → i < p .counts .n → valueOf p q u i ≡ intAt q i
+  pub inputs : (j : ℕ) → j < p .counts .m → valueOf p q u (p .counts .n + j) ≡ intAt u j
   -- "0 is a−b; 1 is floor(a×b / 65,536); both then clipped to ±M"
-  pub differences : (j : ℕ) → j < p .counts .k → nat (p .nodes .kinds) j ≡ 0
-      → valueOf p q u (p .counts .n + p .counts .m + j) ≡ limited (negℤ (pos M)) (pos M) (valueOf p q u (nat (p .nodes .a) j) -ℤ valueOf p q u (nat (p .nodes .b) j))
-  pub products : (j : ℕ) → j < p .counts .k → nat (p .nodes .kinds) j ≡ 1
+  pub differences : (j : ℕ) → j < p .counts .k → natAt (p .nodes .kinds) j ≡ 0
+      → valueOf p q u (p .counts .n + p .counts .m + j) ≡ limited (negℤ (pos M)) (pos M) (valueOf p q u (natAt (p .nodes .a) j) -ℤ valueOf p q u (natAt (p .nodes .b) j))
+  pub products : (j : ℕ) → j < p .counts .k → natAt (p .nodes .kinds) j ≡ 1
       → valueOf p q u (p .counts .n + p .counts .m + j)
-      ≡ limited (negℤ (pos M)) (pos M) (floored (valueOf p q u (nat (p .nodes .a) j) *ℤ valueOf p q u (nat (p .nodes .b) j)))
+      ≡ limited (negℤ (pos M)) (pos M) (floored (valueOf p q u (natAt (p .nodes .a) j) *ℤ valueOf p q u (natAt (p .nodes .b) j)))
   -- "2 is a limited to lo..hi"
-  pub limited-values : (j : ℕ) → j < p .counts .k → nat (p .nodes .kinds) j ≡ 2
-      → valueOf p q u (p .counts .n + p .counts .m + j) ≡ limited (int (p .nodes .lows) j) (int (p .nodes .highs) j) (valueOf p q u (nat (p .nodes .a) j))
+  pub limited-values : (j : ℕ) → j < p .counts .k → natAt (p .nodes .kinds) j ≡ 2
+      → valueOf p q u (p .counts .n + p .counts .m + j) ≡ limited (intAt (p .nodes .lows) j) (intAt (p .nodes .highs) j) (valueOf p q u (natAt (p .nodes .a) j))
   -- "3 is hi if a ≥ b, else lo"
-  pub high : (j : ℕ) → j < p .counts .k → nat (p .nodes .kinds) j ≡ 3 → valueOf p q u (nat (p .nodes .b) j) ≤ℤ valueOf p q u (nat (p .nodes .a) j)
-      → valueOf p q u (p .counts .n + p .counts .m + j) ≡ int (p .nodes .highs) j
-  pub low : (j : ℕ) → j < p .counts .k → nat (p .nodes .kinds) j ≡ 3 → valueOf p q u (nat (p .nodes .a) j) <ℤ valueOf p q u (nat (p .nodes .b) j)
-      → valueOf p q u (p .counts .n + p .counts .m + j) ≡ int (p .nodes .lows) j
+  pub high : (j : ℕ) → j < p .counts .k → natAt (p .nodes .kinds) j ≡ 3 → valueOf p q u (natAt (p .nodes .b) j) ≤ℤ valueOf p q u (natAt (p .nodes .a) j)
+      → valueOf p q u (p .counts .n + p .counts .m + j) ≡ intAt (p .nodes .highs) j
+  pub low : (j : ℕ) → j < p .counts .k → natAt (p .nodes .kinds) j ≡ 3 → valueOf p q u (natAt (p .nodes .a) j) <ℤ valueOf p q u (natAt (p .nodes .b) j)
+      → valueOf p q u (p .counts .n + p .counts .m + j) ≡ intAt (p .nodes .lows) j
   -- "s = floor(sum of coefficient × source value over its links / 65,536)": the sum over the first e links, of which its own count
   pub no-link : (i : ℕ) → sumOver p q u i 0 ≡ pos 0
-  pub own-link : (i e : ℕ) → nat (p .links .targets) e ≡ i
-      → sumOver p q u i (e + 1) ≡ sumOver p q u i e +ℤ int (p .links .coefficients) e *ℤ valueOf p q u (nat (p .links .sources) e)
-  pub other-link : (i e : ℕ) → (nat (p .links .targets) e ≡ i → ⊥) → sumOver p q u i (e + 1) ≡ sumOver p q u i e
+  pub own-link : (i e : ℕ) → natAt (p .links .targets) e ≡ i
+      → sumOver p q u i (e + 1) ≡ sumOver p q u i e +ℤ intAt (p .links .coefficients) e *ℤ valueOf p q u (natAt (p .links .sources) e)
+  pub other-link : (i e : ℕ) → (natAt (p .links .targets) e ≡ i → ⊥) → sumOver p q u i (e + 1) ≡ sumOver p q u i e
   pub rate-below : (i : ℕ) → (pos 65536 *ℤ rateOf p q u i) ≤ℤ sumOver p q u i (p .counts .links)
   pub rate-above : (i : ℕ) → sumOver p q u i (p .counts .links) <ℤ (pos 65536 *ℤ (rateOf p q u i +ℤ pos 1))
 
@@ -63,7 +63,7 @@ ValuesMean = (p : Plan) (q u : List ℤ) → PlanRules p → ValuePromise p q u
 pub record DuePromise (p : Plan) (q : List ℤ) (i l : ℕ) (x s : ℤ) : Type 0 where
   pub still : s ≡ pos 0 → dueOf p q i l x s ≡ never
   pub moving : (s ≡ pos 0 → ⊥)
-      → LeastTicks x (int q i +ℤ int (p .integrators .quanta) i) (int q i -ℤ int (p .integrators .quanta) i) s (dueOf p q i l x s - l)
+      → LeastTicks x (intAt q i +ℤ intAt (p .integrators .quanta) i) (intAt q i -ℤ intAt (p .integrators .quanta) i) s (dueOf p q i l x s - l)
 
 abbrev pub DueLeast : Type 0
 DueLeast = (p : Plan) (q : List ℤ) (i l : ℕ) (x s : ℤ) → DuePromise p q i l x s
@@ -80,8 +80,8 @@ DueBetween = (x upper lower s : ℤ) → (s ≡ pos 0 → ⊥) → lower <ℤ x 
 
 -- "the next command is the first with tick above c, or the command count if none"
 pub record CommandPromise (p : Plan) (c next : ℕ) : Type 0 where
-  pub earlier : (e : ℕ) → e < next → nat (p .commands .ticks) e ≤ c
-  pub first : next < p .counts .commands → c < nat (p .commands .ticks) next
+  pub earlier : (e : ℕ) → e < next → natAt (p .commands .ticks) e ≤ c
+  pub first : next < p .counts .commands → c < natAt (p .commands .ticks) next
   pub most : next ≤ p .counts .commands
 
 abbrev pub CommandMeans : Type 0
@@ -89,12 +89,12 @@ CommandMeans = (p : Plan) (c : ℕ) → CommandPromise p c (nextCommand p c)
 
 -- "Start: x = q = start, l = c = 0, slopes and dues by rule, counts 0"
 pub record StartPromise (p : Plan) (r : Running) : Type 0 where
-  pub x : (i : ℕ) → i < p .counts .n → int (r .x) i ≡ int (p .integrators .starts) i
-  pub q : (i : ℕ) → i < p .counts .n → int (r .q) i ≡ int (p .integrators .starts) i
-  pub l : (i : ℕ) → i < p .counts .n → nat (r .l) i ≡ 0
-  pub s : (i : ℕ) → i < p .counts .n → int (r .s) i ≡ rateOf p (r .q) (r .inputs) i
-  pub d : (i : ℕ) → i < p .counts .n → nat (r .d) i ≡ dueOf p (r .q) i 0 (int (r .x) i) (int (r .s) i)
-  pub inputs : (j : ℕ) → j < p .counts .m → int (r .inputs) j ≡ int (p .inputs .firsts) j
+  pub x : (i : ℕ) → i < p .counts .n → intAt (r .x) i ≡ intAt (p .integrators .starts) i
+  pub q : (i : ℕ) → i < p .counts .n → intAt (r .q) i ≡ intAt (p .integrators .starts) i
+  pub l : (i : ℕ) → i < p .counts .n → natAt (r .l) i ≡ 0
+  pub s : (i : ℕ) → i < p .counts .n → intAt (r .s) i ≡ rateOf p (r .q) (r .inputs) i
+  pub d : (i : ℕ) → i < p .counts .n → natAt (r .d) i ≡ dueOf p (r .q) i 0 (intAt (r .x) i) (intAt (r .s) i)
+  pub inputs : (j : ℕ) → j < p .counts .m → intAt (r .inputs) j ≡ intAt (p .inputs .firsts) j
   pub clock : r .clocks .clock ≡ 0
   pub next : CommandPromise p 0 (r .clocks .next)
   pub instants : r .clocks .instants ≡ 0
@@ -105,10 +105,10 @@ StartMeans = (p : Plan) → PlanRules p → (startState p .plan ≡ p) × StartP
 
 -- "Next instant t: the least of all d and the next command's tick", and never where none of them is below
 pub record NextPromise (p : Plan) (d : List ℕ) (next t : ℕ) : Type 0 where
-  pub due : (i : ℕ) → i < p .counts .n → t ≤ nat d i
-  pub command : next < p .counts .commands → t ≤ nat (p .commands .ticks) next
-  pub one : t < never → ((i : ℕ) × (i < p .counts .n) × (nat d i ≡ t)) ⊎ ((next < p .counts .commands) × (nat (p .commands .ticks) next ≡ t))
-  pub no-instant : ((i : ℕ) → i < p .counts .n → never ≤ nat d i) → (next < p .counts .commands → never ≤ nat (p .commands .ticks) next) → t ≡ never
+  pub due : (i : ℕ) → i < p .counts .n → t ≤ natAt d i
+  pub command : next < p .counts .commands → t ≤ natAt (p .commands .ticks) next
+  pub one : t < never → ((i : ℕ) × (i < p .counts .n) × (natAt d i ≡ t)) ⊎ ((next < p .counts .commands) × (natAt (p .commands .ticks) next ≡ t))
+  pub no-instant : ((i : ℕ) → i < p .counts .n → never ≤ natAt d i) → (next < p .counts .commands → never ≤ natAt (p .commands .ticks) next) → t ≡ never
 
 abbrev pub NextMeans : Type 0
 NextMeans = (p : Plan) (r : Running) → NextPromise p (r .d) (r .clocks .next) (tickOf p r)
@@ -116,26 +116,26 @@ NextMeans = (p : Plan) (r : Running) → NextPromise p (r .d) (r .clocks .next) 
 -- Steps 1 and 2 at tick t: with the due ticks d and the positions at t, outputs q and input values u become q′ and u′
 pub record SourcesPromise (p : Plan) (d : List ℕ) (t : ℕ) (position : ℕ → ℤ) (q u q′ u′ : List ℤ) : Type 0 where
   -- 1. "The due integrators (d = t) take q = x+s×(t−l)." The others keep theirs
-  pub due : (i : ℕ) → i < p .counts .n → nat d i ≡ t → int q′ i ≡ position i
-  pub not-due : (i : ℕ) → i < p .counts .n → (nat d i ≡ t → ⊥) → int q′ i ≡ int q i
+  pub due : (i : ℕ) → i < p .counts .n → natAt d i ≡ t → intAt q′ i ≡ position i
+  pub not-due : (i : ℕ) → i < p .counts .n → (natAt d i ≡ t → ⊥) → intAt q′ i ≡ intAt q i
   -- 2. "Commands of tick t set their inputs." The others keep theirs
-  pub set : (j e : ℕ) → j < p .counts .m → e < p .counts .commands → nat (p .commands .ticks) e ≡ t → nat (p .commands .inputs) e ≡ j → int u′ j ≡ int (p .commands .values) e
-  pub not-set : (j : ℕ) → j < p .counts .m → ((e : ℕ) → e < p .counts .commands → nat (p .commands .ticks) e ≡ t → nat (p .commands .inputs) e ≡ j → ⊥) → int u′ j ≡ int u j
+  pub set : (j e : ℕ) → j < p .counts .m → e < p .counts .commands → natAt (p .commands .ticks) e ≡ t → natAt (p .commands .inputs) e ≡ j → intAt u′ j ≡ intAt (p .commands .values) e
+  pub not-set : (j : ℕ) → j < p .counts .m → ((e : ℕ) → e < p .counts .commands → natAt (p .commands .ticks) e ≡ t → natAt (p .commands .inputs) e ≡ j → ⊥) → intAt u′ j ≡ intAt u j
 
 -- "One instant", at tick t, from the figures r to the figures r′
 pub record StepPromise (p : Plan) (engine : Engine) (t : ℕ) (r r′ : Running) : Type 0 where
   -- "x+s×(t−l)", where integrator i is at t
-  pub position : (i : ℕ) → positionAt r t i ≡ int (r .x) i +ℤ int (r .s) i *ℤ pos (t - nat (r .l) i)
+  pub position : (i : ℕ) → positionAt r t i ≡ intAt (r .x) i +ℤ intAt (r .s) i *ℤ pos (t - natAt (r .l) i)
   pub sources : SourcesPromise p (r .d) t (positionAt r t) (r .q) (r .inputs) (r′ .q) (r′ .inputs)
   -- 5. "x becomes x+s×(t−l), l = t, then the new slope and due tick", by the new outputs and inputs. "A due integrator gets x = q."
-  pub x : (i : ℕ) → i < p .counts .n → Moves p engine (r .d) t i → int (r′ .x) i ≡ positionAt r t i
-  pub l : (i : ℕ) → i < p .counts .n → Moves p engine (r .d) t i → nat (r′ .l) i ≡ t
-  pub s : (i : ℕ) → i < p .counts .n → Moves p engine (r .d) t i → int (r′ .s) i ≡ rateOf p (r′ .q) (r′ .inputs) i
-  pub d : (i : ℕ) → i < p .counts .n → Moves p engine (r .d) t i → nat (r′ .d) i ≡ dueOf p (r′ .q) i t (int (r′ .x) i) (int (r′ .s) i)
-  pub due-x : (i : ℕ) → i < p .counts .n → nat (r .d) i ≡ t → int (r′ .x) i ≡ int (r′ .q) i
+  pub x : (i : ℕ) → i < p .counts .n → Moves p engine (r .d) t i → intAt (r′ .x) i ≡ positionAt r t i
+  pub l : (i : ℕ) → i < p .counts .n → Moves p engine (r .d) t i → natAt (r′ .l) i ≡ t
+  pub s : (i : ℕ) → i < p .counts .n → Moves p engine (r .d) t i → intAt (r′ .s) i ≡ rateOf p (r′ .q) (r′ .inputs) i
+  pub d : (i : ℕ) → i < p .counts .n → Moves p engine (r .d) t i → natAt (r′ .d) i ≡ dueOf p (r′ .q) i t (intAt (r′ .x) i) (intAt (r′ .s) i)
+  pub due-x : (i : ℕ) → i < p .counts .n → natAt (r .d) i ≡ t → intAt (r′ .x) i ≡ intAt (r′ .q) i
   -- who does not move keeps all of these
   pub not-moved : (i : ℕ) → i < p .counts .n → (Moves p engine (r .d) t i → ⊥)
-      → (int (r′ .x) i ≡ int (r .x) i) × (nat (r′ .l) i ≡ nat (r .l) i) × (int (r′ .s) i ≡ int (r .s) i) × (nat (r′ .d) i ≡ nat (r .d) i)
+      → (intAt (r′ .x) i ≡ intAt (r .x) i) × (natAt (r′ .l) i ≡ natAt (r .l) i) × (intAt (r′ .s) i ≡ intAt (r .s) i) × (natAt (r′ .d) i ≡ natAt (r .d) i)
   -- 6. "c = t; instants grows by 1; updates grows by the number of integrators moved, each counted once"
   pub clock : r′ .clocks .clock ≡ t
   pub next : CommandPromise p t (r′ .clocks .next)
@@ -169,9 +169,9 @@ pub record EventAt (bytes : List ℕ) (at t source : ℕ) (value : ℤ) : Type 0
 -- "Events of an instant: due integrators and commanded inputs by ascending source number, 12 bytes each: tick, source, signed value": an
 -- event stands behind those of the lower sources that have one, and there are no others
 pub record EventsPromise (p : Plan) (d : List ℕ) (t : ℕ) (position : ℕ → ℤ) (bytes : List ℕ) : Type 0 where
-  pub due : (i : ℕ) → i < p .counts .n → nat d i ≡ t → EventAt bytes (12 * countOf (changes p d t) i) t i (position i)
-  pub commanded : (j e : ℕ) → j < p .counts .m → e < p .counts .commands → nat (p .commands .ticks) e ≡ t → nat (p .commands .inputs) e ≡ j
-      → EventAt bytes (12 * countOf (changes p d t) (p .counts .n + j)) t (p .counts .n + j) (int (p .commands .values) e)
+  pub due : (i : ℕ) → i < p .counts .n → natAt d i ≡ t → EventAt bytes (12 * countOf (changes p d t) i) t i (position i)
+  pub commanded : (j e : ℕ) → j < p .counts .m → e < p .counts .commands → natAt (p .commands .ticks) e ≡ t → natAt (p .commands .inputs) e ≡ j
+      → EventAt bytes (12 * countOf (changes p d t) (p .counts .n + j)) t (p .counts .n + j) (intAt (p .commands .values) e)
   pub no-other : length bytes ≡ 12 * countOf (changes p d t) (p .counts .n + p .counts .m)
 
 abbrev pub EventsRead : Type 0
@@ -182,10 +182,10 @@ EventsRead =
 -- "1 finished if t is never or above the horizon; else 2 range if step 1 bars the instant (with the lowest such integrator); else 0 paused"
 pub record StatusPromise (p : Plan) (d : List ℕ) (t : ℕ) (position : ℕ → ℤ) (status integrator : ℕ) : Type 0 where
   pub finished : (t ≡ never) ⊎ (p .horizon < t) → status ≡ 1
-  pub range : (t ≡ never → ⊥) → t ≤ p .horizon → (i : ℕ) → i < p .counts .n → nat d i ≡ t → M < ∣ position i ∣
-      → ((j : ℕ) → j < i → nat d j ≡ t → ∣ position j ∣ ≤ M)
+  pub range : (t ≡ never → ⊥) → t ≤ p .horizon → (i : ℕ) → i < p .counts .n → natAt d i ≡ t → M < ∣ position i ∣
+      → ((j : ℕ) → j < i → natAt d j ≡ t → ∣ position j ∣ ≤ M)
       → (status ≡ 2) × (integrator ≡ i)
-  pub paused : (t ≡ never → ⊥) → t ≤ p .horizon → ((i : ℕ) → i < p .counts .n → nat d i ≡ t → ∣ position i ∣ ≤ M) → status ≡ 0
+  pub paused : (t ≡ never → ⊥) → t ≤ p .horizon → ((i : ℕ) → i < p .counts .n → natAt d i ≡ t → ∣ position i ∣ ≤ M) → status ≡ 0
   pub no-integrator : (status ≡ 2 → ⊥) → integrator ≡ 0
 
 abbrev pub StatusMeans : Type 0
@@ -207,11 +207,11 @@ RunTakes = (p : Plan) (engine : Engine) (r : Running) → RunPromise p engine r
 
 -- Start
 pub record PlainStartPromise (p : Plan) (m : Plain) : Type 0 where
-  pub x : (i : ℕ) → i < p .counts .n → int (m .x) i ≡ int (p .integrators .starts) i
-  pub q : (i : ℕ) → i < p .counts .n → int (m .q) i ≡ int (p .integrators .starts) i
-  pub s : (i : ℕ) → i < p .counts .n → int (m .s) i ≡ rateOf p (m .q) (m .inputs) i
-  pub d : (i : ℕ) → i < p .counts .n → nat (m .d) i ≡ dueOf p (m .q) i 0 (int (m .x) i) (int (m .s) i)
-  pub inputs : (j : ℕ) → j < p .counts .m → int (m .inputs) j ≡ int (p .inputs .firsts) j
+  pub x : (i : ℕ) → i < p .counts .n → intAt (m .x) i ≡ intAt (p .integrators .starts) i
+  pub q : (i : ℕ) → i < p .counts .n → intAt (m .q) i ≡ intAt (p .integrators .starts) i
+  pub s : (i : ℕ) → i < p .counts .n → intAt (m .s) i ≡ rateOf p (m .q) (m .inputs) i
+  pub d : (i : ℕ) → i < p .counts .n → natAt (m .d) i ≡ dueOf p (m .q) i 0 (intAt (m .x) i) (intAt (m .s) i)
+  pub inputs : (j : ℕ) → j < p .counts .m → intAt (m .inputs) j ≡ intAt (p .inputs .firsts) j
   pub clock : m .clock ≡ 0
   pub next : CommandPromise p 0 (m .next)
   pub instants : m .instants ≡ 0
@@ -219,12 +219,12 @@ pub record PlainStartPromise (p : Plan) (m : Plain) : Type 0 where
 -- one instant, at tick t, from the figures m to the figures m′
 pub record PlainStepPromise (p : Plan) (t : ℕ) (m m′ : Plain) : Type 0 where
   -- where integrator i is at t: it was last moved at the clock
-  pub position : (i : ℕ) → plainPosition p m i ≡ int (m .x) i +ℤ int (m .s) i *ℤ pos (t - m .clock)
+  pub position : (i : ℕ) → plainPosition p m i ≡ intAt (m .x) i +ℤ intAt (m .s) i *ℤ pos (t - m .clock)
   pub sources : SourcesPromise p (m .d) t (plainPosition p m) (m .q) (m .inputs) (m′ .q) (m′ .inputs)
   -- "every integrator moved", with the slope and the due tick by the new outputs and inputs
-  pub x : (i : ℕ) → i < p .counts .n → int (m′ .x) i ≡ plainPosition p m i
-  pub s : (i : ℕ) → i < p .counts .n → int (m′ .s) i ≡ rateOf p (m′ .q) (m′ .inputs) i
-  pub d : (i : ℕ) → i < p .counts .n → nat (m′ .d) i ≡ dueOf p (m′ .q) i t (int (m′ .x) i) (int (m′ .s) i)
+  pub x : (i : ℕ) → i < p .counts .n → intAt (m′ .x) i ≡ plainPosition p m i
+  pub s : (i : ℕ) → i < p .counts .n → intAt (m′ .s) i ≡ rateOf p (m′ .q) (m′ .inputs) i
+  pub d : (i : ℕ) → i < p .counts .n → natAt (m′ .d) i ≡ dueOf p (m′ .q) i t (intAt (m′ .x) i) (intAt (m′ .s) i)
   pub clock : m′ .clock ≡ t
   pub next : CommandPromise p t (m′ .next)
   pub instants : m′ .instants ≡ m .instants + 1

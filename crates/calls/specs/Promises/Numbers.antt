@@ -10,14 +10,14 @@ use Rattle.integers.specs.Division.{floored}
 use Rattle.integers.specs.Range.{limited}
 use Rattle.bitset.specs.Mask.{countOf}
 use Rattle.words.specs.Word.{word, signedWord}
-use Rattle.plan.specs.Lists.{nat}
+use Rattle.plan.specs.Lists.{natAt}
 use Rattle.plan.specs.Format.{M}
 use Rattle.machine.specs.Due.{never}
 
 pub record NumbersMean : Type 0 where
   -- "All numbers in files and events are little-endian, 32 bits wide"
   pub little-endian : (s : List ℕ) (at : ℕ)
-      → word s at ≡ nat s at + 256 * nat s (at + 1) + 65536 * nat s (at + 2) + 16777216 * nat s (at + 3)
+      → word s at ≡ natAt s at + 256 * natAt s (at + 1) + 65536 * natAt s (at + 2) + 16777216 * natAt s (at + 3)
   -- "'signed' means two's complement"
   pub not-negative : (s : List ℕ) (at : ℕ) → word s at < 2 ^ 31 → signedWord s at ≡ pos (word s at)
   pub negative : (s : List ℕ) (at : ℕ) → 2 ^ 31 ≤ word s at → signedWord s at ≡ pos (word s at) -ℤ pos (2 ^ 32)

@@ -4,7 +4,7 @@ use mathlib.Core.Path.{_≡_}
 use mathlib.Core.List.{List, _∷_, _++_}
 use Prim.Native.Nat.{ℕ, _+_, _*_, _≤_, _<_}
 use lib.IntN.{pos}
-use Rattle.plan.specs.Lists.{int}
+use Rattle.plan.specs.Lists.{intAt}
 use Rattle.plan.specs.Format.{planIn}
 use Rattle.plan.specs.declared.Plan.{Plan}
 use Rattle.machine.specs.Plain.{plainAfter, plainEvents}
@@ -39,7 +39,7 @@ pub record SessionPromise (p : Plan) (st : State) (made : List Made) : Type 0 wh
       → CallPromise p (lastState st earlier) (m .call) (m .answer) (m .buffer)
   -- "the position call for every integrator": what it answers for the last state
   pub position : (i : ℕ) (answer : Positioned) → answer ≡ positionedOf (lastState st made) i → i < p .counts .n
-      → (answer .number ≡ 0) × (answer .value ≡ int (plainAfter p (acceptedSum made) .x) i)
+      → (answer .number ≡ 0) × (answer .value ≡ intAt (plainAfter p (acceptedSum made) .x) i)
   pub no-position : (i : ℕ) (answer : Positioned) → answer ≡ positionedOf (lastState st made) i → p .counts .n ≤ i
       → (answer .number ≡ 14) × (answer .value ≡ pos 0)
   -- last state, sum and bytes are those of the list of these calls, of which demand 3 says the rest: instants inside a call, the same list by one engine

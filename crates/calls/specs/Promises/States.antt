@@ -5,7 +5,7 @@ use mathlib.Core.List.{List}
 use Prim.Native.Nat.{ℕ, _≤_, _<_}
 use lib.IntN.{pos}
 use lib.ListN.{length}
-use Rattle.plan.specs.Lists.{nat, int}
+use Rattle.plan.specs.Lists.{natAt, intAt}
 use Rattle.plan.specs.Encoding.{encode}
 use Rattle.plan.specs.Idle.{idlePlan}
 use Rattle.plan.specs.declared.Plan.{Plan}
@@ -29,8 +29,8 @@ RunSound = (engine : Engine) (st : State) (budget : ℕ) (buffer : List ℕ) →
 -- a sound state's next command is determined: it is the only number of which "the first with tick above c, or the command count if none" holds
 abbrev pub NextDetermined : Type 0
 NextDetermined =
-    (st : State) (next : ℕ) → Sound st → next ≤ st .plan .counts .commands → ((e : ℕ) → e < next → nat (st .plan .commands .ticks) e ≤ st .run .clocks .clock)
-    → (next < st .plan .counts .commands → st .run .clocks .clock < nat (st .plan .commands .ticks) next)
+    (st : State) (next : ℕ) → Sound st → next ≤ st .plan .counts .commands → ((e : ℕ) → e < next → natAt (st .plan .commands .ticks) e ≤ st .run .clocks .clock)
+    → (next < st .plan .counts .commands → st .run .clocks .clock < natAt (st .plan .commands .ticks) next)
     → st .run .clocks .next ≡ next
 
 -- an accepted run that is paused has moved the clock on
@@ -44,8 +44,8 @@ pub record IdlePromise (p : Plan) (idle : State) : Type 0 where
   pub start : idle ≡ startState p
   pub integrators : p .counts .n ≡ 1
   pub nothing-else : (p .counts .m ≡ 0) × (p .counts .k ≡ 0) × (p .counts .links ≡ 0) × (p .counts .commands ≡ 0)
-  pub first : int (p .integrators .starts) 0 ≡ pos 0
-  pub quantum : int (p .integrators .quanta) 0 ≡ pos 1
+  pub first : intAt (p .integrators .starts) 0 ≡ pos 0
+  pub quantum : intAt (p .integrators .quanta) 0 ≡ pos 1
   pub horizon : p .horizon ≡ 1
   pub size : length (encode p) ≡ 52
   pub loaded : loadOf (encode p) ≡ record { number = 0; entry = 0; state = idle }

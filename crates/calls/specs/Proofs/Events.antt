@@ -7,7 +7,7 @@ use lib.IntN.{ℤ}
 use Rattle.integers.specs.Parts.{∣_∣}
 use Rattle.bitset.specs.Mask.{countOf}
 use Rattle.plan.specs.Format.{M}
-use Rattle.plan.specs.Lists.{nat, int}
+use Rattle.plan.specs.Lists.{natAt, intAt}
 use Rattle.plan.specs.Laws.Counts.{Counts, counts-of}
 use Rattle.plan.specs.Laws.Means.{within-size}
 use Rattle.plan.specs.declared.Plan.{Plan}
@@ -25,7 +25,7 @@ use Rattle.calls.specs.Promises.Machine.{EventAt, EventsPromise, EventsR
 
 -- with the due ticks d, the positions at t, the outputs q after it and the input values u before it
 module _ (p : Plan) (ok : PlanRules p) (d : List ℕ) (t : ℕ) (position : ℕ → ℤ) (q u : List ℤ) (zero-status : statusAt p d t position ≡ 0)
-    (outputs-are : (i : ℕ) → i < p .counts .n → nat d i ≡ t → int q i ≡ position i) where
+    (outputs-are : (i : ℕ) → i < p .counts .n → natAt d i ≡ t → intAt q i ≡ position i) where
   limits : Counts p
   limits = counts-of p (ok .counts)
 
@@ -52,9 +52,9 @@ module _ (p : Plan) (ok : PlanRules p) (d : List ℕ) (t : ℕ) (position : ℕ 
         event-at i (position i) (omega arith) (due h e) (output-value p q inputsThen i h ∙ outputs-are i h e)
         (paused-size p d t position zero-status i h e);
     commanded = λ j e h l tick number.
-        event-at (p .counts .n + j) (int (p .commands .values) e) (omega arith) (commanded j e refl h l tick number)
+        event-at (p .counts .n + j) (intAt (p .commands .values) e) (omega arith) (commanded j e refl h l tick number)
         (input-value p q inputsThen j h ∙ setting-of p ok u t j e h l tick number)
-        (within-size M (int (p .commands .values) e) .0 (ok .commands e l .value));
+        (within-size M (intAt (p .commands .values) e) .0 (ok .commands e l .value));
     no-other = length-events p t d q inputsThen;
   }
 

@@ -6,7 +6,7 @@ use Prim.Native.Nat.{ℕ}
 use lib.IntN.{pos}
 use lib.Dec.{ltb}
 use borrow.Author.Tests.{ltb-true, ltb-false, lt-ltb, le-ltb}
-use Rattle.plan.specs.Lists.{int}
+use Rattle.plan.specs.Lists.{intAt}
 use Rattle.plan.specs.declared.Plan.{Plan}
 use Rattle.machine.specs.Plain.{Plain}
 use Rattle.machine.specs.Sound.{SoundRunning}
@@ -39,10 +39,10 @@ module _ (p : Plan) (r : Running) (ok : SoundRunning p r) where
 
 -- what the position call answers is settled by the plain machine
 module _ (p : Plan) (st : State) (m : Plain) (same : SameAsPlain p st m) (i : ℕ) where
-  position-settled : (positionedOf st i .number ≡ cond (ltb i (p .counts .n)) 0 14) × (positionedOf st i .value ≡ cond (ltb i (p .counts .n)) (int (m .x) i) (pos 0))
+  position-settled : (positionedOf st i .number ≡ cond (ltb i (p .counts .n)) 0 14) × (positionedOf st i .value ≡ cond (ltb i (p .counts .n)) (intAt (m .x) i) (pos 0))
   position-settled = go (ltb i (p .counts .n)) refl
     where
-      go : (b : Bool) → ltb i (p .counts .n) ≡ b → (positionedOf st i .number ≡ cond b 0 14) × (positionedOf st i .value ≡ cond b (int (m .x) i) (pos 0))
+      go : (b : Bool) → ltb i (p .counts .n) ≡ b → (positionedOf st i .number ≡ cond b 0 14) × (positionedOf st i .value ≡ cond b (intAt (m .x) i) (pos 0))
       go true e = let at = same .position i (ltb-true i (p .counts .n) e) in (rw at, rw at)
       go false e = let at = same .no-position i (ltb-false i (p .counts .n) e) in (rw at, rw at)
 

@@ -6,7 +6,7 @@ use native.Mathlib.Omega.{arith}
 use lib.IntN.{ℤ}
 use Rattle.integers.specs.Parts.{∣_∣}
 use Rattle.plan.specs.Format.{M}
-use Rattle.plan.specs.Lists.{int}
+use Rattle.plan.specs.Lists.{intAt}
 use Rattle.plan.specs.Rules.{IntegratorRule, PlanRules}
 use Rattle.plan.specs.Laws.Counts.{Counts, counts-of}
 use Rattle.plan.specs.Laws.Means.{within-size}
@@ -26,7 +26,7 @@ use Rattle.machine.specs.declared.Running.{Running}
 use Rattle.calls.specs.Calls.{roomOf}
 use Rattle.calls.specs.Limits.{RateLimits, LevelLimits, IntegratorLimits, PrintedLimits, StateLimits}
 
-pub rate-limits : (p : Plan) (q u : List ℤ) → PlanRules p → ((i : ℕ) → i < p .counts .n → ∣ int q i ∣ ≤ M) → ((j : ℕ) → j < p .counts .m → ∣ int u j ∣ ≤ M)
+pub rate-limits : (p : Plan) (q u : List ℤ) → PlanRules p → ((i : ℕ) → i < p .counts .n → ∣ intAt q i ∣ ≤ M) → ((j : ℕ) → j < p .counts .m → ∣ intAt u j ∣ ≤ M)
     → RateLimits p q u
 rate-limits p q u k a b =
     record {
@@ -41,7 +41,7 @@ rate-limits p q u k a b =
       rate = rate-size p q u k a b;
     }
 
-pub level-limits : (p : Plan) (q : List ℤ) (i : ℕ) (x s : ℤ) → IntegratorRule p i → ∣ int q i ∣ ≤ M → Between p q i x → LevelLimits p q i x s
+pub level-limits : (p : Plan) (q : List ℤ) (i : ℕ) (x s : ℤ) → IntegratorRule p i → ∣ intAt q i ∣ ≤ M → Between p q i x → LevelLimits p q i x s
 level-limits p q i x s k a b =
     record {
       upper = upper-size p q i k a;
@@ -67,7 +67,7 @@ module _ (p : Plan) (r : Running) (sound : SoundRunning p r) where
   integrator-limits : (i : ℕ) → i < p .counts .n → IntegratorLimits p r i
   integrator-limits i h =
       let k = sound .integrators i h in record {
-        levels = level-limits p (r .q) i (int (r .x) i) (int (r .s) i) (sound .plan .integrators i h) (k .output) (inside p r sound i h);
+        levels = level-limits p (r .q) i (intAt (r .x) i) (intAt (r .s) i) (sound .plan .integrators i h) (k .output) (inside p r sound i h);
         position = position-size p r sound i h;
         above = λ t a b. stays-inside p r sound i h t a b .above;
         below = λ t a b. stays-inside p r sound i h t a b .below;
@@ -84,7 +84,7 @@ module _ (p : Plan) (r : Running) (sound : SoundRunning p r) where
         tick = λ e. omega (arith, tick-horizon p r (is-paused p r e));
         source = omega (arith, limits);
         output = λ e i h d. omega (arith, due-size p r (is-paused p r e) i h d);
-        setting = λ e h. omega (arith, within-size M (int (p .commands .values) e) .0 (sound .plan .commands e h .value));
+        setting = λ e h. omega (arith, within-size M (intAt (p .commands .values) e) .0 (sound .plan .commands e h .value));
         clock = omega (arith, sound .clock);
         instants = omega (arith, sound .instants, sound .clock);
         updates = omega (arith, sound .updates, mul-le-mul (limits .n) (sound .instants), sound .clock);
@@ -95,7 +95,7 @@ module _ (p : Plan) (r : Running) (sound : SoundRunning p r) where
   state-limits =
       let instants : r .clocks .instants ≤ 2000000000 = omega (arith, sound .instants, sound .clock, sound .plan .horizon) in record {
         rates = rate-limits p (r .q) (r .inputs) (sound .plan) (λ i h. sound .integrators i h .output)
-            (λ j h. within-size M (int (r .inputs) j) .0 (sound .inputs j h));
+            (λ j h. within-size M (intAt (r .inputs) j) .0 (sound .inputs j h));
         integrators = integrator-limits;
         tick = λ e. (tick-after p r sound, tick-horizon p r (is-paused p r e));
         next = omega (arith, sound .next, command-most p (r .clocks .clock), limits .commands);

@@ -7,7 +7,7 @@ use mathlib.Core.Bool.{Bool, true, _&&_}
 use mathlib.Core.List.{List}
 use lib.Dec.{eqb}
 use denote.Ref.{now}
-use Rattle.plan.specs.Lists.{nat, every}
+use Rattle.plan.specs.Lists.{natAt, every}
 use Rattle.plan.specs.Format.{sections, entrySizes, lengthIn, countIn}
 use Rattle.plan.specs.Tests.{countKept, sizesKept}
 use Rattle.entryrules.specs.Testing.{every-none, every-more, every-fails, held, failed}
@@ -16,7 +16,7 @@ use Rattle.directory.proofs.check_sizes.Tie as tie
 
 -- section j of a file is of the right size
 abbrev sized : List ℕ → ℕ → Bool
-sized file j = eqb (lengthIn file j % nat entrySizes j) 0 && countKept j (countIn file j)
+sized file j = eqb (lengthIn file j % natAt entrySizes j) 0 && countKept j (countIn file j)
 
 abbrev Inv-loop : tie.InvT-loop
 Inv-loop file k₀ k = (k ≤ sections) × (every (sized file) k ≡ true)

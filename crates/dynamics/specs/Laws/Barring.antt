@@ -16,14 +16,14 @@ use Rattle.bitset.specs.Mask.{has, lowestOf, restOf}
 use Rattle.bitset.specs.Bits.{has-none, has-high}
 use Rattle.bitset.specs.Visiting.{has-lowest, below-lowest, has-rest}
 use Rattle.plan.specs.Format.{M}
-use Rattle.plan.specs.Lists.{nat, int, firstFrom}
+use Rattle.plan.specs.Lists.{natAt, intAt, firstFrom}
 use Rattle.plan.specs.Laws.Searches.{first-unique, first-ext}
 use Rattle.dynamics.specs.Ticks.{PositionReady}
 use Rattle.dynamics.specs.Standing.{barsIn, DueReach}
 
 -- the value that integrator i would take at t
 abbrev pub valueAt : ℕ → List ℤ → List ℤ → List ℕ → ℕ → ℤ
-valueAt t x s l i = int x i +ℤ int s i *ℤ pos (t - nat l i)
+valueAt t x s l i = intAt x i +ℤ intAt s i *ℤ pos (t - natAt l i)
 
 -- ---- the two comparisons with ±M
 pub above-most : (v : ℤ) → ltZ (pos M) v ≡ true → within M v ≡ false
@@ -73,7 +73,7 @@ module _ {n left : ℕ} (some : 0 < left) (below : left < 2 ^ n) (few : n ≤ 32
         go i true d true = rw (eqb-true i (lowestOf 32 left) d, e)
         go i false d true = refl
 
-    pub reach-lowest : DueReach left t x s l → PositionReady (int x (lowestOf 32 left)) (int s (lowestOf 32 left)) (nat l (lowestOf 32 left)) t
+    pub reach-lowest : DueReach left t x s l → PositionReady (intAt x (lowestOf 32 left)) (intAt s (lowestOf 32 left)) (natAt l (lowestOf 32 left)) t
     reach-lowest r = r .ready (lowestOf 32 left) (has-lowest 32 left some wide)
 
     pub reach-rest : DueReach left t x s l → DueReach (restOf left) t x s l

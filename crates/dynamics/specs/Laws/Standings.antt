@@ -7,7 +7,7 @@ use lib.Dec.{ltb, eqb}
 use borrow.Author.Tests.{ltb-true, ltb-false, eqb-true}
 use Rattle.bitset.specs.Mask.{has, maskOf}
 use Rattle.bitset.specs.Bits.{has-high, has-maskOf, maskOf-lt}
-use Rattle.plan.specs.Lists.{nat, int, firstFrom}
+use Rattle.plan.specs.Lists.{natAt, intAt, firstFrom}
 use Rattle.plan.specs.Laws.Searches.{first-ext}
 use Rattle.plan.specs.declared.Plan.{Plan}
 use Rattle.machine.specs.Due.{never}
@@ -25,29 +25,29 @@ use Rattle.dynamics.specs.declared.status.Standing.{Standing}
 
 module _ (p : Plan) (r : Running) where
   -- ---- what positions ask
-  pub ready-at : SoundRunning p r → (t : ℕ) → r .clocks .clock ≤ t → (i : ℕ) → i < p .counts .n → t ≤ nat (r .d) i
-      → PositionReady (int (r .x) i) (int (r .s) i) (nat (r .l) i) t
+  pub ready-at : SoundRunning p r → (t : ℕ) → r .clocks .clock ≤ t → (i : ℕ) → i < p .counts .n → t ≤ natAt (r .d) i
+      → PositionReady (intAt (r .x) i) (intAt (r .s) i) (natAt (r .l) i) t
   ready-at ok t since i used early =
       record {
         since = moved-before p r ok i used t since;
         small =
             omega (
               arith,
-              inside-size p (r .q) i (ok .plan .integrators i used) (ok .integrators i used .output) (int (r .x) i) (inside p r ok i used),
+              inside-size p (r .q) i (ok .plan .integrators i used) (ok .integrators i used .output) (intAt (r .x) i) (inside p r ok i used),
             );
         move = omega (arith, elapsed-size p r ok i used t since early);
       }
 
   -- a bit of the mask of the due ones is a due integrator
-  due-bit : (t i : ℕ) → has (maskOf (isDue (r .d) t) (p .counts .n)) i ≡ true → (i < p .counts .n) × (nat (r .d) i ≡ t)
+  due-bit : (t i : ℕ) → has (maskOf (isDue (r .d) t) (p .counts .n)) i ≡ true → (i < p .counts .n) × (natAt (r .d) i ≡ t)
   unfolding isDue
   due-bit t i e = go (ltb i (p .counts .n)) refl
     where
       due : ℕ
       due = maskOf (isDue (r .d) t) (p .counts .n)
 
-      go : (b : Bool) → ltb i (p .counts .n) ≡ b → (i < p .counts .n) × (nat (r .d) i ≡ t)
-      go true l = let h = ltb-true i (p .counts .n) l in (h, eqb-true (nat (r .d) i) t (sym (has-maskOf (isDue (r .d) t) (p .counts .n) i h) ∙ e))
+      go : (b : Bool) → ltb i (p .counts .n) ≡ b → (i < p .counts .n) × (natAt (r .d) i ≡ t)
+      go true l = let h = ltb-true i (p .counts .n) l in (h, eqb-true (natAt (r .d) i) t (sym (has-maskOf (isDue (r .d) t) (p .counts .n) i h) ∙ e))
       go false l = absurd (true≢false (sym e ∙ has-high due (p .counts .n) i (maskOf-lt (isDue (r .d) t) (p .counts .n)) (ltb-false i (p .counts .n) l)))
 
   pub due-reach-from : SoundRunning p r → {t due : ℕ} → r .clocks .clock ≤ t → due ≡ maskOf (isDue (r .d) t) (p .counts .n)

@@ -8,7 +8,7 @@ use lib.IntN.{ℤ}
 use lib.ListN.{length, length-append}
 use Rattle.bitset.specs.Mask.{each}
 use Rattle.plan.specs.Format.{M}
-use Rattle.plan.specs.Lists.{int}
+use Rattle.plan.specs.Lists.{intAt}
 use Rattle.plan.specs.Laws.Means.{within-size}
 use Rattle.plan.specs.declared.Plan.{Plan}
 use Rattle.machine.specs.Instant.{instant, eventsOf}
@@ -45,7 +45,7 @@ pub source-values-ready : (p : Plan) (r : Running) → SoundRunning p r
 source-values-ready p r ok =
     nodes-ready p (ok .plan) (firstValues (p .counts .n) (p .counts .m) (r .q) (r .inputs))
     (first-sized p (r .q) (r .inputs) (ok .plan) (λ i h. ok .integrators i h .output)
-    (λ j h. within-size M (int (r .inputs) j) .0 (ok .inputs j h)))
+    (λ j h. within-size M (intAt (r .inputs) j) .0 (ok .inputs j h)))
 
 module _ (p : Plan) (engine : Engine) (budget : ℕ) (first : Running) (buffer₀ : List ℕ) where
   -- after `taken` instants: what is left of the run ends where the whole run ends, and its events go behind byte `end`

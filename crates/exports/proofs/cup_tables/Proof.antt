@@ -7,7 +7,7 @@ use borrow.Author.Needs.{needs}
 use borrow.Author.Tests.{not-true, not-false}
 use Rattle.integers.specs.Parts.{∣_∣}
 use Rattle.plan.specs.Format.{M}
-use Rattle.plan.specs.Lists.{int}
+use Rattle.plan.specs.Lists.{intAt}
 use Rattle.plan.specs.Laws.Counts.{Counts, counts-of}
 use Rattle.plan.specs.Laws.Means.{within-size}
 use Rattle.machine.specs.Sound.{Sound}
@@ -58,8 +58,8 @@ source-values-requires c κs =
     let e = c .before .before .before .before .before .before .before .before .before .before .before .before .before .before .before .before .before .before in
     let p = state e .plan in
     let r = state e .run in
-    let outputs : (i : ℕ) → i < p .counts .n → ∣ int (r .q) i ∣ ≤ M = λ i h. sound e .integrators i h .output in
-    let inputs : (j : ℕ) → j < p .counts .m → ∣ int (r .inputs) j ∣ ≤ M = λ j h. within-size M (int (r .inputs) j) .0 (sound e .inputs j h) in
+    let outputs : (i : ℕ) → i < p .counts .n → ∣ intAt (r .q) i ∣ ≤ M = λ i h. sound e .integrators i h .output in
+    let inputs : (j : ℕ) → j < p .counts .m → ∣ intAt (r .inputs) j ∣ ≤ M = λ j h. within-size M (intAt (r .inputs) j) .0 (sound e .inputs j h) in
     (limits e .n, limits e .m, nodes-ready p (sound e .plan) _ (first-sized p (r .q) (r .inputs) (sound e .plan) outputs inputs))
 
 returns-2 : tie.Need-returns-2

@@ -16,7 +16,7 @@ use Rattle.bitset.specs.Mask.{has, maskOf, countOf, each, joinedOf}
 use Rattle.bitset.specs.Bits.{maskOf-lt, maskOf-or}
 use Rattle.bitset.specs.Counts.{countOf-mask, countOf-le}
 use Rattle.plan.specs.Format.{M}
-use Rattle.plan.specs.Lists.{int}
+use Rattle.plan.specs.Lists.{intAt}
 use Rattle.plan.specs.Rules.{PlanRules}
 use Rattle.plan.specs.Laws.Counts.{Counts, counts-of}
 use Rattle.plan.specs.Laws.Means.{within-size}
@@ -87,20 +87,20 @@ module _ (p : Plan) (r : Running) {t due : ℕ} {ranges reach : List ℕ} {value
   full : length values ≡ 64
   full = rw (ready .values-are) (values-length p (r .q) (r .inputs))
 
-  old-at : (i : ℕ) → i < p .counts .n + p .counts .m + p .counts .k → int values i ≡ valueOf p (r .q) (r .inputs) i
+  old-at : (i : ℕ) → i < p .counts .n + p .counts .m + p .counts .k → intAt values i ≡ valueOf p (r .q) (r .inputs) i
   old-at i h = rw (ready .values-are) (values-at p (r .q) (r .inputs) rules i h)
 
-  old-output : (i : ℕ) → i < p .counts .n → int values i ≡ int (r .q) i
+  old-output : (i : ℕ) → i < p .counts .n → intAt values i ≡ intAt (r .q) i
   old-output i h = old-at i (omega arith) ∙ integrator-value p (r .q) (r .inputs) i h
 
-  old-input : (j : ℕ) → j < p .counts .m → int values (p .counts .n + j) ≡ int (r .inputs) j
+  old-input : (j : ℕ) → j < p .counts .m → intAt values (p .counts .n + j) ≡ intAt (r .inputs) j
   old-input j h = old-at (p .counts .n + j) (omega arith) ∙ setting-value p (r .q) (r .inputs) j h
 
-  old-sized : (i : ℕ) → ∣ int values i ∣ ≤ M
+  old-sized : (i : ℕ) → ∣ intAt values i ∣ ≤ M
   old-sized =
       rw (ready .values-are)
       (values-sized p (r .q) (r .inputs) rules (λ i h. ready .sound .integrators i h .output)
-      (λ j h. within-size M (int (r .inputs) j) .0 (ready .sound .inputs j h)))
+      (λ j h. within-size M (intAt (r .inputs) j) .0 (ready .sound .inputs j h)))
 
   -- ---- 6. the counts stay far below 2^64
   pub instants-fit : Fits w64 (r .clocks .instants + 1)
@@ -149,31 +149,31 @@ module _ (p : Plan) (r : Running) {t due : ℕ} {ranges reach : List ℕ} {value
     next-then = done .next-is
 
     -- what `values` holds now
-    output-at : (i : ℕ) → i < p .counts .n → int v2 i ≡ int q i
+    output-at : (i : ℕ) → i < p .counts .n → intAt v2 i ≡ intAt q i
     output-at i h =
         outputs-kept done i h
         ∙ values-are p r (ready .sound) shaped t due (ready .due-set) values full (outputting q1 v1) output old-output i h
 
-    kept-at : (i : ℕ) → p .counts .n ≤ i → int v1 i ≡ int values i
+    kept-at : (i : ℕ) → p .counts .n ≤ i → intAt v1 i ≡ intAt values i
     kept-at = values-kept p r (ready .sound) shaped t due (ready .due-set) values full (outputting q1 v1) output
 
-    input-at : (j : ℕ) → j < p .counts .m → int v2 (p .counts .n + j) ≡ int u j
+    input-at : (j : ℕ) → j < p .counts .m → intAt v2 (p .counts .n + j) ≡ intAt u j
     input-at = done .sources (λ j h. kept-at (p .counts .n + j) (omega arith) ∙ old-input j h)
 
-    node-at : (i : ℕ) → p .counts .n + p .counts .m ≤ i → int v2 i ≡ int values i
+    node-at : (i : ℕ) → p .counts .n + p .counts .m ≤ i → intAt v2 i ≡ intAt values i
     node-at i h = nodes-kept done i h ∙ kept-at i (omega arith)
 
-    source-at : (i : ℕ) → i < p .counts .n + p .counts .m → int v2 i ≡ valueWith p q u zero i
+    source-at : (i : ℕ) → i < p .counts .n + p .counts .m → intAt v2 i ≡ valueWith p q u zero i
     source-at i h =
-        source-cases (p .counts .n) (p .counts .m) i (λ k. int v2 k ≡ valueWith p q u zero k) h
+        source-cases (p .counts .n) (p .counts .m) i (λ k. intAt v2 k ≡ valueWith p q u zero k) h
         (λ k l. output-at k l ∙ sym (output-value p q u k l)) (λ j l. input-at j l ∙ sym (input-value p q u j l))
 
-    sized : (i : ℕ) → ∣ int v2 i ∣ ≤ M
+    sized : (i : ℕ) → ∣ intAt v2 i ∣ ≤ M
     sized i = go (ltb i (p .counts .n + p .counts .m)) refl
       where
-        go : (b : Bool) → ltb i (p .counts .n + p .counts .m) ≡ b → ∣ int v2 i ∣ ≤ M
+        go : (b : Bool) → ltb i (p .counts .n + p .counts .m) ≡ b → ∣ intAt v2 i ∣ ≤ M
         go true e =
-            source-cases (p .counts .n) (p .counts .m) i (λ k. ∣ int v2 k ∣ ≤ M) (ltb-true i (p .counts .n + p .counts .m) e)
+            source-cases (p .counts .n) (p .counts .m) i (λ k. ∣ intAt v2 k ∣ ≤ M) (ltb-true i (p .counts .n + p .counts .m) e)
             (λ k l. rw (output-at k l) (output-size p r (ready .sound) t takes k l))
             (λ j l. rw (input-at j l) (setting-size p r (ready .sound) t takes j l))
         go false e = rw (node-at i (ltb-false i (p .counts .n + p .counts .m) e)) (old-sized i)
@@ -202,19 +202,19 @@ module _ (p : Plan) (r : Running) {t due : ℕ} {ranges reach : List ℕ} {value
             worked
             ∙ touched.touched-mask p rules (r .d) t q u (r .q) (r .inputs) (output-kept p limits r t)
             (λ j h e. setting-kept p (r .inputs) t j (limits .m) h e) v2 (done .same-length ∙ full-then) source-at
-            (λ i h. node-at i h ∙ ap (λ vs. int vs i) (ready .values-are)) nodes nodes-then
+            (λ i h. node-at i h ∙ ap (λ vs. intAt vs i) (ready .values-are)) nodes nodes-then
 
-        value-then : (i : ℕ) → i < p .counts .n + p .counts .m + p .counts .k → int v3 i ≡ valueOf p q u i
+        value-then : (i : ℕ) → i < p .counts .n + p .counts .m + p .counts .k → intAt v3 i ≡ valueOf p q u i
         value-then i h = rw values-then (values-at p q u rules i h)
 
-        sized-then : (i : ℕ) → ∣ int v3 i ∣ ≤ M
+        sized-then : (i : ℕ) → ∣ intAt v3 i ∣ ≤ M
         sized-then =
             rw values-then
             (values-sized p q u rules (output-size p r (ready .sound) t takes) (setting-size p r (ready .sound) t takes))
 
-        first-then : (i : ℕ) → i < p .counts .n + p .counts .m → int v3 i ≡ valueWith p q u zero i
+        first-then : (i : ℕ) → i < p .counts .n + p .counts .m → intAt v3 i ≡ valueWith p q u zero i
         first-then i h =
-            source-cases (p .counts .n) (p .counts .m) i (λ k. int v3 k ≡ valueWith p q u zero k) h
+            source-cases (p .counts .n) (p .counts .m) i (λ k. intAt v3 k ≡ valueWith p q u zero k) h
             (λ k l. value-then k (omega arith) ∙ integrator-value p q u k l ∙ sym (output-value p q u k l))
             (λ j l. value-then (p .counts .n + j) (omega arith) ∙ setting-value p q u j l ∙ sym (input-value p q u j l))
 

@@ -6,7 +6,7 @@ use Prim.Native.Nat.{ℕ, _+_, _-_, _≤_, _<_}
 use native.Mathlib.Omega.{arith}
 use lib.IntN.{ℤ, pos, _+ℤ_, _*ℤ_}
 use Rattle.integers.specs.Parts.{sum, prod, zs}
-use Rattle.plan.specs.Lists.{nat, int, row}
+use Rattle.plan.specs.Lists.{natAt, intAt, row}
 use Rattle.plan.specs.Laws.Rows.{row-at, row-ext}
 use Rattle.plan.specs.Laws.Counts.{counts-of}
 use Rattle.plan.specs.declared.Plan.{Plan}
@@ -36,18 +36,18 @@ pub record Agrees (p : Plan) (r : Running) (m : Plain) : Type 0 where
   pub clock : r .clocks .clock ≡ m .clock
   pub next : r .clocks .next ≡ m .next
   pub instants : r .clocks .instants ≡ m .instants
-  pub place : (i : ℕ) → i < p .counts .n → positionOf r i ≡ int (m .x) i
+  pub place : (i : ℕ) → i < p .counts .n → positionOf r i ≡ intAt (m .x) i
 
 module _ (p : Plan) (r : Running) (ok : SoundRunning p r) where
   tick-from : r .clocks .clock ≤ tickOf p r
   tick-from = omega (arith, tick-after p r ok)
 
   -- a later position, from the one at the clock
-  later : (t i : ℕ) → r .clocks .clock ≤ t → i < p .counts .n → positionAt r t i ≡ positionOf r i +ℤ int (r .s) i *ℤ pos (t - r .clocks .clock)
+  later : (t i : ℕ) → r .clocks .clock ≤ t → i < p .counts .n → positionAt r t i ≡ positionOf r i +ℤ intAt (r .s) i *ℤ pos (t - r .clocks .clock)
   unfolding positionOf positionAt
   later t i h l =
-      let split : t - nat (r .l) i ≡ (r .clocks .clock - nat (r .l) i) + (t - r .clocks .clock) = omega (arith, ok .integrators i l .moved) in
-      rw split (forward (int (r .x) i) (int (r .s) i) (r .clocks .clock - nat (r .l) i) (t - r .clocks .clock))
+      let split : t - natAt (r .l) i ≡ (r .clocks .clock - natAt (r .l) i) + (t - r .clocks .clock) = omega (arith, ok .integrators i l .moved) in
+      rw split (forward (intAt (r .x) i) (intAt (r .s) i) (r .clocks .clock - natAt (r .l) i) (t - r .clocks .clock))
     where
       forward : (x s : ℤ) (a b : ℕ) → x +ℤ s *ℤ pos (a + b) ≡ x +ℤ s *ℤ pos a +ℤ s *ℤ pos b
       forward x s a b =
@@ -94,10 +94,10 @@ module _ (p : Plan) (r : Running) (ok : SoundRunning p r) where
     abbrev new-x : List ℤ
     new-x = row (pos 0) 32 (p .counts .n) (plainPosition p m)
 
-    new-x-at : (i : ℕ) → i < p .counts .n → int new-x i ≡ plainPosition p m i
+    new-x-at : (i : ℕ) → i < p .counts .n → intAt new-x i ≡ plainPosition p m i
     new-x-at i h = row-at (pos 0) 32 (p .counts .n) (plainPosition p m) i (counts-of p (ok .plan .counts) .n) h
 
-    same-due : (i : ℕ) → i < p .counts .n → dueThen p r (tickOf p r) i ≡ dueOf p (plainOutputs p m) i (plainTick p m) (int new-x i) (new-slope i)
+    same-due : (i : ℕ) → i < p .counts .n → dueThen p r (tickOf p r) i ≡ dueOf p (plainOutputs p m) i (plainTick p m) (intAt new-x i) (new-slope i)
     unfolding dueThen
     same-due i h =
         rw (x-then p (counts-of p (ok .plan .counts)) r (tickOf p r) i h, same-position i h, same-outputs, same-slope i, new-x-at i h, same-tick)
@@ -131,7 +131,7 @@ start-agrees p wide =
       clock = refl;
       next = refl;
       instants = refl;
-      place = λ i h. unmoved (int (p .integrators .starts) i) (int (startOf p .s) i) (nat (startOf p .l) i);
+      place = λ i h. unmoved (intAt (p .integrators .starts) i) (intAt (startOf p .s) i) (natAt (startOf p .l) i);
     }
   where
     unmoved : (x s : ℤ) (l : ℕ) → x +ℤ s *ℤ pos (0 - l) ≡ x

@@ -8,7 +8,7 @@ use Prim.Native.Nat.{ℕ, zero, suc, _<_}
 use native.Mathlib.Omega.{arith}
 use lib.Dec.{ltb}
 use borrow.Author.Tests.{ltb-true, ltb-false}
-use Rattle.plan.specs.Lists.{nat}
+use Rattle.plan.specs.Lists.{natAt}
 use Rattle.plan.specs.Rules.{Ascends}
 use Rattle.plan.specs.Laws.Searches.{below-suc}
 
@@ -23,14 +23,14 @@ before-trans (inr h) (inl k) = inl (omega arith)
 before-trans (inr h) (inr k) = inr (omega arith, omega arith)
 
 module _ (xs ys : List ℕ) (k : ℕ) (ascends : (e : ℕ) → e < k → Ascends xs ys e) where
-  pub ascending : (d e : ℕ) → d < e → e < k → Before (nat xs d) (nat ys d) (nat xs e) (nat ys e)
+  pub ascending : (d e : ℕ) → d < e → e < k → Before (natAt xs d) (natAt ys d) (natAt xs e) (natAt ys e)
   ascending d zero h l = absurd (omega arith)
   ascending d (suc e) h l =
       let step = ascends (suc e) l e refl in
-      below-suc (λ c. Before (nat xs c) (nat ys c) (nat xs (suc e)) (nat ys (suc e))) h
+      below-suc (λ c. Before (natAt xs c) (natAt ys c) (natAt xs (suc e)) (natAt ys (suc e))) h
       (λ b. before-trans (ascending d e b (omega arith)) step) step
 
-  pub entry-unique : (d e : ℕ) → d < k → e < k → nat xs d ≡ nat xs e → nat ys d ≡ nat ys e → d ≡ e
+  pub entry-unique : (d e : ℕ) → d < k → e < k → natAt xs d ≡ natAt xs e → natAt ys d ≡ natAt ys e → d ≡ e
   entry-unique d e h l a b = go (ltb d e) refl (ltb e d) refl
     where
       apart : {x y x′ y′ : ℕ} → Before x y x′ y′ → x ≡ x′ → y ≡ y′ → ⊥

@@ -3,7 +3,7 @@ use mathlib.Core.Path.{_≡_, refl, _∙_}
 use Prim.Native.Nat.{ℕ, _<_}
 use native.Mathlib.Omega.{arith}
 use lib.IntN.{pos}
-use Rattle.plan.specs.Lists.{nat, int}
+use Rattle.plan.specs.Lists.{natAt, intAt}
 use Rattle.plan.specs.Rules.{PlanRules}
 use Rattle.plan.specs.Unused.{PlanUnused}
 use Rattle.plan.specs.Idle.{idlePlan}
@@ -21,15 +21,15 @@ use Rattle.machine.specs.Laws.Due.{due-ahead}
 
 -- slopes, last-moved ticks and due ticks, entry by entry
 module _ (p : Plan) (limits : Counts p) (i : ℕ) (h : i < p .counts .n) where
-  pub start-slope : int (startOf p .s) i ≡ rateOf p (p .integrators .starts) (p .inputs .firsts) i
+  pub start-slope : intAt (startOf p .s) i ≡ rateOf p (p .integrators .starts) (p .inputs .firsts) i
   unfolding startOf startSlope
   start-slope = row-at (pos 0) 32 (p .counts .n) _ i (limits .n) h
 
-  pub start-last : nat (startOf p .l) i ≡ 0
+  pub start-last : natAt (startOf p .l) i ≡ 0
   unfolding startOf
   start-last = row-at 0 32 (p .counts .n) _ i (limits .n) h
 
-  pub start-due : nat (startOf p .d) i ≡ dueOf p (p .integrators .starts) i 0 (int (p .integrators .starts) i) (int (startOf p .s) i)
+  pub start-due : natAt (startOf p .d) i ≡ dueOf p (p .integrators .starts) i 0 (intAt (p .integrators .starts) i) (intAt (startOf p .s) i)
   unfolding startOf startSlope startDue
   start-due = row-at 0 32 (p .counts .n) _ i (limits .n) h ∙ rw start-slope
 
@@ -37,12 +37,12 @@ module _ (p : Plan) (rules : PlanRules p) (unused : PlanUnused p) where
   start-integrator : (i : ℕ) → i < p .counts .n → SoundIntegrator p (startOf p) i
   unfolding startOf dueOf
   start-integrator i h =
-      let n = counts-of p (rules .counts) in let rule = rules .integrators i h in let x = int (p .integrators .starts) i in
+      let n = counts-of p (rules .counts) in let rule = rules .integrators i h in let x = intAt (p .integrators .starts) i in
       record {
         moved = omega (arith, start-last p n i h);
-        ahead = rw (start-due p n i h) (due-ahead 0 x _ _ (int (startOf p .s) i) (omega arith));
+        ahead = rw (start-due p n i h) (due-ahead 0 x _ _ (intAt (startOf p .s) i) (omega arith));
         output = within-size _ x .0 (rule .start);
-        near = near-itself x (int (p .integrators .quanta) i) (rule .least);
+        near = near-itself x (intAt (p .integrators .quanta) i) (rule .least);
         rate = start-slope p n i h;
         due = rw (start-last p n i h) (start-due p n i h);
       }

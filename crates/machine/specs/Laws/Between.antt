@@ -6,7 +6,7 @@ use native.Mathlib.Omega.{arith}
 use lib.IntN.{ℤ, pos, _-ℤ_}
 use lib.Signed.{_≤ℤ_, _<ℤ_}
 use Rattle.integers.specs.Parts.{∣_∣, sum, dif, tight, zs}
-use Rattle.plan.specs.Lists.{int}
+use Rattle.plan.specs.Lists.{intAt}
 use Rattle.plan.specs.declared.Plan.{Plan}
 use Rattle.machine.specs.Due.{upperLevel, lowerLevel}
 
@@ -15,10 +15,10 @@ pub record Between (p : Plan) (q : List ℤ) (i : ℕ) (x : ℤ) : Type 0 where
   pub above : lowerLevel p q i <ℤ x
   pub below : x <ℤ upperLevel p q i
 
-pub near-between : (p : Plan) (q : List ℤ) (i : ℕ) (x : ℤ) → (pos ∣ x -ℤ int q i ∣ <ℤ int (p .integrators .quanta) i) ↔ Between p q i x
+pub near-between : (p : Plan) (q : List ℤ) (i : ℕ) (x : ℤ) → (pos ∣ x -ℤ intAt q i ∣ <ℤ intAt (p .integrators .quanta) i) ↔ Between p q i x
 unfolding upperLevel lowerLevel
 near-between p q i x =
-    let y = int q i in let b = int (p .integrators .quanta) i in (
+    let y = intAt q i in let b = intAt (p .integrators .quanta) i in (
       λ h. record { above = omega (arith, zs, dif x y, dif y b); below = omega (arith, zs, dif x y, sum y b) },
       λ b′. omega (arith, zs, dif x y, dif y b, sum y b, tight (x -ℤ y), b′ .above, b′ .below),
     )

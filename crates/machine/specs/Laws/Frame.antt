@@ -9,7 +9,7 @@ use lib.IntN.{ℤ, pos, _+ℤ_, _*ℤ_}
 use lib.Dec.{ltb, eqb}
 use borrow.Author.Tests.{ltb-true, ltb-false, eqb-true}
 use Rattle.integers.specs.Division.{floored}
-use Rattle.plan.specs.Lists.{nat, int, some}
+use Rattle.plan.specs.Lists.{natAt, intAt, some}
 use Rattle.plan.specs.Laws.Rows.{row-at}
 use Rattle.plan.specs.Laws.Searches.{or-false}
 use Rattle.plan.specs.Laws.Counts.{Counts}
@@ -21,11 +21,11 @@ use Rattle.machine.specs.Laws.Taken.{output-kept}
 use Rattle.machine.specs.declared.Running.{Running}
 
 -- an input that no command of the tick sets
-pub setting-kept : (p : Plan) (u : List ℤ) (t j : ℕ) → p .counts .m ≤ 8 → j < p .counts .m → isCommanded p t j ≡ false → int (settings p u t) j ≡ int u j
+pub setting-kept : (p : Plan) (u : List ℤ) (t j : ℕ) → p .counts .m ≤ 8 → j < p .counts .m → isCommanded p t j ≡ false → intAt (settings p u t) j ≡ intAt u j
 unfolding settings isCommanded some settingOf
 setting-kept p u t j h l e = row-at (pos 0) 8 (p .counts .m) _ j h l ∙ kept (p .counts .commands) e
   where
-    kept : (k : ℕ) → some (setsInput p t j) k ≡ false → settingOf p u t j k ≡ int u j
+    kept : (k : ℕ) → some (setsInput p t j) k ≡ false → settingOf p u t j k ≡ intAt u j
     kept zero f = refl
     kept (suc k) f = let b = or-false (some (setsInput p t j) k) (setsInput p t j k) f in rw (b .1) (kept k (b .0))
 
@@ -52,14 +52,14 @@ node-kept kind lo hi {a} {a₀} {b} {b₀} onA onB f g e = go (eqb kind 2) refl 
     go false c d = rw (left, g d)
 
 module _ (p : Plan) (d : List ℕ) (t : ℕ) (q u q₀ u₀ : List ℤ)
-    (same-q : (i : ℕ) → i < p .counts .n → isDue d t i ≡ false → int q i ≡ int q₀ i)
-    (same-u : (j : ℕ) → j < p .counts .m → isCommanded p t j ≡ false → int u j ≡ int u₀ j) where
+    (same-q : (i : ℕ) → i < p .counts .n → isDue d t i ≡ false → intAt q i ≡ intAt q₀ i)
+    (same-u : (j : ℕ) → j < p .counts .m → isCommanded p t j ≡ false → intAt u j ≡ intAt u₀ j) where
   source-kept : (i : ℕ) → changes p d t i ≡ false → valueWith p q u zero i ≡ valueWith p q₀ u₀ zero i
   unfolding changes valueWith
   source-kept i = go (ltb i (p .counts .n)) (ltb i (p .counts .n + p .counts .m)) refl refl
     where
       go : (a b : Bool) → ltb i (p .counts .n) ≡ a → ltb i (p .counts .n + p .counts .m) ≡ b → cond a (isDue d t i) (b && isCommanded p t (i - p .counts .n)) ≡ false
-          → cond a (int q i) (cond b (int u (i - p .counts .n)) (pos 0)) ≡ cond a (int q₀ i) (cond b (int u₀ (i - p .counts .n)) (pos 0))
+          → cond a (intAt q i) (cond b (intAt u (i - p .counts .n)) (pos 0)) ≡ cond a (intAt q₀ i) (cond b (intAt u₀ (i - p .counts .n)) (pos 0))
       go true b h k e = same-q i (ltb-true i (p .counts .n) h) e
       go false true h k e = same-u (i - p .counts .n) (omega (arith, ltb-true, ltb-false)) e
       go false false h k e = refl
@@ -69,10 +69,10 @@ module _ (p : Plan) (d : List ℕ) (t : ℕ) (q u q₀ u₀ : List ℤ)
   unfolding dependsWith valueWith
   value-kept zero i = source-kept i
   value-kept (suc k) i =
-      let a = nat (p .nodes .a) k in let b = nat (p .nodes .b) k in let ih = value-kept k in
+      let a = natAt (p .nodes .a) k in let b = natAt (p .nodes .b) k in let ih = value-kept k in
       let on = dependsWith p d t k in
       choice-kept (eqb i (p .counts .n + p .counts .m + k))
-      (node-kept (nat (p .nodes .kinds) k) (int (p .nodes .lows) k) (int (p .nodes .highs) k) (on a) (on b) (ih a) (ih b)) (ih i)
+      (node-kept (natAt (p .nodes .kinds) k) (intAt (p .nodes .lows) k) (intAt (p .nodes .highs) k) (on a) (on b) (ih a) (ih b)) (ih i)
 
   -- over the first e links
   sum-kept : (i e : ℕ) → some (linkReaches p d t i) e ≡ false → sumOver p q u i e ≡ sumOver p q₀ u₀ i e
@@ -80,13 +80,13 @@ module _ (p : Plan) (d : List ℕ) (t : ℕ) (q u q₀ u₀ : List ℤ)
   sum-kept i zero h = refl
   sum-kept i (suc e) h =
       let b = or-false (some (linkReaches p d t i) e) _ h in
-      ap₂ (λ x y. x +ℤ y) (sum-kept i e (b .0)) (go (eqb (nat (p .links .targets) e) i) (b .1))
+      ap₂ (λ x y. x +ℤ y) (sum-kept i e (b .0)) (go (eqb (natAt (p .links .targets) e) i) (b .1))
     where
       j : ℕ
-      j = nat (p .links .sources) e
+      j = natAt (p .links .sources) e
 
       term : Bool → ℤ → ℤ
-      term own value = cond own (int (p .links .coefficients) e *ℤ value) (pos 0)
+      term own value = cond own (intAt (p .links .coefficients) e *ℤ value) (pos 0)
 
       go : (b : Bool) → (b && dependsWith p d t (p .counts .k) j) ≡ false → term b (valueWith p q u (p .counts .k) j) ≡ term b (valueWith p q₀ u₀ (p .counts .k) j)
       go true f = ap (term true) (value-kept (p .counts .k) j f)

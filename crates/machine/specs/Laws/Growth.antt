@@ -8,7 +8,7 @@ use lib.Dec.{eqb}
 use borrow.Author.Tests.{eq-eqb, ne-eqb}
 use Rattle.bitset.specs.Mask.{countOf}
 use Rattle.bitset.specs.Counts.{countOf-ext, countOf-all, countOf-le}
-use Rattle.plan.specs.Lists.{nat}
+use Rattle.plan.specs.Lists.{natAt}
 use Rattle.plan.specs.Laws.Counts.{counts-of}
 use Rattle.plan.specs.declared.Plan.{Plan}
 use Rattle.machine.specs.Instant.{moves, takenAt, tickOf, instant}
@@ -58,9 +58,9 @@ module _ (p : Plan) (r : Running) (ok : SoundRunning p r) (m : Plain) (a : Agree
       who : ℕ → Bool
       who = moves p engine (r .d) t
 
-      marked : (i : ℕ) → i < p .counts .n → eqb (nat (takenAt p r t who .l) i) t ≡ who i
+      marked : (i : ℕ) → i < p .counts .n → eqb (natAt (takenAt p r t who .l) i) t ≡ who i
       marked i h = rw (l-at p (counts-of p (ok .plan .counts)) r t who i h) (go (who i))
         where
-          go : (b : Bool) → eqb (cond b t (nat (r .l) i)) t ≡ b
+          go : (b : Bool) → eqb (cond b t (natAt (r .l) i)) t ≡ b
           go true = eq-eqb t t refl
-          go false = ne-eqb (nat (r .l) i) t (λ e. omega (arith, tick-after p r ok, ok .integrators i h .moved))
+          go false = ne-eqb (natAt (r .l) i) t (λ e. omega (arith, tick-after p r ok, ok .integrators i h .moved))

@@ -11,7 +11,7 @@ use lib.Signed.{ltZ, _≤ℤ_, _<ℤ_}
 use Rattle.integers.specs.Parts.{up, ∣_∣, sum, dif, tight, zs}
 use Rattle.integers.specs.Division.{ceilDiv, ceil-most}
 use Rattle.plan.specs.Format.{M}
-use Rattle.plan.specs.Lists.{int}
+use Rattle.plan.specs.Lists.{intAt}
 use Rattle.plan.specs.Rules.{IntegratorRule}
 use Rattle.plan.specs.declared.Plan.{Plan}
 use Rattle.machine.specs.Due.{upperLevel, lowerLevel, distance, ticksTo}
@@ -40,20 +40,20 @@ pub distance-least : (p : Plan) (q : List ℤ) (i : ℕ) (x : ℤ) → Between p
 distance-least p q i x inside s =
     omega (arith, zs, distance-positive x (upperLevel p q i) (lowerLevel p q i) s (inside .above) (inside .below))
 
-module _ (p : Plan) (q : List ℤ) (i : ℕ) (rule : IntegratorRule p i) (output : ∣ int q i ∣ ≤ M) where
+module _ (p : Plan) (q : List ℤ) (i : ℕ) (rule : IntegratorRule p i) (output : ∣ intAt q i ∣ ≤ M) where
   pub upper-size : ∣ upperLevel p q i ∣ ≤ 2 ^ 31
   unfolding upperLevel
-  upper-size = let a = int q i in let b = int (p .integrators .quanta) i in omega (arith, zs, sum a b, tight b)
+  upper-size = let a = intAt q i in let b = intAt (p .integrators .quanta) i in omega (arith, zs, sum a b, tight b)
 
   pub lower-size : ∣ lowerLevel p q i ∣ ≤ 2 ^ 31
   unfolding lowerLevel
-  lower-size = let a = int q i in let b = int (p .integrators .quanta) i in omega (arith, zs, dif a b, tight b)
+  lower-size = let a = intAt q i in let b = intAt (p .integrators .quanta) i in omega (arith, zs, dif a b, tight b)
 
   -- from level to level
   width : (upperLevel p q i -ℤ lowerLevel p q i) ≤ℤ pos (2 ^ 31)
   unfolding upperLevel lowerLevel
   width =
-      let a = int q i in let b = int (p .integrators .quanta) i in
+      let a = intAt q i in let b = intAt (p .integrators .quanta) i in
       omega (arith, zs, sum a b, dif a b, dif (a +ℤ b) (a -ℤ b), tight b)
 
   module _ (x : ℤ) (inside : Between p q i x) where

@@ -6,7 +6,7 @@ use Prim.Native.Nat.{ℕ, _-_, _≤_, _<_}
 use native.Mathlib.Omega.{arith}
 use lib.IntN.{pos, _+ℤ_, _*ℤ_, +ℤ-idr, *ℤ-zero}
 use borrow.Author.Tests.{eqb-false}
-use Rattle.plan.specs.Lists.{nat, int, row}
+use Rattle.plan.specs.Lists.{natAt, intAt, row}
 use Rattle.plan.specs.Laws.Rows.{row-at, row-ext}
 use Rattle.plan.specs.Laws.Searches.{or-false}
 use Rattle.plan.specs.Laws.Counts.{Counts, counts-of}
@@ -23,30 +23,30 @@ use Rattle.machine.specs.Laws.Positions.{inside, due-is, moved-before, s
 use Rattle.machine.specs.declared.Running.{Running}
 
 -- at a tick from the clock on, up to which nothing is due
-module _ (p : Plan) (r : Running) (ok : SoundRunning p r) (t : ℕ) (after : r .clocks .clock ≤ t) (least : (i : ℕ) → i < p .counts .n → t ≤ nat (r .d) i) where
+module _ (p : Plan) (r : Running) (ok : SoundRunning p r) (t : ℕ) (after : r .clocks .clock ≤ t) (least : (i : ℕ) → i < p .counts .n → t ≤ natAt (r .d) i) where
   pub limits : Counts p
   limits = counts-of p (ok .plan .counts)
 
-  not-yet : (i : ℕ) → i < p .counts .n → isDue (r .d) t i ≡ false → t < nat (r .d) i
+  not-yet : (i : ℕ) → i < p .counts .n → isDue (r .d) t i ≡ false → t < natAt (r .d) i
   unfolding isDue
-  not-yet i h e = omega (arith, least i h, eqb-false (nat (r .d) i) t e)
+  not-yet i h e = omega (arith, least i h, eqb-false (natAt (r .d) i) t e)
 
   -- one that is not due stays between its levels, and its due tick stays what it is
   pub between-then : (i : ℕ) → i < p .counts .n → isDue (r .d) t i ≡ false → Between p (r .q) i (positionAt r t i)
   between-then i h e = stays-inside p r ok i h t after (not-yet i h e)
 
-  due-same : (i : ℕ) → i < p .counts .n → isDue (r .d) t i ≡ false → dueOf p (r .q) i t (positionAt r t i) (int (r .s) i) ≡ nat (r .d) i
+  due-same : (i : ℕ) → i < p .counts .n → isDue (r .d) t i ≡ false → dueOf p (r .q) i t (positionAt r t i) (intAt (r .s) i) ≡ natAt (r .d) i
   unfolding dueOf positionAt
   due-same i h e =
       let old = inside p r ok i h in
       let before = rw (due-is p r ok i h) at (not-yet i h e) in
-      due-later (nat (r .l) i) t _ _ _ _ (old .above) (old .below) (moved-before p r ok i h t after) before ∙ sym (due-is p r ok i h)
+      due-later (natAt (r .l) i) t _ _ _ _ (old .above) (old .below) (moved-before p r ok i h t after) before ∙ sym (due-is p r ok i h)
 
   -- an integrator that is not reached keeps its slope; one that is not due either keeps its due tick
-  pub slope-kept : (i : ℕ) → i < p .counts .n → reached p (r .d) t i ≡ false → slopeThen p r t i ≡ int (r .s) i
+  pub slope-kept : (i : ℕ) → i < p .counts .n → reached p (r .d) t i ≡ false → slopeThen p r t i ≡ intAt (r .s) i
   slope-kept i h e = slope-frame p limits r t i e ∙ sym (ok .integrators i h .rate)
 
-  pub due-kept : (i : ℕ) → i < p .counts .n → isDue (r .d) t i ≡ false → reached p (r .d) t i ≡ false → dueThen p r t i ≡ nat (r .d) i
+  pub due-kept : (i : ℕ) → i < p .counts .n → isDue (r .d) t i ≡ false → reached p (r .d) t i ≡ false → dueThen p r t i ≡ natAt (r .d) i
   unfolding dueThen dueOf upperLevel lowerLevel
   due-kept i h e f = rw (x-then p limits r t i h, slope-kept i h f, output-kept p limits r t i h e) (due-same i h e)
 
@@ -62,7 +62,7 @@ module _ (p : Plan) (r : Running) (ok : SoundRunning p r) (t : ℕ) (after : r .
     unfolding takenAt
     slopes-then = row-ext (pos 0) 32 (p .counts .n) _ _ (λ i h. go i h (moved i) refl)
       where
-        go : (i : ℕ) → i < p .counts .n → (b : Bool) → moved i ≡ b → cond b (slopeThen p r t i) (int (r .s) i) ≡ slopeThen p r t i
+        go : (i : ℕ) → i < p .counts .n → (b : Bool) → moved i ≡ b → cond b (slopeThen p r t i) (intAt (r .s) i) ≡ slopeThen p r t i
         go i h true e = refl
         go i h false e = sym (slope-kept i h (not-reached i h e))
 
@@ -70,14 +70,14 @@ module _ (p : Plan) (r : Running) (ok : SoundRunning p r) (t : ℕ) (after : r .
     unfolding takenAt
     dues-then = row-ext 0 32 (p .counts .n) _ _ (λ i h. go i h (moved i) refl)
       where
-        go : (i : ℕ) → i < p .counts .n → (b : Bool) → moved i ≡ b → cond b (dueThen p r t i) (nat (r .d) i) ≡ dueThen p r t i
+        go : (i : ℕ) → i < p .counts .n → (b : Bool) → moved i ≡ b → cond b (dueThen p r t i) (natAt (r .d) i) ≡ dueThen p r t i
         go i h true e = refl
         go i h false e = sym (due-kept i h (not-due i h e) (not-reached i h e))
 
-    pub slope-at : (i : ℕ) → i < p .counts .n → int (takenAt p r t moved .s) i ≡ slopeThen p r t i
+    pub slope-at : (i : ℕ) → i < p .counts .n → intAt (takenAt p r t moved .s) i ≡ slopeThen p r t i
     slope-at i h = rw slopes-then (row-at (pos 0) 32 (p .counts .n) _ i (limits .n) h)
 
-    pub due-at : (i : ℕ) → i < p .counts .n → nat (takenAt p r t moved .d) i ≡ dueThen p r t i
+    pub due-at : (i : ℕ) → i < p .counts .n → natAt (takenAt p r t moved .d) i ≡ dueThen p r t i
     due-at i h = rw dues-then (row-at 0 32 (p .counts .n) _ i (limits .n) h)
 
     -- the position at the instant's tick does not depend on who moved
@@ -86,7 +86,7 @@ module _ (p : Plan) (r : Running) (ok : SoundRunning p r) (t : ℕ) (after : r .
     place-then i h = rw (x-at p limits r t moved i h, l-at p limits r t moved i h, slope-at i h) (go (moved i) refl)
       where
         go : (b : Bool) → moved i ≡ b →
-            cond b (positionAt r t i) (int (r .x) i) +ℤ slopeThen p r t i *ℤ pos (t - cond b t (nat (r .l) i)) ≡ positionAt r t i
+            cond b (positionAt r t i) (intAt (r .x) i) +ℤ slopeThen p r t i *ℤ pos (t - cond b t (natAt (r .l) i)) ≡ positionAt r t i
         go true e =
             let z : t - t ≡ 0 = omega arith in
             rw z (ap (λ y. positionAt r t i +ℤ y) (*ℤ-zero (slopeThen p r t i)) ∙ +ℤ-idr (positionAt r t i))
@@ -94,12 +94,12 @@ module _ (p : Plan) (r : Running) (ok : SoundRunning p r) (t : ℕ) (after : r .
 
     -- and the due tick is by rule from where and when the integrator was moved last
     pub due-by-rule : (i : ℕ) → i < p .counts .n →
-        dueThen p r t i ≡ dueOf p (outputs p r t) i (cond (moved i) t (nat (r .l) i)) (cond (moved i) (positionAt r t i) (int (r .x) i)) (slopeThen p r t i)
+        dueThen p r t i ≡ dueOf p (outputs p r t) i (cond (moved i) t (natAt (r .l) i)) (cond (moved i) (positionAt r t i) (intAt (r .x) i)) (slopeThen p r t i)
     unfolding dueThen dueOf upperLevel lowerLevel
     due-by-rule i h = go (moved i) refl
       where
         go : (b : Bool) → moved i ≡ b →
-            dueThen p r t i ≡ dueOf p (outputs p r t) i (cond b t (nat (r .l) i)) (cond b (positionAt r t i) (int (r .x) i)) (slopeThen p r t i)
+            dueThen p r t i ≡ dueOf p (outputs p r t) i (cond b t (natAt (r .l) i)) (cond b (positionAt r t i) (intAt (r .x) i)) (slopeThen p r t i)
         go true e = rw (x-then p limits r t i h)
         go false e =
             due-kept i h (not-due i h e) (not-reached i h e) ∙ ok .integrators i h .due

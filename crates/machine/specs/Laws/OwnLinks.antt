@@ -7,43 +7,43 @@ use native.Mathlib.Omega.{arith}
 use lib.Dec.{eqb}
 use borrow.Author.Tests.{eqb-true, eqb-false, eq-eqb, ne-eqb}
 use Rattle.bitset.specs.Mask.{countOf}
-use Rattle.plan.specs.Lists.{nat}
+use Rattle.plan.specs.Lists.{natAt}
 use Rattle.plan.specs.Rules.{Ascends, PlanRules}
 use Rattle.plan.specs.Laws.Counts.{counts-of}
 use Rattle.plan.specs.declared.Plan.{Plan}
 
 -- how many of the first e links are integrator i's
 abbrev pub ownLinks : Plan → ℕ → ℕ → ℕ
-ownLinks p i e = countOf (λ j. eqb (nat (p .links .targets) j) i) e
+ownLinks p i e = countOf (λ j. eqb (natAt (p .links .targets) j) i) e
 
-own : (p : Plan) (i e : ℕ) → nat (p .links .targets) e ≡ i → ownLinks p i (suc e) ≡ suc (ownLinks p i e)
+own : (p : Plan) (i e : ℕ) → natAt (p .links .targets) e ≡ i → ownLinks p i (suc e) ≡ suc (ownLinks p i e)
 unfolding countOf
-own p i e h = rw (eq-eqb (nat (p .links .targets) e) i h)
+own p i e h = rw (eq-eqb (natAt (p .links .targets) e) i h)
 
-other : (p : Plan) (i e : ℕ) → (nat (p .links .targets) e ≡ i → ⊥) → ownLinks p i (suc e) ≡ ownLinks p i e
+other : (p : Plan) (i e : ℕ) → (natAt (p .links .targets) e ≡ i → ⊥) → ownLinks p i (suc e) ≡ ownLinks p i e
 unfolding countOf
-other p i e h = rw (ne-eqb (nat (p .links .targets) e) i h)
+other p i e h = rw (ne-eqb (natAt (p .links .targets) e) i h)
 
 -- what the order says of the links before link e
 record Earlier (p : Plan) (i e : ℕ) : Type 0 where
   -- link e is the integrator's: the sources of the earlier ones are different numbers below its source
-  fewer : nat (p .links .targets) e ≡ i → ownLinks p i e ≤ nat (p .links .sources) e
+  fewer : natAt (p .links .targets) e ≡ i → ownLinks p i e ≤ natAt (p .links .sources) e
   -- its target is lower: none is the integrator's
-  none : nat (p .links .targets) e < i → ownLinks p i e ≡ 0
+  none : natAt (p .links .targets) e < i → ownLinks p i e ≡ 0
 
 next : (p : Plan) (i e : ℕ) → Ascends (p .links .targets) (p .links .sources) (suc e) → Earlier p i e → Earlier p i (suc e)
 next p i e order b = go (order e refl)
   where
-    lower : nat (p .links .targets) e < i → ownLinks p i (suc e) ≡ 0
+    lower : natAt (p .links .targets) e < i → ownLinks p i (suc e) ≡ 0
     lower h = other p i e (omega arith) ∙ b .none h
 
-    go : (nat (p .links .targets) e < nat (p .links .targets) (suc e))
-        ⊎ ((nat (p .links .targets) e ≡ nat (p .links .targets) (suc e)) × (nat (p .links .sources) e < nat (p .links .sources) (suc e)))
+    go : (natAt (p .links .targets) e < natAt (p .links .targets) (suc e))
+        ⊎ ((natAt (p .links .targets) e ≡ natAt (p .links .targets) (suc e)) × (natAt (p .links .sources) e < natAt (p .links .sources) (suc e)))
         → Earlier p i (suc e)
     go (inl h) = record { fewer = λ k. omega (arith, lower (omega arith)); none = λ k. lower (omega arith) }
     go (inr h) =
         record {
-          fewer = λ k. let same : nat (p .links .targets) e ≡ i = omega arith in omega (arith, own p i e same, b .fewer same);
+          fewer = λ k. let same : natAt (p .links .targets) e ≡ i = omega arith in omega (arith, own p i e same, b .fewer same);
           none = λ k. lower (omega arith);
         }
 
@@ -60,13 +60,13 @@ module _ (p : Plan) (rules : PlanRules p) where
   pub own-before : (i e : ℕ) → e ≤ p .counts .links → ownLinks p i e ≤ 56
   unfolding countOf
   own-before i zero h = omega arith
-  own-before i (suc e) h = go (eqb (nat (p .links .targets) e) i) refl (own-before i e (omega arith))
+  own-before i (suc e) h = go (eqb (natAt (p .links .targets) e) i) refl (own-before i e (omega arith))
     where
-      go : (b : Bool) → eqb (nat (p .links .targets) e) i ≡ b → ownLinks p i e ≤ 56 → ownLinks p i (suc e) ≤ 56
+      go : (b : Bool) → eqb (natAt (p .links .targets) e) i ≡ b → ownLinks p i e ≤ 56 → ownLinks p i (suc e) ≤ 56
       go true t k =
-          let same = eqb-true (nat (p .links .targets) e) i t in
+          let same = eqb-true (natAt (p .links .targets) e) i t in
           omega (arith, own p i e same, before i e h .fewer same, rules .links e h .source, sources-most)
-      go false t k = omega (arith, other p i e (eqb-false (nat (p .links .targets) e) i t))
+      go false t k = omega (arith, other p i e (eqb-false (natAt (p .links .targets) e) i t))
 
   pub own-links : (i : ℕ) → ownLinks p i (p .counts .links) ≤ 56
   own-links i = own-before i (p .counts .links) (omega arith)

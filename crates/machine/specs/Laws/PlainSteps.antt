@@ -3,7 +3,7 @@ use mathlib.Core.Path.{_≡_, _∙_}
 use mathlib.Core.List.{List}
 use Prim.Native.Nat.{ℕ, _<_}
 use lib.IntN.{ℤ, pos}
-use Rattle.plan.specs.Lists.{nat, int}
+use Rattle.plan.specs.Lists.{natAt, intAt}
 use Rattle.plan.specs.Rules.{PlanRules}
 use Rattle.plan.specs.Laws.Counts.{Counts, counts-of}
 use Rattle.plan.specs.Laws.Rows.{row-at}
@@ -16,11 +16,11 @@ use Rattle.machine.specs.Laws.Taken.{output-due, output-not-due}
 
 -- ---- slopes and due ticks by rule
 module _ (p : Plan) (limits : Counts p) (x q u : List ℤ) (t instants i : ℕ) (h : i < p .counts .n) where
-  settled-slope : int (settled p x q u t instants .s) i ≡ rateOf p q u i
+  settled-slope : intAt (settled p x q u t instants .s) i ≡ rateOf p q u i
   unfolding settled
   settled-slope = row-at (pos 0) 32 (p .counts .n) _ i (limits .n) h
 
-  settled-due : nat (settled p x q u t instants .d) i ≡ dueOf p q i t (int x i) (int (settled p x q u t instants .s) i)
+  settled-due : natAt (settled p x q u t instants .d) i ≡ dueOf p q i t (intAt x i) (intAt (settled p x q u t instants .s) i)
   unfolding settled
   settled-due = row-at 0 32 (p .counts .n) _ i (limits .n) h ∙ rw settled-slope
 
@@ -29,11 +29,11 @@ module _ (p : Plan) (rules : PlanRules p) where
   abbrev begun : Plain
   begun = plainStart p
 
-  pub began-s : (i : ℕ) → i < p .counts .n → int (begun .s) i ≡ rateOf p (begun .q) (begun .inputs) i
+  pub began-s : (i : ℕ) → i < p .counts .n → intAt (begun .s) i ≡ rateOf p (begun .q) (begun .inputs) i
   unfolding plainStart settled
   began-s = settled-slope p (counts-of p (rules .counts)) (p .integrators .starts) (p .integrators .starts) (p .inputs .firsts) 0 0
 
-  pub began-d : (i : ℕ) → i < p .counts .n → nat (begun .d) i ≡ dueOf p (begun .q) i 0 (int (begun .x) i) (int (begun .s) i)
+  pub began-d : (i : ℕ) → i < p .counts .n → natAt (begun .d) i ≡ dueOf p (begun .q) i 0 (intAt (begun .x) i) (intAt (begun .s) i)
   unfolding plainStart settled
   began-d = settled-due p (counts-of p (rules .counts)) (p .integrators .starts) (p .integrators .starts) (p .inputs .firsts) 0 0
 
@@ -49,33 +49,33 @@ module _ (p : Plan) (rules : PlanRules p) (m : Plain) where
   then = plainInstant p m
 
   -- 1. outputs
-  pub plain-due : (i : ℕ) → i < p .counts .n → nat (m .d) i ≡ t → int (then .q) i ≡ plainPosition p m i
+  pub plain-due : (i : ℕ) → i < p .counts .n → natAt (m .d) i ≡ t → intAt (then .q) i ≡ plainPosition p m i
   unfolding plainInstant settled plainOutputs
   plain-due = output-due p limits (m .d) t (plainPosition p m) (m .q)
 
-  pub plain-not-due : (i : ℕ) → i < p .counts .n → (nat (m .d) i ≡ t → ⊥) → int (then .q) i ≡ int (m .q) i
+  pub plain-not-due : (i : ℕ) → i < p .counts .n → (natAt (m .d) i ≡ t → ⊥) → intAt (then .q) i ≡ intAt (m .q) i
   unfolding plainInstant settled plainOutputs
   plain-not-due = output-not-due p limits (m .d) t (plainPosition p m) (m .q)
 
   -- 2. inputs
-  pub plain-set : (j e : ℕ) → j < p .counts .m → e < p .counts .commands → nat (p .commands .ticks) e ≡ t → nat (p .commands .inputs) e ≡ j → int (then .inputs) j ≡ int (p .commands .values) e
+  pub plain-set : (j e : ℕ) → j < p .counts .m → e < p .counts .commands → natAt (p .commands .ticks) e ≡ t → natAt (p .commands .inputs) e ≡ j → intAt (then .inputs) j ≡ intAt (p .commands .values) e
   unfolding plainInstant settled
   plain-set = setting-of p rules (m .inputs) t
 
-  pub plain-not-set : (j : ℕ) → j < p .counts .m → ((e : ℕ) → e < p .counts .commands → nat (p .commands .ticks) e ≡ t → nat (p .commands .inputs) e ≡ j → ⊥)
-      → int (then .inputs) j ≡ int (m .inputs) j
+  pub plain-not-set : (j : ℕ) → j < p .counts .m → ((e : ℕ) → e < p .counts .commands → natAt (p .commands .ticks) e ≡ t → natAt (p .commands .inputs) e ≡ j → ⊥)
+      → intAt (then .inputs) j ≡ intAt (m .inputs) j
   unfolding plainInstant settled
   plain-not-set = setting-not-set p rules (m .inputs) t
 
   -- 5. "every integrator moved"
-  pub plain-x : (i : ℕ) → i < p .counts .n → int (then .x) i ≡ plainPosition p m i
+  pub plain-x : (i : ℕ) → i < p .counts .n → intAt (then .x) i ≡ plainPosition p m i
   unfolding plainInstant settled
   plain-x i h = row-at (pos 0) 32 (p .counts .n) (plainPosition p m) i (limits .n) h
 
-  pub plain-s : (i : ℕ) → i < p .counts .n → int (then .s) i ≡ rateOf p (then .q) (then .inputs) i
+  pub plain-s : (i : ℕ) → i < p .counts .n → intAt (then .s) i ≡ rateOf p (then .q) (then .inputs) i
   unfolding plainInstant settled
   plain-s = settled-slope p limits (then .x) (then .q) (then .inputs) t (then .instants)
 
-  pub plain-d : (i : ℕ) → i < p .counts .n → nat (then .d) i ≡ dueOf p (then .q) i t (int (then .x) i) (int (then .s) i)
+  pub plain-d : (i : ℕ) → i < p .counts .n → natAt (then .d) i ≡ dueOf p (then .q) i t (intAt (then .x) i) (intAt (then .s) i)
   unfolding plainInstant settled
   plain-d = settled-due p limits (then .x) (then .q) (then .inputs) t (then .instants)

@@ -9,7 +9,7 @@ use lib.IntN.{ℤ, pos, _*ℤ_}
 use lib.Signed.{_<ℤ_}
 use Rattle.integers.specs.Parts.{up, ∣_∣, sum, prod, tight, zs}
 use Rattle.plan.specs.Format.{M}
-use Rattle.plan.specs.Lists.{nat, int}
+use Rattle.plan.specs.Lists.{natAt, intAt}
 use Rattle.plan.specs.Rules.{IntegratorRule}
 use Rattle.plan.specs.Laws.Means.{within-size}
 use Rattle.plan.specs.declared.Plan.{Plan}
@@ -34,32 +34,32 @@ move-most l t x upper lower s above below since early =
     let k : t - l ≤ ticksTo x upper lower s = omega arith in omega (arith, mul-le-mul-left ∣ s ∣ k))
 
 module _ (p : Plan) (r : Running) (sound : SoundRunning p r) (i : ℕ) (used : i < p .counts .n) where
-  pub inside : Between p (r .q) i (int (r .x) i)
-  inside = near-between p (r .q) i (int (r .x) i) .0 (sound .integrators i used .near)
+  pub inside : Between p (r .q) i (intAt (r .x) i)
+  inside = near-between p (r .q) i (intAt (r .x) i) .0 (sound .integrators i used .near)
 
-  pub due-is : nat (r .d) i ≡ dueTick (nat (r .l) i) (int (r .x) i) (upperLevel p (r .q) i) (lowerLevel p (r .q) i) (int (r .s) i)
+  pub due-is : natAt (r .d) i ≡ dueTick (natAt (r .l) i) (intAt (r .x) i) (upperLevel p (r .q) i) (lowerLevel p (r .q) i) (intAt (r .s) i)
   unfolding dueOf
   due-is = sound .integrators i used .due
 
   rule : IntegratorRule p i
   rule = sound .plan .integrators i used
 
-  output : ∣ int (r .q) i ∣ ≤ M
+  output : ∣ intAt (r .q) i ∣ ≤ M
   output = sound .integrators i used .output
 
-  pub moved-before : (t : ℕ) → r .clocks .clock ≤ t → nat (r .l) i ≤ t
+  pub moved-before : (t : ℕ) → r .clocks .clock ≤ t → natAt (r .l) i ≤ t
   moved-before t since = omega (arith, sound .integrators i used .moved)
 
-  pub slope-size : ∣ int (r .s) i ∣ ≤ 56 * 2 ^ 38
+  pub slope-size : ∣ intAt (r .s) i ∣ ≤ 56 * 2 ^ 38
   slope-size =
       rw (sound .integrators i used .rate)
       (rate-size p (r .q) (r .inputs) (sound .plan)
       (λ j h. sound .integrators j h .output)
-      (λ j h. within-size M (int (r .inputs) j) .0 (sound .inputs j h))
+      (λ j h. within-size M (intAt (r .inputs) j) .0 (sound .inputs j h))
       i)
 
   -- before its due tick it stays strictly between its levels
-  pub stays-inside : (t : ℕ) → r .clocks .clock ≤ t → t < nat (r .d) i → Between p (r .q) i (positionAt r t i)
+  pub stays-inside : (t : ℕ) → r .clocks .clock ≤ t → t < natAt (r .d) i → Between p (r .q) i (positionAt r t i)
   unfolding positionAt
   stays-inside t since early =
       let before = rw due-is at early in
@@ -75,37 +75,37 @@ module _ (p : Plan) (r : Running) (sound : SoundRunning p r) (i : ℕ) (used : i
       (stays-inside (r .clocks .clock) (omega arith) (sound .integrators i used .ahead))
 
   -- the due tick of one that moves
-  due-soon : (int (r .s) i ≡ pos 0 → ⊥) → nat (r .d) i ≤ 2000000000 + (2 ^ 31 - 1)
-  due-soon m = most (due-is ∙ due-moving _ _ _ _ _ m) (ticks-most p (r .q) i rule output (int (r .x) i) inside (int (r .s) i))
+  due-soon : (intAt (r .s) i ≡ pos 0 → ⊥) → natAt (r .d) i ≤ 2000000000 + (2 ^ 31 - 1)
+  due-soon m = most (due-is ∙ due-moving _ _ _ _ _ m) (ticks-most p (r .q) i rule output (intAt (r .x) i) inside (intAt (r .s) i))
     where
-      most : {T : ℕ} → nat (r .d) i ≡ nat (r .l) i + T → T < 2 ^ 31 → nat (r .d) i ≤ 2000000000 + (2 ^ 31 - 1)
+      most : {T : ℕ} → natAt (r .d) i ≡ natAt (r .l) i + T → T < 2 ^ 31 → natAt (r .d) i ≤ 2000000000 + (2 ^ 31 - 1)
       most e h = omega (arith, sound .integrators i used .moved, sound .clock, sound .plan .horizon)
 
   -- is a tick, below never
-  pub due-tick : (int (r .s) i ≡ pos 0 → ⊥) → nat (r .d) i < never
+  pub due-tick : (intAt (r .s) i ≡ pos 0 → ⊥) → natAt (r .d) i < never
   due-tick m = omega (arith, due-soon m)
 
-  pub due-most : (nat (r .d) i ≡ never) ⊎ (nat (r .d) i ≤ 2000000000 + (2 ^ 31 - 1))
+  pub due-most : (natAt (r .d) i ≡ never) ⊎ (natAt (r .d) i ≤ 2000000000 + (2 ^ 31 - 1))
   due-most =
-      slope-cases (int (r .s) i) ((nat (r .d) i ≡ never) ⊎ (nat (r .d) i ≤ 2000000000 + (2 ^ 31 - 1)))
+      slope-cases (intAt (r .s) i) ((natAt (r .d) i ≡ never) ⊎ (natAt (r .d) i ≤ 2000000000 + (2 ^ 31 - 1)))
       (λ e. inl (due-is ∙ due-still _ _ _ _ _ e))
       (λ m. inr (due-soon m))
 
   -- up to the due tick: the distance is below 2^31, and the last tick's move goes past the level by less than the slope's size
-  move-size : (t : ℕ) → r .clocks .clock ≤ t → t ≤ nat (r .d) i → ∣ int (r .s) i *ℤ pos (t - nat (r .l) i) ∣ < 2 ^ 31 + 56 * 2 ^ 38
+  move-size : (t : ℕ) → r .clocks .clock ≤ t → t ≤ natAt (r .d) i → ∣ intAt (r .s) i *ℤ pos (t - natAt (r .l) i) ∣ < 2 ^ 31 + 56 * 2 ^ 38
   move-size t since early =
-      let x = int (r .x) i in let s = int (r .s) i in let d = distance x (upperLevel p (r .q) i) (lowerLevel p (r .q) i) s in
+      let x = intAt (r .x) i in let s = intAt (r .s) i in let d = distance x (upperLevel p (r .q) i) (lowerLevel p (r .q) i) s in
       let e = rw due-is at early in
       let move = move-most _ t _ _ _ _ (inside .above) (inside .below) (moved-before t since) e in
-      omega (arith, zs, prod s (pos (t - nat (r .l) i)), slope-size, distance-most p (r .q) i rule output x inside s, tight d)
+      omega (arith, zs, prod s (pos (t - natAt (r .l) i)), slope-size, distance-most p (r .q) i rule output x inside s, tight d)
 
-  pub elapsed-size : (t : ℕ) → r .clocks .clock ≤ t → t ≤ nat (r .d) i → ∣ int (r .s) i *ℤ pos (t - nat (r .l) i) ∣ < 2 ^ 32 + 2 ^ 44
+  pub elapsed-size : (t : ℕ) → r .clocks .clock ≤ t → t ≤ natAt (r .d) i → ∣ intAt (r .s) i *ℤ pos (t - natAt (r .l) i) ∣ < 2 ^ 32 + 2 ^ 44
   elapsed-size t since early = omega (arith, move-size t since early)
 
   -- the value that it takes there
-  pub value-at-due : ∣ positionAt r (nat (r .d) i) i ∣ < 2 ^ 32 + 2 ^ 44
+  pub value-at-due : ∣ positionAt r (natAt (r .d) i) i ∣ < 2 ^ 32 + 2 ^ 44
   unfolding positionAt
   value-at-due =
-      let x = int (r .x) i in let d = nat (r .d) i in
+      let x = intAt (r .x) i in let d = natAt (r .d) i in
       let move = move-size d (omega (arith, sound .integrators i used .ahead)) (omega arith) in
-      omega (arith, sum x (int (r .s) i *ℤ pos (d - nat (r .l) i)), inside-size p (r .q) i rule output x inside)
+      omega (arith, sum x (intAt (r .s) i *ℤ pos (d - natAt (r .l) i)), inside-size p (r .q) i rule output x inside)

@@ -6,7 +6,7 @@ use Prim.Native.Nat.{ℕ, zero, suc, _+_, _-_, _≤_, _<_}
 use native.Mathlib.Omega.{arith}
 use lib.Dec.{ltb, eqb}
 use borrow.Author.Tests.{ltb-true, ltb-false, lt-ltb, le-ltb, eqb-true, eqb-false, eq-eqb, ne-eqb}
-use Rattle.plan.specs.Lists.{nat, some}
+use Rattle.plan.specs.Lists.{natAt, some}
 use Rattle.plan.specs.Rules.{PlanRules}
 use Rattle.plan.specs.Laws.Means.{Means, means-false, eqb-means, both}
 use Rattle.plan.specs.Laws.Searches.{some-found, some-here}
@@ -17,11 +17,11 @@ use Rattle.machine.specs.Reach.{Changed, due, commanded, Depends, itself
 
 -- ---- commands
 module _ (p : Plan) (t j : ℕ) where
-  pub sets-means : (e : ℕ) → Means (setsInput p t j e) ((nat (p .commands .ticks) e ≡ t) × (nat (p .commands .inputs) e ≡ j))
+  pub sets-means : (e : ℕ) → Means (setsInput p t j e) ((natAt (p .commands .ticks) e ≡ t) × (natAt (p .commands .inputs) e ≡ j))
   unfolding setsInput
-  sets-means e = both (eqb-means (nat (p .commands .ticks) e) t) (eqb-means (nat (p .commands .inputs) e) j)
+  sets-means e = both (eqb-means (natAt (p .commands .ticks) e) t) (eqb-means (natAt (p .commands .inputs) e) j)
 
-  pub commanded-means : Means (isCommanded p t j) ((e : ℕ) × (e < p .counts .commands) × (nat (p .commands .ticks) e ≡ t) × (nat (p .commands .inputs) e ≡ j))
+  pub commanded-means : Means (isCommanded p t j) ((e : ℕ) × (e < p .counts .commands) × (natAt (p .commands .ticks) e ≡ t) × (natAt (p .commands .inputs) e ≡ j))
   unfolding isCommanded
   commanded-means = (
     λ h. let f = some-found (setsInput p t j) (p .counts .commands) h in let s = sets-means (f .0) .0 (f .2) in (f .0, f .1, s .0, s .1),
@@ -34,9 +34,9 @@ module _ (p : Plan) (d : List ℕ) (t : ℕ) where
   unfolding changes isDue
   changes-found i = go (ltb i (p .counts .n)) (ltb i (p .counts .n + p .counts .m)) refl refl
     where
-      go : (a b : Bool) → ltb i (p .counts .n) ≡ a → ltb i (p .counts .n + p .counts .m) ≡ b → cond a (eqb (nat d i) t) (b && isCommanded p t (i - p .counts .n)) ≡ true
+      go : (a b : Bool) → ltb i (p .counts .n) ≡ a → ltb i (p .counts .n + p .counts .m) ≡ b → cond a (eqb (natAt d i) t) (b && isCommanded p t (i - p .counts .n)) ≡ true
           → Changed p d t i
-      go true b h k e = due (ltb-true i (p .counts .n) h) (eqb-true (nat d i) t e)
+      go true b h k e = due (ltb-true i (p .counts .n) h) (eqb-true (natAt d i) t e)
       go false true h k e =
           let c = commanded-means p t (i - p .counts .n) .0 e in let l = ltb-false i (p .counts .n) h in
           commanded {i = i} (i - p .counts .n) (c .0) (omega arith) (omega (arith, ltb-true i (p .counts .n + p .counts .m) k)) (c .1) (c .2) (c .3)
@@ -44,7 +44,7 @@ module _ (p : Plan) (d : List ℕ) (t : ℕ) where
 
   changes-here : {i : ℕ} → Changed p d t i → (i < p .counts .n + p .counts .m) × (changes p d t i ≡ true)
   unfolding changes isDue
-  changes-here {i} (due h e) = (omega arith, rw (lt-ltb i (p .counts .n) h, eq-eqb (nat d i) t e))
+  changes-here {i} (due h e) = (omega arith, rw (lt-ltb i (p .counts .n) h, eq-eqb (natAt d i) t e))
   changes-here {i} (commanded j e k h l a b) =
       let c = commanded-means p t j .1 (e, l, a, b) in let same : i - p .counts .n ≡ j = omega arith in
       (omega arith, rw (le-ltb i (p .counts .n) (omega arith), lt-ltb i (p .counts .n + p .counts .m) (omega arith), same, c))
@@ -62,20 +62,20 @@ module _ (p : Plan) (d : List ℕ) (t : ℕ) where
   depends-found zero i h = λ e. itself (changes-found i e)
   depends-found (suc k) i h =
       go (λ s e. depends-found k s (omega arith) e) (eqb i (p .counts .n + p .counts .m + k)) refl (dependsWith p d t k a) refl
-      (eqb (nat (p .nodes .kinds) k) 2) refl
+      (eqb (natAt (p .nodes .kinds) k) 2) refl
     where
       a : ℕ
-      a = nat (p .nodes .a) k
+      a = natAt (p .nodes .a) k
 
       b : ℕ
-      b = nat (p .nodes .b) k
+      b = natAt (p .nodes .b) k
 
       go : ((s : ℕ) → dependsWith p d t k s ≡ true → Depends p d t s) → (this : Bool) → eqb i (p .counts .n + p .counts .m + k) ≡ this
-          → (onA : Bool) → dependsWith p d t k a ≡ onA → (two : Bool) → eqb (nat (p .nodes .kinds) k) 2 ≡ two
+          → (onA : Bool) → dependsWith p d t k a ≡ onA → (two : Bool) → eqb (natAt (p .nodes .kinds) k) 2 ≡ two
           → cond this (onA || (not two && dependsWith p d t k b)) (dependsWith p d t k i) ≡ true → Depends p d t i
       go ih true f true g two u e = left k (eqb-true i (p .counts .n + p .counts .m + k) f) h (ih a g)
       go ih true f false g true u e = absurd (true≢false (sym e))
-      go ih true f false g false u e = right k (eqb-true i (p .counts .n + p .counts .m + k) f) h (eqb-false (nat (p .nodes .kinds) k) 2 u) (ih b e)
+      go ih true f false g false u e = right k (eqb-true i (p .counts .n + p .counts .m + k) f) h (eqb-false (natAt (p .nodes .kinds) k) 2 u) (ih b e)
       go ih false f onA g two u e = ih i e
 
   -- an operand's answer is known where its node is looked at
@@ -88,23 +88,23 @@ module _ (p : Plan) (d : List ℕ) (t : ℕ) where
     unfolding dependsWith
     depends-here {i} (itself c) = let h = changes-here c in depends-same 0 (p .counts .k) i (omega arith) (omega (arith, h .0)) ∙ h .1
     depends-here {i} (left j e h l) =
-        let on = operand j (nat (p .nodes .a) j) h (rules .nodes j h .left) (depends-here l) in
+        let on = operand j (natAt (p .nodes .a) j) h (rules .nodes j h .left) (depends-here l) in
         depends-same (suc j) (p .counts .k) i h (omega arith) ∙ rw (eq-eqb i (p .counts .n + p .counts .m + j) e, on)
     depends-here {i} (right j e h kind r) =
-        let on = operand j (nat (p .nodes .b) j) h (rules .nodes j h .right kind) (depends-here r) in
+        let on = operand j (natAt (p .nodes .b) j) h (rules .nodes j h .right kind) (depends-here r) in
         depends-same (suc j) (p .counts .k) i h (omega arith)
-        ∙ rw (eq-eqb i (p .counts .n + p .counts .m + j) e, ne-eqb (nat (p .nodes .kinds) j) 2 kind, on, or-true (dependsWith p d t j (nat (p .nodes .a) j)))
+        ∙ rw (eq-eqb i (p .counts .n + p .counts .m + j) e, ne-eqb (natAt (p .nodes .kinds) j) 2 kind, on, or-true (dependsWith p d t j (natAt (p .nodes .a) j)))
 
   -- ---- which integrators are reached
-  link-means : (i e : ℕ) → Means (linkReaches p d t i e) ((nat (p .links .targets) e ≡ i) × (dependsWith p d t (p .counts .k) (nat (p .links .sources) e) ≡ true))
+  link-means : (i e : ℕ) → Means (linkReaches p d t i e) ((natAt (p .links .targets) e ≡ i) × (dependsWith p d t (p .counts .k) (natAt (p .links .sources) e) ≡ true))
   unfolding linkReaches
-  link-means i e = both (eqb-means (nat (p .links .targets) e) i) (λ h. h, λ h. h)
+  link-means i e = both (eqb-means (natAt (p .links .targets) e) i) (λ h. h, λ h. h)
 
   reached-found : (i : ℕ) → reached p d t i ≡ true → Reached p d t i
   unfolding reached
   reached-found i h =
       let f = some-found (linkReaches p d t i) (p .counts .links) h in let l = link-means i (f .0) .0 (f .2) in
-      link (f .0) (f .1) (l .0) (depends-found (p .counts .k) (nat (p .links .sources) (f .0)) (omega arith) (l .1))
+      link (f .0) (f .1) (l .0) (depends-found (p .counts .k) (natAt (p .links .sources) (f .0)) (omega arith) (l .1))
 
   -- one that is not
   pub reached-false : (i : ℕ) → (Reached p d t i → ⊥) → reached p d t i ≡ false

@@ -15,7 +15,7 @@ use Rattle.integers.specs.Division.{floored, floor-size}
 use Rattle.integers.specs.Range.{limited-size}
 use Rattle.bitset.specs.Mask.{countOf}
 use Rattle.plan.specs.Format.{M}
-use Rattle.plan.specs.Lists.{nat, int}
+use Rattle.plan.specs.Lists.{natAt, intAt}
 use Rattle.plan.specs.Rules.{NodeRule, PlanRules}
 use Rattle.plan.specs.Laws.Counts.{Counts, counts-of}
 use Rattle.plan.specs.Laws.Means.{within-size}
@@ -41,30 +41,30 @@ node-size kind lo hi a b l h =
     (size-cond (leZ b a) _ _ M h l)))
 
 -- of the nodes' operands, whether or not a node's kind uses them
-pub operands-most : (p : Plan) → PlanRules p → (j : ℕ) → j < p .counts .k → (nat (p .nodes .a) j ≤ 54) × (nat (p .nodes .b) j ≤ 54)
-operands-most p rules j h = go (counts-of p (rules .counts)) (rules .nodes j h) (eqb (nat (p .nodes .kinds) j) 2) refl
+pub operands-most : (p : Plan) → PlanRules p → (j : ℕ) → j < p .counts .k → (natAt (p .nodes .a) j ≤ 54) × (natAt (p .nodes .b) j ≤ 54)
+operands-most p rules j h = go (counts-of p (rules .counts)) (rules .nodes j h) (eqb (natAt (p .nodes .kinds) j) 2) refl
   where
-    go : Counts p → NodeRule p j → (b : Bool) → eqb (nat (p .nodes .kinds) j) 2 ≡ b → (nat (p .nodes .a) j ≤ 54) × (nat (p .nodes .b) j ≤ 54)
-    go c r true e = omega (arith, r .unused (eqb-true (nat (p .nodes .kinds) j) 2 e))
-    go c r false e = omega (arith, r .right (eqb-false (nat (p .nodes .kinds) j) 2 e))
+    go : Counts p → NodeRule p j → (b : Bool) → eqb (natAt (p .nodes .kinds) j) 2 ≡ b → (natAt (p .nodes .a) j ≤ 54) × (natAt (p .nodes .b) j ≤ 54)
+    go c r true e = omega (arith, r .unused (eqb-true (natAt (p .nodes .kinds) j) 2 e))
+    go c r false e = omega (arith, r .right (eqb-false (natAt (p .nodes .kinds) j) 2 e))
 
-limits-size : (p : Plan) (j : ℕ) → NodeRule p j → (∣ int (p .nodes .lows) j ∣ ≤ M) × (∣ int (p .nodes .highs) j ∣ ≤ M)
+limits-size : (p : Plan) (j : ℕ) → NodeRule p j → (∣ intAt (p .nodes .lows) j ∣ ≤ M) × (∣ intAt (p .nodes .highs) j ∣ ≤ M)
 limits-size p j r =
-    let w = node-limits p j r in (within-size M (int (p .nodes .lows) j) .0 (w .0), within-size M (int (p .nodes .highs) j) .0 (w .1))
+    let w = node-limits p j r in (within-size M (intAt (p .nodes .lows) j) .0 (w .0), within-size M (intAt (p .nodes .highs) j) .0 (w .1))
 
-module _ (p : Plan) (q u : List ℤ) (rules : PlanRules p) (outputs : (i : ℕ) → i < p .counts .n → ∣ int q i ∣ ≤ M)
-    (inputs : (j : ℕ) → j < p .counts .m → ∣ int u j ∣ ≤ M) where
+module _ (p : Plan) (q u : List ℤ) (rules : PlanRules p) (outputs : (i : ℕ) → i < p .counts .n → ∣ intAt q i ∣ ≤ M)
+    (inputs : (j : ℕ) → j < p .counts .m → ∣ intAt u j ∣ ≤ M) where
   with-size : (j : ℕ) → j ≤ p .counts .k → (i : ℕ) → ∣ valueWith p q u j i ∣ ≤ M
   unfolding valueWith
   with-size zero h i = go (ltb i (p .counts .n)) (ltb i (p .counts .n + p .counts .m)) refl refl
     where
-      go : (a b : Bool) → ltb i (p .counts .n) ≡ a → ltb i (p .counts .n + p .counts .m) ≡ b → ∣ cond a (int q i) (cond b (int u (i - p .counts .n)) (pos 0)) ∣ ≤ M
+      go : (a b : Bool) → ltb i (p .counts .n) ≡ a → ltb i (p .counts .n + p .counts .m) ≡ b → ∣ cond a (intAt q i) (cond b (intAt u (i - p .counts .n)) (pos 0)) ∣ ≤ M
       go true b e d = outputs i (ltb-true i (p .counts .n) e)
       go false true e d = inputs (i - p .counts .n) (omega (arith, ltb-true, ltb-false))
       go false false e d = omega arith
   with-size (suc j) h i =
       let l = limits-size p j (rules .nodes j h) in
-      size-cond (eqb i (p .counts .n + p .counts .m + j)) _ _ M (node-size (nat (p .nodes .kinds) j) _ _ _ _ (l .0) (l .1)) (with-size j (omega arith) i)
+      size-cond (eqb i (p .counts .n + p .counts .m + j)) _ _ M (node-size (natAt (p .nodes .kinds) j) _ _ _ _ (l .0) (l .1)) (with-size j (omega arith) i)
 
   pub value-size : (i : ℕ) → ∣ valueOf p q u i ∣ ≤ M
   unfolding valueOf
@@ -77,20 +77,20 @@ module _ (p : Plan) (q u : List ℤ) (rules : PlanRules p) (outputs : (i : ℕ) 
   product-size i j = size-mul (valueOf p q u i) (valueOf p q u j) M M (value-size i) (value-size j)
 
   -- ---- the rate
-  pub term-size : (e : ℕ) → e < p .counts .links → ∣ int (p .links .coefficients) e *ℤ valueOf p q u (nat (p .links .sources) e) ∣ ≤ 2 ^ 54
+  pub term-size : (e : ℕ) → e < p .counts .links → ∣ intAt (p .links .coefficients) e *ℤ valueOf p q u (natAt (p .links .sources) e) ∣ ≤ 2 ^ 54
   term-size e h =
-      let c = int (p .links .coefficients) e in
-      size-mul c (valueOf p q u (nat (p .links .sources) e)) 16777216 M (within-size 16777216 c .0 (rules .links e h .coefficient))
-      (value-size (nat (p .links .sources) e))
+      let c = intAt (p .links .coefficients) e in
+      size-mul c (valueOf p q u (natAt (p .links .sources) e)) 16777216 M (within-size 16777216 c .0 (rules .links e h .coefficient))
+      (value-size (natAt (p .links .sources) e))
 
   -- each own link adds at most one term's size
   sum-by-links : (i e : ℕ) → e ≤ p .counts .links → ∣ sumOver p q u i e ∣ ≤ ownLinks p i e * 2 ^ 54
   unfolding sumOver countOf
   sum-by-links i zero h = omega arith
-  sum-by-links i (suc e) h = go (eqb (nat (p .links .targets) e) i) (sum-by-links i e (omega arith))
+  sum-by-links i (suc e) h = go (eqb (natAt (p .links .targets) e) i) (sum-by-links i e (omega arith))
     where
       v : ℤ
-      v = int (p .links .coefficients) e *ℤ valueOf p q u (nat (p .links .sources) e)
+      v = intAt (p .links .coefficients) e *ℤ valueOf p q u (natAt (p .links .sources) e)
 
       go : (b : Bool) → ∣ sumOver p q u i e ∣ ≤ ownLinks p i e * 2 ^ 54
           → ∣ sumOver p q u i e +ℤ cond b v (pos 0) ∣ ≤ cond b (suc (ownLinks p i e)) (ownLinks p i e) * 2 ^ 54

@@ -10,7 +10,7 @@ use borrow.Author.Tests.{eqb-true}
 use Rattle.integers.specs.Parts.{∣_∣}
 use Rattle.bitset.specs.Counts.{countOf-le}
 use Rattle.plan.specs.Format.{M}
-use Rattle.plan.specs.Lists.{nat, int}
+use Rattle.plan.specs.Lists.{natAt, intAt}
 use Rattle.plan.specs.Laws.Rows.{row-unused}
 use Rattle.plan.specs.Laws.Counts.{Counts, counts-of}
 use Rattle.plan.specs.Laws.Means.{within-size}
@@ -42,7 +42,7 @@ covers p Eager d t i h e = absurd (true≢false e)
 pub record Takes (p : Plan) (r : Running) (t : ℕ) : Type 0 where
   pub after : r .clocks .clock < t
   pub until : t ≤ p .horizon
-  pub least : (i : ℕ) → i < p .counts .n → t ≤ nat (r .d) i
+  pub least : (i : ℕ) → i < p .counts .n → t ≤ natAt (r .d) i
   pub within : (i : ℕ) → i < p .counts .n → isDue (r .d) t i ≡ true → ∣ positionAt r t i ∣ ≤ M
 
 module _ (p : Plan) (r : Running) (ok : SoundRunning p r) (t : ℕ) (takes : Takes p r t) where
@@ -52,39 +52,39 @@ module _ (p : Plan) (r : Running) (ok : SoundRunning p r) (t : ℕ) (takes : Tak
   from : r .clocks .clock ≤ t
   from = omega (arith, takes .after)
 
-  pub output-size : (i : ℕ) → i < p .counts .n → ∣ int (outputs p r t) i ∣ ≤ M
+  pub output-size : (i : ℕ) → i < p .counts .n → ∣ intAt (outputs p r t) i ∣ ≤ M
   output-size i h = rw (outputs-at p limits r t i h) (go (isDue (r .d) t i) refl)
     where
-      go : (b : Bool) → isDue (r .d) t i ≡ b → ∣ cond b (positionAt r t i) (int (r .q) i) ∣ ≤ M
+      go : (b : Bool) → isDue (r .d) t i ≡ b → ∣ cond b (positionAt r t i) (intAt (r .q) i) ∣ ≤ M
       go true e = takes .within i h e
       go false e = ok .integrators i h .output
 
-  pub setting-size : (j : ℕ) → j < p .counts .m → ∣ int (settings p (r .inputs) t) j ∣ ≤ M
+  pub setting-size : (j : ℕ) → j < p .counts .m → ∣ intAt (settings p (r .inputs) t) j ∣ ≤ M
   setting-size = settings-size p (ok .plan) (r .inputs) t (λ k l. within-size M _ .0 (ok .inputs k l))
 
   -- a due integrator stands at its output; the others stay between their levels
-  pub near-output : (i : ℕ) → i < p .counts .n → pos ∣ positionAt r t i -ℤ int (outputs p r t) i ∣ <ℤ int (p .integrators .quanta) i
+  pub near-output : (i : ℕ) → i < p .counts .n → pos ∣ positionAt r t i -ℤ intAt (outputs p r t) i ∣ <ℤ intAt (p .integrators .quanta) i
   near-output i h = rw (outputs-at p limits r t i h) (go (isDue (r .d) t i) refl)
     where
-      go : (b : Bool) → isDue (r .d) t i ≡ b → pos ∣ positionAt r t i -ℤ cond b (positionAt r t i) (int (r .q) i) ∣ <ℤ int (p .integrators .quanta) i
-      go true e = near-itself (positionAt r t i) (int (p .integrators .quanta) i) (ok .plan .integrators i h .least)
+      go : (b : Bool) → isDue (r .d) t i ≡ b → pos ∣ positionAt r t i -ℤ cond b (positionAt r t i) (intAt (r .q) i) ∣ <ℤ intAt (p .integrators .quanta) i
+      go true e = near-itself (positionAt r t i) (intAt (p .integrators .quanta) i) (ok .plan .integrators i h .least)
       go false e = near-between p (r .q) i (positionAt r t i) .1 (between-then p r ok t from (takes .least) i h e)
 
   -- whoever moves
   module _ (moved : ℕ → Bool) (covers : (i : ℕ) → i < p .counts .n → moved i ≡ false → (isDue (r .d) t i || reached p (r .d) t i) ≡ false) where
     -- one that does not move is not due, and keeps its output
-    near-then : (i : ℕ) → i < p .counts .n → pos ∣ int (takenAt p r t moved .x) i -ℤ int (outputs p r t) i ∣ <ℤ int (p .integrators .quanta) i
+    near-then : (i : ℕ) → i < p .counts .n → pos ∣ intAt (takenAt p r t moved .x) i -ℤ intAt (outputs p r t) i ∣ <ℤ intAt (p .integrators .quanta) i
     near-then i h = rw (x-at p limits r t moved i h) (go (moved i) refl)
       where
-        go : (b : Bool) → moved i ≡ b → pos ∣ cond b (positionAt r t i) (int (r .x) i) -ℤ int (outputs p r t) i ∣ <ℤ int (p .integrators .quanta) i
+        go : (b : Bool) → moved i ≡ b → pos ∣ cond b (positionAt r t i) (intAt (r .x) i) -ℤ intAt (outputs p r t) i ∣ <ℤ intAt (p .integrators .quanta) i
         go true e = near-output i h
         go false e =
             rw (output-kept p limits r t i h (not-due p r ok t from (takes .least) moved covers i h e)) (ok .integrators i h .near)
 
-    moved-then : (i : ℕ) → i < p .counts .n → cond (moved i) t (nat (r .l) i) ≤ t
+    moved-then : (i : ℕ) → i < p .counts .n → cond (moved i) t (natAt (r .l) i) ≤ t
     moved-then i h = go (moved i)
       where
-        go : (b : Bool) → cond b t (nat (r .l) i) ≤ t
+        go : (b : Bool) → cond b t (natAt (r .l) i) ≤ t
         go true = omega arith
         go false = omega (arith, takes .after, ok .integrators i h .moved)
 
@@ -139,7 +139,7 @@ module _ (p : Plan) (r : Running) (ok : SoundRunning p r) where
   pub tick-after : r .clocks .clock < tickOf p r
   tick-after = tick-above p r (suc (r .clocks .clock)) clock-soon (λ i h. ok .integrators i h .ahead) command
     where
-      command : r .clocks .next < p .counts .commands → r .clocks .clock < nat (p .commands .ticks) (r .clocks .next)
+      command : r .clocks .next < p .counts .commands → r .clocks .clock < natAt (p .commands .ticks) (r .clocks .next)
       command h = rw (ok .next) (command-first p (r .clocks .clock) (rw (ok .next) at h))
 
   -- where the state is paused, that instant is taken
@@ -150,7 +150,7 @@ module _ (p : Plan) (r : Running) (ok : SoundRunning p r) where
         after = tick-after;
         until = tick-horizon p r paused;
         least = tick-due p r;
-        within = λ i h e. due-size p r paused i h (eqb-true (nat (r .d) i) (tickOf p r) e);
+        within = λ i h e. due-size p r paused i h (eqb-true (natAt (r .d) i) (tickOf p r) e);
       }
 
   pub instant-sound : isPaused p r ≡ true → (engine : Engine) → SoundRunning p (instant p engine r)

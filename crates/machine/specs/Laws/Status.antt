@@ -11,7 +11,7 @@ use borrow.Author.Tests.{ltb-true, ltb-false, lt-ltb, le-ltb, eqb-true, eq-eqb, 
 use Rattle.integers.specs.Parts.{∣_∣}
 use Rattle.integers.specs.Range.{within, within-true, within-false}
 use Rattle.plan.specs.Format.{M}
-use Rattle.plan.specs.Lists.{nat}
+use Rattle.plan.specs.Lists.{natAt}
 use Rattle.plan.specs.Laws.Searches.{First, first, first-unique, first-ext}
 use Rattle.plan.specs.declared.Plan.{Plan}
 use Rattle.machine.specs.Due.{never}
@@ -22,20 +22,20 @@ use Rattle.machine.specs.declared.Running.{Running}
 
 module _ (d : List ℕ) (t : ℕ) (value : ℕ → ℤ) (i : ℕ) where
   -- ---- integrator i bars the instant, or does not
-  bars-true : nat d i ≡ t → M < ∣ value i ∣ → bars d t value i ≡ true
+  bars-true : natAt d i ≡ t → M < ∣ value i ∣ → bars d t value i ≡ true
   unfolding bars isDue
-  bars-true e h = rw (eq-eqb (nat d i) t e, within-false M (value i) .1 h)
+  bars-true e h = rw (eq-eqb (natAt d i) t e, within-false M (value i) .1 h)
 
-  bars-false : (bars d t value i ≡ false) ↔ (nat d i ≡ t → ∣ value i ∣ ≤ M)
+  bars-false : (bars d t value i ≡ false) ↔ (natAt d i ≡ t → ∣ value i ∣ ≤ M)
   unfolding bars isDue
-  bars-false = (λ e k. kept (within M (value i)) refl (rw (eq-eqb (nat d i) t k) at e), λ f. clear (eqb (nat d i) t) refl f)
+  bars-false = (λ e k. kept (within M (value i)) refl (rw (eq-eqb (natAt d i) t k) at e), λ f. clear (eqb (natAt d i) t) refl f)
     where
       kept : (b : Bool) → within M (value i) ≡ b → not b ≡ false → ∣ value i ∣ ≤ M
       kept true w e = within-true M (value i) .0 w
       kept false w e = absurd (true≢false e)
 
-      clear : (b : Bool) → eqb (nat d i) t ≡ b → (nat d i ≡ t → ∣ value i ∣ ≤ M) → (b && not (within M (value i))) ≡ false
-      clear true e f = rw (within-true M (value i) .1 (f (eqb-true (nat d i) t e)))
+      clear : (b : Bool) → eqb (natAt d i) t ≡ b → (natAt d i ≡ t → ∣ value i ∣ ≤ M) → (b && not (within M (value i))) ≡ false
+      clear true e f = rw (within-true M (value i) .1 (f (eqb-true (natAt d i) t e)))
       clear false e f = refl
 
 module _ (p : Plan) (d : List ℕ) (t : ℕ) (value : ℕ → ℤ) where
@@ -44,7 +44,7 @@ module _ (p : Plan) (d : List ℕ) (t : ℕ) (value : ℕ → ℤ) where
   found = first (bars d t value) 0 (p .counts .n)
 
   -- none below it bars the instant, and it does where it is an integrator
-  barring-is : (f : ℕ) → f ≤ p .counts .n → ((j : ℕ) → j < f → nat d j ≡ t → ∣ value j ∣ ≤ M) → (f < p .counts .n → bars d t value f ≡ true)
+  barring-is : (f : ℕ) → f ≤ p .counts .n → ((j : ℕ) → j < f → natAt d j ≡ t → ∣ value j ∣ ≤ M) → (f < p .counts .n → bars d t value f ≡ true)
       → f ≡ barring p d t value
   unfolding barring
   barring-is f h none this =
@@ -55,7 +55,7 @@ module _ (p : Plan) (d : List ℕ) (t : ℕ) (value : ℕ → ℤ) where
       clear j k l = bars-false d t value j .1 (none j l)
 
   -- no integrator bars the instant
-  barring-none : (p .counts .n ≤ barring p d t value) ↔ ((i : ℕ) → i < p .counts .n → nat d i ≡ t → ∣ value i ∣ ≤ M)
+  barring-none : (p .counts .n ≤ barring p d t value) ↔ ((i : ℕ) → i < p .counts .n → natAt d i ≡ t → ∣ value i ∣ ≤ M)
   barring-none = (
     λ h i l. bars-false d t value i .0 (found .earlier i (omega arith) (omega arith)),
     λ f. omega (arith, barring-is (p .counts .n) (omega arith) f (λ l. absurd (omega arith))),
@@ -71,14 +71,14 @@ module _ (p : Plan) (d : List ℕ) (t : ℕ) (value : ℕ → ℤ) where
   status-finished (inr h) = rw (lt-ltb (p .horizon) t h, or-true (eqb t never))
 
   -- with the lowest integrator that bars it
-  pub status-range : (t ≡ never → ⊥) → t ≤ p .horizon → (i : ℕ) → i < p .counts .n → nat d i ≡ t → M < ∣ value i ∣
-      → ((j : ℕ) → j < i → nat d j ≡ t → ∣ value j ∣ ≤ M) → (statusAt p d t value ≡ 2) × (integratorAt p d t value ≡ i)
+  pub status-range : (t ≡ never → ⊥) → t ≤ p .horizon → (i : ℕ) → i < p .counts .n → natAt d i ≡ t → M < ∣ value i ∣
+      → ((j : ℕ) → j < i → natAt d j ≡ t → ∣ value j ∣ ≤ M) → (statusAt p d t value ≡ 2) × (integratorAt p d t value ≡ i)
   unfolding integratorAt statusAt
   status-range h l i k e b f =
       let this = barring-is i (omega arith) f (λ m. bars-true d t value i e b) in let in-range = lt-ltb i (p .counts .n) k in
       (rw (going h l, ← this, in-range), rw (going h l, ← this, in-range))
 
-  pub status-paused : (t ≡ never → ⊥) → t ≤ p .horizon → ((i : ℕ) → i < p .counts .n → nat d i ≡ t → ∣ value i ∣ ≤ M) → statusAt p d t value ≡ 0
+  pub status-paused : (t ≡ never → ⊥) → t ≤ p .horizon → ((i : ℕ) → i < p .counts .n → natAt d i ≡ t → ∣ value i ∣ ≤ M) → statusAt p d t value ≡ 0
   unfolding statusAt
   status-paused h l f = rw (going h l, le-ltb (barring p d t value) (p .counts .n) (barring-none .1 f))
 
@@ -119,7 +119,7 @@ module _ (p : Plan) (d : List ℕ) (t : ℕ) (value : ℕ → ℤ) where
     pub paused-horizon : t ≤ p .horizon
     paused-horizon = ltb-false (p .horizon) t (tests .1)
 
-    pub paused-size : (i : ℕ) → i < p .counts .n → nat d i ≡ t → ∣ value i ∣ ≤ M
+    pub paused-size : (i : ℕ) → i < p .counts .n → natAt d i ≡ t → ∣ value i ∣ ≤ M
     paused-size = barring-none .0 (ltb-false (barring p d t value) (p .counts .n) (tests .2))
 
 -- ---- values that agree give one status and one integrator
@@ -149,5 +149,5 @@ module _ (p : Plan) (r : Running) (paused : isPaused p r ≡ true) where
   pub tick-horizon : tickOf p r ≤ p .horizon
   tick-horizon = paused-horizon p (r .d) (tickOf p r) (positionAt r (tickOf p r)) zero-status
 
-  pub due-size : (i : ℕ) → i < p .counts .n → nat (r .d) i ≡ tickOf p r → ∣ positionAt r (tickOf p r) i ∣ ≤ M
+  pub due-size : (i : ℕ) → i < p .counts .n → natAt (r .d) i ≡ tickOf p r → ∣ positionAt r (tickOf p r) i ∣ ≤ M
   due-size = paused-size p (r .d) (tickOf p r) (positionAt r (tickOf p r)) zero-status

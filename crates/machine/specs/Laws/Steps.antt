@@ -4,7 +4,7 @@ use mathlib.Core.Bool.{true}
 use mathlib.Core.Logic.{inl}
 use mathlib.Core.List.{List}
 use Prim.Native.Nat.{ℕ, _<_}
-use Rattle.plan.specs.Lists.{nat, int}
+use Rattle.plan.specs.Lists.{natAt, intAt}
 use Rattle.plan.specs.Rules.{PlanRules}
 use Rattle.plan.specs.Laws.Counts.{Counts, counts-of}
 use Rattle.plan.specs.Laws.Means.{Means, means-false, eqb-means, either}
@@ -23,10 +23,10 @@ use Rattle.machine.specs.declared.Engine.the-variants.{Lazy, Eager}
 -- 5. "The lazy engine moves those due or reached, the eager engine all"
 pub moves-means : (p : Plan) → PlanRules p → (engine : Engine) (d : List ℕ) (t i : ℕ) → Means (moves p engine d t i) (Moves p engine d t i)
 unfolding moves isDue
-moves-means p rules Lazy d t i = either (eqb-means (nat d i) t) (reach-means p d t i rules)
+moves-means p rules Lazy d t i = either (eqb-means (natAt d i) t) (reach-means p d t i rules)
 moves-means p rules Eager d t i = (λ e. tt, λ u. refl)
 
-pub due-moves : (p : Plan) (engine : Engine) (d : List ℕ) (t i : ℕ) → nat d i ≡ t → Moves p engine d t i
+pub due-moves : (p : Plan) (engine : Engine) (d : List ℕ) (t i : ℕ) → natAt d i ≡ t → Moves p engine d t i
 due-moves p Lazy d t i e = inl e
 due-moves p Eager d t i e = tt
 
@@ -41,21 +41,21 @@ module _ (p : Plan) (rules : PlanRules p) (engine : Engine) (r : Running) where
   then = instant p engine r
 
   -- ---- 1. outputs
-  pub step-due : (i : ℕ) → i < p .counts .n → nat (r .d) i ≡ t → int (then .q) i ≡ positionAt r t i
+  pub step-due : (i : ℕ) → i < p .counts .n → natAt (r .d) i ≡ t → intAt (then .q) i ≡ positionAt r t i
   unfolding instant takenAt outputs
   step-due = output-due p limits (r .d) t (positionAt r t) (r .q)
 
-  pub step-not-due : (i : ℕ) → i < p .counts .n → (nat (r .d) i ≡ t → ⊥) → int (then .q) i ≡ int (r .q) i
+  pub step-not-due : (i : ℕ) → i < p .counts .n → (natAt (r .d) i ≡ t → ⊥) → intAt (then .q) i ≡ intAt (r .q) i
   unfolding instant takenAt outputs
   step-not-due = output-not-due p limits (r .d) t (positionAt r t) (r .q)
 
   -- ---- 2. inputs
-  pub step-set : (j e : ℕ) → j < p .counts .m → e < p .counts .commands → nat (p .commands .ticks) e ≡ t → nat (p .commands .inputs) e ≡ j → int (then .inputs) j ≡ int (p .commands .values) e
+  pub step-set : (j e : ℕ) → j < p .counts .m → e < p .counts .commands → natAt (p .commands .ticks) e ≡ t → natAt (p .commands .inputs) e ≡ j → intAt (then .inputs) j ≡ intAt (p .commands .values) e
   unfolding instant takenAt
   step-set = setting-of p rules (r .inputs) t
 
-  pub step-not-set : (j : ℕ) → j < p .counts .m → ((e : ℕ) → e < p .counts .commands → nat (p .commands .ticks) e ≡ t → nat (p .commands .inputs) e ≡ j → ⊥)
-      → int (then .inputs) j ≡ int (r .inputs) j
+  pub step-not-set : (j : ℕ) → j < p .counts .m → ((e : ℕ) → e < p .counts .commands → natAt (p .commands .ticks) e ≡ t → natAt (p .commands .inputs) e ≡ j → ⊥)
+      → intAt (then .inputs) j ≡ intAt (r .inputs) j
   unfolding instant takenAt
   step-not-set = setting-not-set p rules (r .inputs) t
 
@@ -64,25 +64,25 @@ module _ (p : Plan) (rules : PlanRules p) (engine : Engine) (r : Running) where
     moving : moves p engine (r .d) t i ≡ true
     moving = moves-means p rules engine (r .d) t i .1 m
 
-    pub step-x : int (then .x) i ≡ positionAt r t i
+    pub step-x : intAt (then .x) i ≡ positionAt r t i
     unfolding instant
     step-x = x-at p limits r t (moves p engine (r .d) t) i h ∙ rw moving
 
-    pub step-l : nat (then .l) i ≡ t
+    pub step-l : natAt (then .l) i ≡ t
     unfolding instant
     step-l = l-at p limits r t (moves p engine (r .d) t) i h ∙ rw moving
 
-    pub step-s : int (then .s) i ≡ rateOf p (then .q) (then .inputs) i
+    pub step-s : intAt (then .s) i ≡ rateOf p (then .q) (then .inputs) i
     unfolding instant takenAt slopeThen
     step-s = s-at p limits r t (moves p engine (r .d) t) i h ∙ rw moving
 
-    pub step-d : nat (then .d) i ≡ dueOf p (then .q) i t (int (then .x) i) (int (then .s) i)
+    pub step-d : natAt (then .d) i ≡ dueOf p (then .q) i t (intAt (then .x) i) (intAt (then .s) i)
     unfolding instant takenAt slopeThen dueThen
     step-d =
         d-at p limits r t (moves p engine (r .d) t) i h ∙ rw (moving, step-x, step-s, x-then p limits r t i h)
 
   pub step-not-moved : (i : ℕ) → i < p .counts .n → (Moves p engine (r .d) t i → ⊥)
-      → (int (then .x) i ≡ int (r .x) i) × (nat (then .l) i ≡ nat (r .l) i) × (int (then .s) i ≡ int (r .s) i) × (nat (then .d) i ≡ nat (r .d) i)
+      → (intAt (then .x) i ≡ intAt (r .x) i) × (natAt (then .l) i ≡ natAt (r .l) i) × (intAt (then .s) i ≡ intAt (r .s) i) × (natAt (then .d) i ≡ natAt (r .d) i)
   unfolding instant
   step-not-moved i h n =
       let who = moves p engine (r .d) t in

@@ -5,7 +5,7 @@ use mathlib.Core.List.{List}
 use Prim.Native.Nat.{ℕ, _<_}
 use lib.IntN.{ℤ, pos}
 use borrow.Author.Tests.{eq-eqb, ne-eqb}
-use Rattle.plan.specs.Lists.{nat, int, row}
+use Rattle.plan.specs.Lists.{natAt, intAt, row}
 use Rattle.plan.specs.Laws.Rows.{row-at}
 use Rattle.plan.specs.Laws.Counts.{Counts}
 use Rattle.plan.specs.declared.Plan.{Plan}
@@ -16,23 +16,23 @@ use Rattle.machine.specs.declared.Running.{Running}
 -- ---- 1. the outputs after tick t, by any due ticks, positions at t and outputs before it
 module _ (p : Plan) (limits : Counts p) (d : List ℕ) (t : ℕ) (position : ℕ → ℤ) (q : List ℤ) where
   abbrev outputsBy : List ℤ
-  outputsBy = row (pos 0) 32 (p .counts .n) (λ i. cond (isDue d t i) (position i) (int q i))
+  outputsBy = row (pos 0) 32 (p .counts .n) (λ i. cond (isDue d t i) (position i) (intAt q i))
 
-  pub output-due : (i : ℕ) → i < p .counts .n → nat d i ≡ t → int outputsBy i ≡ position i
+  pub output-due : (i : ℕ) → i < p .counts .n → natAt d i ≡ t → intAt outputsBy i ≡ position i
   unfolding isDue
-  output-due i h e = row-at (pos 0) 32 (p .counts .n) _ i (limits .n) h ∙ rw (eq-eqb (nat d i) t e)
+  output-due i h e = row-at (pos 0) 32 (p .counts .n) _ i (limits .n) h ∙ rw (eq-eqb (natAt d i) t e)
 
-  pub output-not-due : (i : ℕ) → i < p .counts .n → (nat d i ≡ t → ⊥) → int outputsBy i ≡ int q i
+  pub output-not-due : (i : ℕ) → i < p .counts .n → (natAt d i ≡ t → ⊥) → intAt outputsBy i ≡ intAt q i
   unfolding isDue
-  output-not-due i h e = row-at (pos 0) 32 (p .counts .n) _ i (limits .n) h ∙ rw (ne-eqb (nat d i) t e)
+  output-not-due i h e = row-at (pos 0) 32 (p .counts .n) _ i (limits .n) h ∙ rw (ne-eqb (natAt d i) t e)
 
 module _ (p : Plan) (limits : Counts p) (r : Running) (t : ℕ) where
-  pub outputs-at : (i : ℕ) → i < p .counts .n → int (outputs p r t) i ≡ cond (isDue (r .d) t i) (positionAt r t i) (int (r .q) i)
+  pub outputs-at : (i : ℕ) → i < p .counts .n → intAt (outputs p r t) i ≡ cond (isDue (r .d) t i) (positionAt r t i) (intAt (r .q) i)
   unfolding outputs
   outputs-at i h = row-at (pos 0) 32 (p .counts .n) _ i (limits .n) h
 
   -- those that are not due keep their outputs
-  pub output-kept : (i : ℕ) → i < p .counts .n → isDue (r .d) t i ≡ false → int (outputs p r t) i ≡ int (r .q) i
+  pub output-kept : (i : ℕ) → i < p .counts .n → isDue (r .d) t i ≡ false → intAt (outputs p r t) i ≡ intAt (r .q) i
   output-kept i h e = outputs-at i h ∙ rw e
 
   -- "x becomes x+s×(t−l) .. A due integrator gets x = q", which is the same
@@ -40,25 +40,25 @@ module _ (p : Plan) (limits : Counts p) (r : Running) (t : ℕ) where
   unfolding xThen
   x-then i h = go (isDue (r .d) t i) (outputs-at i h)
     where
-      go : (b : Bool) → int (outputs p r t) i ≡ cond b (positionAt r t i) (int (r .q) i)
-          → cond b (int (outputs p r t) i) (positionAt r t i) ≡ positionAt r t i
+      go : (b : Bool) → intAt (outputs p r t) i ≡ cond b (positionAt r t i) (intAt (r .q) i)
+          → cond b (intAt (outputs p r t) i) (positionAt r t i) ≡ positionAt r t i
       go true e = e
       go false e = refl
 
   -- ---- by who moves
   module _ (moved : ℕ → Bool) (i : ℕ) (h : i < p .counts .n) where
-    pub x-at : int (takenAt p r t moved .x) i ≡ cond (moved i) (positionAt r t i) (int (r .x) i)
+    pub x-at : intAt (takenAt p r t moved .x) i ≡ cond (moved i) (positionAt r t i) (intAt (r .x) i)
     unfolding takenAt
     x-at = row-at (pos 0) 32 (p .counts .n) _ i (limits .n) h ∙ rw (x-then i h)
 
-    pub l-at : nat (takenAt p r t moved .l) i ≡ cond (moved i) t (nat (r .l) i)
+    pub l-at : natAt (takenAt p r t moved .l) i ≡ cond (moved i) t (natAt (r .l) i)
     unfolding takenAt
     l-at = row-at 0 32 (p .counts .n) _ i (limits .n) h
 
-    pub s-at : int (takenAt p r t moved .s) i ≡ cond (moved i) (slopeThen p r t i) (int (r .s) i)
+    pub s-at : intAt (takenAt p r t moved .s) i ≡ cond (moved i) (slopeThen p r t i) (intAt (r .s) i)
     unfolding takenAt
     s-at = row-at (pos 0) 32 (p .counts .n) _ i (limits .n) h
 
-    pub d-at : nat (takenAt p r t moved .d) i ≡ cond (moved i) (dueThen p r t i) (nat (r .d) i)
+    pub d-at : natAt (takenAt p r t moved .d) i ≡ cond (moved i) (dueThen p r t i) (natAt (r .d) i)
     unfolding takenAt
     d-at = row-at 0 32 (p .counts .n) _ i (limits .n) h

@@ -10,7 +10,7 @@ use Rattle.integers.specs.Parts.{∣_∣, dif, zs}
 use Rattle.integers.specs.Order.{ltZ-true}
 use Rattle.integers.specs.Range.{within-true}
 use Rattle.plan.specs.Format.{M}
-use Rattle.plan.specs.Lists.{nat, int}
+use Rattle.plan.specs.Lists.{natAt, intAt}
 use Rattle.plan.specs.Rules.{PlanRules}
 use Rattle.plan.specs.Unused.{PlanUnused}
 use Rattle.plan.specs.declared.Plan.{Plan}
@@ -54,7 +54,7 @@ module _ (p : Plan) (r : Running) where
   integrator-means : (i : ℕ) → Means (integratorSound p r i) (SoundIntegrator p r i)
   unfolding integratorSound
   integrator-means i =
-      let x = int (r .x) i in let q = int (r .q) i in let s = int (r .s) i in let l = nat (r .l) i in let d = nat (r .d) i in
+      let x = intAt (r .x) i in let q = intAt (r .q) i in let s = intAt (r .s) i in let l = natAt (r .l) i in let d = natAt (r .d) i in
       let ticks = both (leb-means l (r .clocks .clock)) (ltb-means (r .clocks .clock) d) in
       let levels = both (both (both ticks (within-true M q)) (ltZ-true (lowerLevel p (r .q) i) x)) (ltZ-true x (upperLevel p (r .q) i)) in
       let all = both (both levels (same-means s (rateOf p (r .q) (r .inputs) i))) (eqb-means d (dueOf p (r .q) i l x s)) in
@@ -75,7 +75,7 @@ unfolding isSound runningSound
 sound-means st =
     let p = st .plan in let r = st .run in
     let integrators = both (leb-means (r .clocks .clock) (p .horizon)) (every-means (integrator-means p r) (p .counts .n)) in
-    let inputs = both integrators (every-means (λ j. within-means M (int (r .inputs) j)) (p .counts .m)) in
+    let inputs = both integrators (every-means (λ j. within-means M (intAt (r .inputs) j)) (p .counts .m)) in
     let counted = both (both inputs (eqb-means (r .clocks .next) (nextCommand p (r .clocks .clock)))) (leb-means (r .clocks .instants) (r .clocks .clock)) in
     let all = both (plan-means p) (both (both counted (leb-means (r .clocks .updates) (p .counts .n * r .clocks .instants))) (unused-means p r)) in (
       λ t. let h = all .0 t in let c = h .1 .0 .0 in record {

@@ -11,7 +11,7 @@ use Rattle.integers.specs.Division.{floored, floor-law}
 use Rattle.integers.specs.Order.{leZ-true, leZ-false}
 use Rattle.integers.specs.Range.{limited}
 use Rattle.plan.specs.Format.{M}
-use Rattle.plan.specs.Lists.{nat, int}
+use Rattle.plan.specs.Lists.{natAt, intAt}
 use Rattle.plan.specs.Rules.{PlanRules}
 use Rattle.plan.specs.declared.Plan.{Plan}
 use Rattle.machine.specs.Values.{nodeOf, valueWith, valueOf, sumOver, rateOf}
@@ -24,10 +24,10 @@ module _ (p : Plan) (q u : List ℤ) where
   unfolding valueOf valueWith
   value-settled j i h l = settled-at (p .counts .n + p .counts .m) (valueWith p q u) _ (λ j i. refl) j (p .counts .k) i h l
 
-  pub integrator-value : (i : ℕ) → i < p .counts .n → valueOf p q u i ≡ int q i
+  pub integrator-value : (i : ℕ) → i < p .counts .n → valueOf p q u i ≡ intAt q i
   integrator-value i h = value-settled 0 i (omega arith) (omega arith) ∙ output-value p q u i h
 
-  pub setting-value : (j : ℕ) → j < p .counts .m → valueOf p q u (p .counts .n + j) ≡ int u j
+  pub setting-value : (j : ℕ) → j < p .counts .m → valueOf p q u (p .counts .n + j) ≡ intAt u j
   setting-value j h = value-settled 0 (p .counts .n + j) (omega arith) (omega arith) ∙ input-value p q u j h
 
   -- ---- the rate: the sum over an integrator's own links, by 65,536, rounded towards minus infinity
@@ -35,15 +35,15 @@ module _ (p : Plan) (q u : List ℤ) where
   unfolding sumOver
   sum-none i = refl
 
-  pub sum-own : (i e : ℕ) → nat (p .links .targets) e ≡ i
-      → sumOver p q u i (e + 1) ≡ sumOver p q u i e +ℤ int (p .links .coefficients) e *ℤ valueOf p q u (nat (p .links .sources) e)
+  pub sum-own : (i e : ℕ) → natAt (p .links .targets) e ≡ i
+      → sumOver p q u i (e + 1) ≡ sumOver p q u i e +ℤ intAt (p .links .coefficients) e *ℤ valueOf p q u (natAt (p .links .sources) e)
   unfolding sumOver
-  sum-own i e own = let next : e + 1 ≡ suc e = omega arith in rw (next, eq-eqb (nat (p .links .targets) e) i own)
+  sum-own i e own = let next : e + 1 ≡ suc e = omega arith in rw (next, eq-eqb (natAt (p .links .targets) e) i own)
 
-  pub sum-other : (i e : ℕ) → (nat (p .links .targets) e ≡ i → ⊥) → sumOver p q u i (e + 1) ≡ sumOver p q u i e
+  pub sum-other : (i e : ℕ) → (natAt (p .links .targets) e ≡ i → ⊥) → sumOver p q u i (e + 1) ≡ sumOver p q u i e
   unfolding sumOver
   sum-other i e other =
-      let next : e + 1 ≡ suc e = omega arith in rw (next, ne-eqb (nat (p .links .targets) e) i other) (+ℤ-idr (sumOver p q u i e))
+      let next : e + 1 ≡ suc e = omega arith in rw (next, ne-eqb (natAt (p .links .targets) e) i other) (+ℤ-idr (sumOver p q u i e))
 
   pub rate-floor : (i : ℕ)
       → ((pos 65536 *ℤ rateOf p q u i) ≤ℤ sumOver p q u i (p .counts .links)) × (sumOver p q u i (p .counts .links) <ℤ (pos 65536 *ℤ (rateOf p q u i +ℤ pos 1)))
@@ -56,40 +56,40 @@ module _ (p : Plan) (q u : List ℤ) where
     own = p .counts .n + p .counts .m + j
 
     abbrev a : ℤ
-    a = valueOf p q u (nat (p .nodes .a) j)
+    a = valueOf p q u (natAt (p .nodes .a) j)
 
     abbrev b : ℤ
-    b = valueOf p q u (nat (p .nodes .b) j)
+    b = valueOf p q u (natAt (p .nodes .b) j)
 
     -- what its kind makes of the values of A and B as they are when it is worked out
     pub worked-out : valueOf p q u own
-        ≡ nodeOf (nat (p .nodes .kinds) j) (int (p .nodes .lows) j) (int (p .nodes .highs) j)
-        (valueWith p q u j (nat (p .nodes .a) j)) (valueWith p q u j (nat (p .nodes .b) j))
+        ≡ nodeOf (natAt (p .nodes .kinds) j) (intAt (p .nodes .lows) j) (intAt (p .nodes .highs) j)
+        (valueWith p q u j (natAt (p .nodes .a) j)) (valueWith p q u j (natAt (p .nodes .b) j))
     unfolding valueOf valueWith
     worked-out = node-at (p .counts .n + p .counts .m) (valueWith p q u) _ (λ j i. refl) j (p .counts .k) h
 
-    left : valueWith p q u j (nat (p .nodes .a) j) ≡ a
-    left = sym (value-settled j (nat (p .nodes .a) j) (omega arith) (rules .nodes j h .left))
+    left : valueWith p q u j (natAt (p .nodes .a) j) ≡ a
+    left = sym (value-settled j (natAt (p .nodes .a) j) (omega arith) (rules .nodes j h .left))
 
-    right : (nat (p .nodes .kinds) j ≡ 2 → ⊥) → valueWith p q u j (nat (p .nodes .b) j) ≡ b
-    right n = sym (value-settled j (nat (p .nodes .b) j) (omega arith) (rules .nodes j h .right n))
+    right : (natAt (p .nodes .kinds) j ≡ 2 → ⊥) → valueWith p q u j (natAt (p .nodes .b) j) ≡ b
+    right n = sym (value-settled j (natAt (p .nodes .b) j) (omega arith) (rules .nodes j h .right n))
 
-    pub difference-node : nat (p .nodes .kinds) j ≡ 0 → valueOf p q u own ≡ limited (negℤ (pos M)) (pos M) (a -ℤ b)
+    pub difference-node : natAt (p .nodes .kinds) j ≡ 0 → valueOf p q u own ≡ limited (negℤ (pos M)) (pos M) (a -ℤ b)
     unfolding nodeOf
     difference-node e = worked-out ∙ rw (left, right (λ t. omega arith), e)
 
-    pub product-node : nat (p .nodes .kinds) j ≡ 1 → valueOf p q u own ≡ limited (negℤ (pos M)) (pos M) (floored (a *ℤ b))
+    pub product-node : natAt (p .nodes .kinds) j ≡ 1 → valueOf p q u own ≡ limited (negℤ (pos M)) (pos M) (floored (a *ℤ b))
     unfolding nodeOf
     product-node e = worked-out ∙ rw (left, right (λ t. omega arith), e)
 
-    pub limit-node : nat (p .nodes .kinds) j ≡ 2 → valueOf p q u own ≡ limited (int (p .nodes .lows) j) (int (p .nodes .highs) j) a
+    pub limit-node : natAt (p .nodes .kinds) j ≡ 2 → valueOf p q u own ≡ limited (intAt (p .nodes .lows) j) (intAt (p .nodes .highs) j) a
     unfolding nodeOf
     limit-node e = worked-out ∙ rw (left, e)
 
-    pub high-node : nat (p .nodes .kinds) j ≡ 3 → b ≤ℤ a → valueOf p q u own ≡ int (p .nodes .highs) j
+    pub high-node : natAt (p .nodes .kinds) j ≡ 3 → b ≤ℤ a → valueOf p q u own ≡ intAt (p .nodes .highs) j
     unfolding nodeOf
     high-node e le = worked-out ∙ rw (left, right (λ t. omega arith), e, leZ-true b a .1 le)
 
-    pub low-node : nat (p .nodes .kinds) j ≡ 3 → a <ℤ b → valueOf p q u own ≡ int (p .nodes .lows) j
+    pub low-node : natAt (p .nodes .kinds) j ≡ 3 → a <ℤ b → valueOf p q u own ≡ intAt (p .nodes .lows) j
     unfolding nodeOf
     low-node e lt = worked-out ∙ rw (left, right (λ t. omega arith), e, leZ-false b a .1 lt)

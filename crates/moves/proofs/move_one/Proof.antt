@@ -5,7 +5,7 @@ use mir.Syntax.{w64}
 use mir.Val.{SFits}
 use mir.Facts.{toZ-ofZ}
 use Rattle.integers.specs.Signed64.{rd}
-use Rattle.plan.specs.Lists.{int}
+use Rattle.plan.specs.Lists.{intAt}
 use Rattle.moves.specs.Motion.{moving, placeOf, slopeOf}
 use Rattle.moves.specs.Laws.Moving.{move-stores}
 use Rattle.moves.proofs.move_one.Statement.{statement}
@@ -19,8 +19,8 @@ place : (c : tie.After-position) → let a = c .before .before .before .before .
 unfolding placeOf
 place c =
     let a = c .before .before .before .before .args in
-    let x : SFits w64 (int (a .x .now) (a .i)) = sfits-of (c .before .before .before .position-arg .given) in
-    let s : SFits w64 (int (a .s .now) (a .i)) = sfits-of (c .before .before .position-arg2 .given) in
+    let x : SFits w64 (intAt (a .x .now) (a .i)) = sfits-of (c .before .before .before .position-arg .given) in
+    let s : SFits w64 (intAt (a .s .now) (a .i)) = sfits-of (c .before .before .position-arg2 .given) in
     toZ-ofZ (sfits-of (c .position .ok)) ∙ (rw (toZ-ofZ x, toZ-ofZ s) at (c .position .ensures))
 
 slope : (c : tie.After-rate) → let a = c .before .before .before .before .before .before .before .args in
@@ -100,8 +100,8 @@ element-copy-out-due-tick-2 c = search needs
 due-tick-requires : tie.Need-due-tick-requires
 due-tick-requires c κs =
     let r = c .before .before in let p = r .before .before .before in let s = p .before .before .before .before in let a = s .args in
-    let output : SFits w64 (int (a .values .now) (a .i)) = sfits-of (c .before .due-tick-arg .given) in
-    let quantum : SFits w64 (int (a .quanta .now) (a .i)) = sfits-of (c .due-tick-arg2 .given) in
+    let output : SFits w64 (intAt (a .values .now) (a .i)) = sfits-of (c .before .due-tick-arg .given) in
+    let quantum : SFits w64 (intAt (a .quanta .now) (a .i)) = sfits-of (c .due-tick-arg2 .given) in
     rw (place p, slope r, toZ-ofZ output, toZ-ofZ quantum) (s .pre .due)
 
 mul-d : tie.Need-mul-d
@@ -113,8 +113,8 @@ element-write-d c = search needs
 returns : tie.Need-returns
 returns c =
     let r = c .before .before .before in let p = r .before .before .before in let a = p .before .before .before .before .args in
-    let output : SFits w64 (int (a .values .now) (a .i)) = sfits-of (c .before .before .due-tick-arg .given) in
-    let quantum : SFits w64 (int (a .quanta .now) (a .i)) = sfits-of (c .before .due-tick-arg2 .given) in
+    let output : SFits w64 (intAt (a .values .now) (a .i)) = sfits-of (c .before .before .due-tick-arg .given) in
+    let quantum : SFits w64 (intAt (a .quanta .now) (a .i)) = sfits-of (c .before .due-tick-arg2 .given) in
     move-stores (a .t) (a .ranges .now) (a .sources .now) (a .coefficients .now) (a .quanta .now) (a .values .now) (a .i)
     (moving (a .x .now) (a .s .now) (a .l .now) (a .d .now)) (place p) (slope r)
     (rw (toZ-ofZ output, toZ-ofZ quantum) at (c .due-tick .ensures))

@@ -11,7 +11,7 @@ use Rattle.integers.specs.Parts.{∣_∣}
 use Rattle.bitset.specs.Mask.{has, maskOf, each}
 use Rattle.bitset.specs.Bits.{has-high, maskOf-lt}
 use Rattle.plan.specs.Format.{M}
-use Rattle.plan.specs.Lists.{nat, int, row}
+use Rattle.plan.specs.Lists.{natAt, intAt, row}
 use Rattle.plan.specs.Laws.Counts.{Counts, counts-of}
 use Rattle.plan.specs.declared.Plan.{Plan}
 use Rattle.machine.specs.Values.{valueOf}
@@ -83,7 +83,7 @@ module _ (t : ℕ) (ranges sources : List ℕ) (coefficients quanta values : Lis
 
 -- ---- at an instant; `values` holds the values of all sources there
 module _ (p : Plan) (r : Running) (sound : SoundRunning p r) (t : ℕ) (takes : Takes p r t) (values : List ℤ)
-    (same : (i : ℕ) → i < p .counts .n + p .counts .m + p .counts .k → int values i ≡ valueOf p (outputs p r t) (settings p (r .inputs) t) i) (moved : ℕ → Bool) where
+    (same : (i : ℕ) → i < p .counts .n + p .counts .m + p .counts .k → intAt values i ≡ valueOf p (outputs p r t) (settings p (r .inputs) t) i) (moved : ℕ → Bool) where
   limits : Counts p
   limits = counts-of p (sound .plan .counts)
 
@@ -94,14 +94,14 @@ module _ (p : Plan) (r : Running) (sound : SoundRunning p r) (t : ℕ) (takes : 
   unfolding placeOf positionAt
   place i = refl
 
-  output : (i : ℕ) → i < p .counts .n → int values i ≡ int (outputs p r t) i
+  output : (i : ℕ) → i < p .counts .n → intAt values i ≡ intAt (outputs p r t) i
   output i h = same i (omega arith) ∙ integrator-value p (outputs p r t) (settings p (r .inputs) t) i h
 
   slope : (i : ℕ) → i < p .counts .n → slopeOf t (rangesOf p) (p .links .sources) (p .links .coefficients) (p .integrators .quanta) values i ≡ slopeThen p r t i
   unfolding slopeOf slopeThen
   slope i h = own-rate p (sound .plan) values (outputs p r t) (settings p (r .inputs) t) same i h
 
-  pub all-movable : ((i : ℕ) → ∣ int values i ∣ ≤ M)
+  pub all-movable : ((i : ℕ) → ∣ intAt values i ∣ ≤ M)
       → AllMovable t (rangesOf p) (p .links .sources) (p .links .coefficients) (p .integrators .quanta) values (maskOf moved (p .counts .n)) before
   all-movable sized i e =
       let h = mask-member moved (p .counts .n) i e in
@@ -116,10 +116,10 @@ module _ (p : Plan) (r : Running) (sound : SoundRunning p r) (t : ℕ) (takes : 
   abbrev figuresThen : ℕ → Bool → Figures
   figuresThen i b =
       record {
-        x = cond b (xThen p r t i) (int (r .x) i);
-        s = cond b (slopeThen p r t i) (int (r .s) i);
-        l = cond b t (nat (r .l) i);
-        d = cond b (dueThen p r t i) (nat (r .d) i);
+        x = cond b (xThen p r t i) (intAt (r .x) i);
+        s = cond b (slopeThen p r t i) (intAt (r .s) i);
+        l = cond b t (natAt (r .l) i);
+        d = cond b (dueThen p r t i) (natAt (r .d) i);
       }
 
   figures-then : (i : ℕ) → i < p .counts .n → (b : Bool)

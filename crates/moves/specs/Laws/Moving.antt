@@ -11,7 +11,7 @@ use lib.Seq.{getD-set-same, getD-set-other}
 use borrow.Author.Tests.{eqb-false}
 use Rattle.bitset.specs.Mask.{has, lowestOf, restOf}
 use Rattle.bitset.specs.Visiting.{has-lowest, has-rest}
-use Rattle.plan.specs.Lists.{nat, int}
+use Rattle.plan.specs.Lists.{natAt, intAt}
 use Rattle.machine.specs.Due.{dueTick}
 use Rattle.moves.specs.Motion.{Motion, moving, placeOf, slopeOf, dueFrom, moveOne, Movable, AllMovable}
 
@@ -23,7 +23,7 @@ pub record Figures : Type 0 where
   pub d : ℕ
 
 abbrev pub figuresAt : Motion → ℕ → Figures
-figuresAt m i = record { x = int (m .x) i; s = int (m .s) i; l = nat (m .l) i; d = nat (m .d) i }
+figuresAt m i = record { x = intAt (m .x) i; s = intAt (m .s) i; l = natAt (m .l) i; d = natAt (m .d) i }
 
 -- the arrays have their full width
 pub record Full (m : Motion) : Type 0 where
@@ -51,7 +51,7 @@ module _ (t : ℕ) (ranges sources : List ℕ) (coefficients quanta values : Lis
   pub move-stores : (j : ℕ) (m : Motion) {place slope : ℤ} {due : ℕ}
       → place ≡ placeOf t ranges sources coefficients quanta values j m
       → slope ≡ slopeOf t ranges sources coefficients quanta values j
-      → due ≡ dueTick t place (int values j +ℤ int quanta j) (int values j -ℤ int quanta j) slope
+      → due ≡ dueTick t place (intAt values j +ℤ intAt quanta j) (intAt values j -ℤ intAt quanta j) slope
       → moving (set (m .x) j place) (set (m .s) j slope) (set (m .l) j t) (set (m .d) j due) ≡ move j m
   unfolding moveOne dueFrom
   move-stores j m p s d = rw (d, p, s)
@@ -93,9 +93,9 @@ module _ (t : ℕ) (ranges sources : List ℕ) (coefficients quanta values : Lis
         let both = and-eq-true-iff (has left i) (not (eqb i j)) .0 (sym (has-rest 32 left i some wide) ∙ h) in
         let kept = move-others j i m (eqb-false i j (sym (Bool·not-not (eqb i j)) ∙ ap not (both .1))) in
         let old = all i (both .0) in
-        let kept-x : int (move j m .x) i ≡ int (m .x) i = ap (λ (f : Figures). f .x) kept in
-        let kept-s : int (move j m .s) i ≡ int (m .s) i = ap (λ (f : Figures). f .s) kept in
-        let kept-l : nat (move j m .l) i ≡ nat (m .l) i = ap (λ (f : Figures). f .l) kept in
+        let kept-x : intAt (move j m .x) i ≡ intAt (m .x) i = ap (λ (f : Figures). f .x) kept in
+        let kept-s : intAt (move j m .s) i ≡ intAt (m .s) i = ap (λ (f : Figures). f .s) kept in
+        let kept-l : natAt (move j m .l) i ≡ natAt (m .l) i = ap (λ (f : Figures). f .l) kept in
         record {
           used = old .used;
           rated = old .rated;

@@ -7,7 +7,7 @@ use native.Mathlib.Omega.{arith}
 use lib.Dec.{leb, ltb, eqb}
 use lib.ListN.{List·getD-eq-default}
 use borrow.Author.Tests.{leb-true, ltb-true, ltb-false, eqb-true, eqb-false}
-use Rattle.plan.specs.Lists.{nat, table, every}
+use Rattle.plan.specs.Lists.{natAt, table, every}
 use Rattle.plan.specs.Format.{sections, largestCounts, countIn, planIn}
 use Rattle.plan.specs.Tests.{longEnough, offsetsKept, sizesKept, counts}
 use Rattle.plan.specs.Refusals.{numberOf, entryOf, isClean, orElse}
@@ -28,7 +28,7 @@ module _ (file : List ℕ) where
     known : numberOf f ≤ 9
     accepts : numberOf f ≡ 0 → ((k : ℕ) → least ≤ k → Holds file k) × (entryOf f ≡ 0)
     earlier : (k : ℕ) → least ≤ k → k < numberOf f → Holds file k
-    there : 0 < numberOf f → entryOf f < nat (ruleEntries file) (numberOf f)
+    there : 0 < numberOf f → entryOf f < natAt (ruleEntries file) (numberOf f)
     lowest : (e : ℕ) → e < entryOf f → Rule file (numberOf f) e
     broken : 0 < numberOf f → Rule file (numberOf f) (entryOf f) → ⊥
 
@@ -53,7 +53,7 @@ module _ (file : List ℕ) where
       go false e = rest j (omega (arith, eqb-false j k e))
 
   -- the rule of number k is tried, and then those above it
-  tried-next : (k : ℕ) {f g : Finding} → (0 < k) × (k ≤ 9) → Judged (Rule file k) k 0 (nat (ruleEntries file) k) f → Tried (suc k) g
+  tried-next : (k : ℕ) {f g : Finding} → (0 < k) × (k ≤ 9) → Judged (Rule file k) k 0 (natAt (ruleEntries file) k) f → Tried (suc k) g
       → Tried k (orElse f g)
   tried-next k {f} {g} a (clean n z r) t = rw (first-clean f g n) (record {
     known = t .known;
@@ -106,24 +106,24 @@ module _ (file : List ℕ) where
 
   -- ---- the counts
   -- those of the plan are those of the file
-  pub counts-at : (k : ℕ) → k < sections → nat (counts (planIn file)) k ≡ countIn file k
+  pub counts-at : (k : ℕ) → k < sections → natAt (counts (planIn file)) k ≡ countIn file k
   unfolding counts planIn table
   counts-at k h = table-at sections (countIn file) k 0 h
 
   pub counts-in : SizeRule file → CountsRule (planIn file)
   counts-in r k h = rw (counts-at k h) (r .count k h)
 
-  counts-below : SizeRule file → (k : ℕ) → nat (counts (planIn file)) k ≤ 256
+  counts-below : SizeRule file → (k : ℕ) → natAt (counts (planIn file)) k ≤ 256
   unfolding every counts
   counts-below r k = go (ltb k sections) refl
     where
-      go : (b : Bool) → ltb k sections ≡ b → nat (counts (planIn file)) k ≤ 256
+      go : (b : Bool) → ltb k sections ≡ b → natAt (counts (planIn file)) k ≤ 256
       go true e =
-          let h = ltb-true k sections e in let l = every-true (λ j. leb (nat largestCounts j) 256) sections .0 refl k h in
-          omega (arith, counts-in r k h .1, leb-true (nat largestCounts k) 256 l)
+          let h = ltb-true k sections e in let l = every-true (λ j. leb (natAt largestCounts j) 256) sections .0 refl k h in
+          omega (arith, counts-in r k h .1, leb-true (natAt largestCounts k) 256 l)
       go false e = omega (arith, List·getD-eq-default (counts (planIn file)) 0 (ltb-false k sections e))
 
-  entries-below : (k : ℕ) → (3 < k → SizeRule file) → nat (ruleEntries file) k ≤ 256
+  entries-below : (k : ℕ) → (3 < k → SizeRule file) → natAt (ruleEntries file) k ≤ 256
   unfolding counts
   entries-below zero r = omega arith
   entries-below (suc zero) r = omega arith

@@ -6,7 +6,7 @@ use lib.IntN.{ℤ, pos}
 use lib.Dec.{eqb}
 use lib.ListN.{length, getD}
 use Rattle.integers.specs.Parts.{∣_∣}
-use Rattle.plan.specs.Lists.{nat, int}
+use Rattle.plan.specs.Lists.{natAt, intAt}
 use Rattle.plan.specs.Format.{largestCounts, countIn, columnOf, columnIn, planIn, Shaped}
 use Rattle.plan.specs.Unused.{UnusedNat, UnusedInt, PlanUnused, unusedNat, unusedInt, planUnused}
 use Rattle.plan.specs.declared.Plan.{Plan}
@@ -19,13 +19,13 @@ pub unused-nat : (k : ℕ) (xs : List ℕ) → Means (unusedNat k xs) (UnusedNat
 unfolding unusedNat
 unused-nat k xs =
     let all = all-from (λ x. eqb x 0) 0 refl k xs in
-    (λ t i h. eqb-means (nat xs i) 0 .0 (all .0 t i h), λ u. all .1 (λ i h. eqb-means (nat xs i) 0 .1 (u i h)))
+    (λ t i h. eqb-means (natAt xs i) 0 .0 (all .0 t i h), λ u. all .1 (λ i h. eqb-means (natAt xs i) 0 .1 (u i h)))
 
 pub unused-int : (k : ℕ) (xs : List ℤ) → Means (unusedInt k xs) (UnusedInt k xs)
 unfolding unusedInt
 unused-int k xs =
     let all = all-from (λ z. eqb ∣ z ∣ 0) (pos 0) refl k xs in
-    (λ t i h. zero-means (int xs i) .0 (all .0 t i h), λ u. all .1 (λ i h. zero-means (int xs i) .1 (u i h)))
+    (λ t i h. zero-means (intAt xs i) .0 (all .0 t i h), λ u. all .1 (λ i h. zero-means (intAt xs i) .1 (u i h)))
 
 infixl 5 _and_
 _and_ : {P Q : Type 0} → P → Q → P × Q
@@ -65,11 +65,11 @@ module _ (file : List ℕ) where
   module _ {A : Type 0} (z : A) (read : List ℕ → ℕ → A) where
     column-unused : (k column i : ℕ) → countIn file k ≤ i → getD (columnIn z read file k column) i z ≡ z
     unfolding columnOf columnIn
-    column-unused k column i h = row-unused z (nat largestCounts k) (countIn file k) _ i h
+    column-unused k column i h = row-unused z (natAt largestCounts k) (countIn file k) _ i h
 
-    column-length : (k column : ℕ) → length (columnIn z read file k column) ≡ nat largestCounts k
+    column-length : (k column : ℕ) → length (columnIn z read file k column) ≡ natAt largestCounts k
     unfolding columnOf columnIn
-    column-length k column = length-row z (nat largestCounts k) (countIn file k) _
+    column-length k column = length-row z (natAt largestCounts k) (countIn file k) _
 
   pub file-unused : PlanUnused (planIn file)
   unfolding planIn

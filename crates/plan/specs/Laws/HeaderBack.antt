@@ -9,7 +9,7 @@ use lib.ListN.{length, getD, length-append, List·getD-append}
 use borrow.Author.Tests.{le-leb, eq-eqb}
 use Rattle.words.specs.Word.{word, flat}
 use Rattle.words.specs.Flat.{word-flat}
-use Rattle.plan.specs.Lists.{nat, joined}
+use Rattle.plan.specs.Lists.{natAt, joined}
 use Rattle.plan.specs.Format.{sections, entrySizes, leastCounts, largestCounts, headerLength, horizonIn, offsetIn, lengthIn, startIn}
 use Rattle.plan.specs.Format.{countIn, sectionIn}
 use Rattle.plan.specs.Tests.{longEnough, offsetsKept, countKept, sizesKept, counts}
@@ -23,10 +23,10 @@ use Rattle.plan.specs.declared.Plan.{Plan}
 
 -- a section's length is a whole number of entries
 length-whole : (p : Plan) (k : ℕ) → k < sections
-    → (lengthOf p k / nat entrySizes k ≡ nat (counts p) k) × (lengthOf p k % nat entrySizes k ≡ 0)
+    → (lengthOf p k / natAt entrySizes k ≡ natAt (counts p) k) × (lengthOf p k % natAt entrySizes k ≡ 0)
 unfolding lengthOf
 length-whole p =
-    each-section (λ k. (lengthOf p k / nat entrySizes k ≡ nat (counts p) k) × (lengthOf p k % nat entrySizes k ≡ 0))
+    each-section (λ k. (lengthOf p k / natAt entrySizes k ≡ natAt (counts p) k) × (lengthOf p k % natAt entrySizes k ≡ 0))
     (omega arith) (omega arith) (omega arith) (omega arith) (omega arith)
 
 module _ (p : Plan) (r : PlanRules p) where
@@ -60,7 +60,7 @@ module _ (p : Plan) (r : PlanRules p) where
   start-back zero h = refl
   start-back (suc k) h = rw (offset-back k h, length-back k h)
 
-  pub count-back : (k : ℕ) → k < sections → countIn (encode p) k ≡ nat (counts p) k
+  pub count-back : (k : ℕ) → k < sections → countIn (encode p) k ≡ natAt (counts p) k
   unfolding countIn
   count-back k h = rw (length-back k h) (length-whole p k h .0)
 
@@ -88,11 +88,11 @@ module _ (p : Plan) (r : PlanRules p) where
   sizes-back = every-true test sections .1 kept
     where
       test : ℕ → Bool
-      test k = eqb (lengthIn (encode p) k % nat entrySizes k) 0 && countKept k (countIn (encode p) k)
+      test k = eqb (lengthIn (encode p) k % natAt entrySizes k) 0 && countKept k (countIn (encode p) k)
 
       kept : (k : ℕ) → k < sections → test k ≡ true
       kept k h =
-          let c = nat (counts p) k in
-          let whole = eq-eqb (lengthOf p k % nat entrySizes k) 0 (length-whole p k h .1) in
+          let c = natAt (counts p) k in
+          let whole = eq-eqb (lengthOf p k % natAt entrySizes k) 0 (length-whole p k h .1) in
           let limits = r .counts k h in
-          rw (length-back k h, count-back k h, whole, le-leb (nat leastCounts k) c (limits .0), le-leb c (nat largestCounts k) (limits .1))
+          rw (length-back k h, count-back k h, whole, le-leb (natAt leastCounts k) c (limits .0), le-leb c (natAt largestCounts k) (limits .1))

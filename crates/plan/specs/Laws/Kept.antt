@@ -10,7 +10,7 @@ use borrow.Author.Tests.{leb-true, leb-false, eqb-true, eqb-false}
 use Rattle.integers.specs.Parts.{∣_∣}
 use Rattle.integers.specs.Order.{leZ-true}
 use Rattle.integers.specs.Range.{within}
-use Rattle.plan.specs.Lists.{nat, int}
+use Rattle.plan.specs.Lists.{natAt, intAt}
 use Rattle.plan.specs.Format.{M, sections}
 use Rattle.plan.specs.Tests.{countKept, horizonKept, counts, countsKept, integratorKept, inputKept, kindKept, nodeKept}
 use Rattle.plan.specs.Tests.{linkLimits, linkOrdered, commandLimits, commandOrdered}
@@ -30,40 +30,40 @@ module _ (p : Plan) where
 
   pub counts-kept : Means (countsKept p) (CountsRule p)
   unfolding countsKept
-  counts-kept = every-means (λ k. count-kept k (nat (counts p) k)) sections
+  counts-kept = every-means (λ k. count-kept k (natAt (counts p) k)) sections
 
   pub integrator-kept : (i : ℕ) → Means (integratorKept p i) (IntegratorRule p i)
   unfolding integratorKept
   integrator-kept i =
-      let quantum = int (p .integrators .quanta) i in
-      let all = both (both (within-means M (int (p .integrators .starts) i)) (leZ-true (pos 1) quantum)) (leZ-true quantum (pos M)) in
+      let quantum = intAt (p .integrators .quanta) i in
+      let all = both (both (within-means M (intAt (p .integrators .starts) i)) (leZ-true (pos 1) quantum)) (leZ-true quantum (pos M)) in
       (λ t. let h = all .0 t in record { start = h .0 .0; least = h .0 .1; most = h .1 }, λ r. all .1 ((r .start, r .least), r .most))
 
   pub input-kept : (j : ℕ) → Means (inputKept p j) (InputRule p j)
   unfolding inputKept
-  input-kept j = within-means M (int (p .inputs .firsts) j)
+  input-kept j = within-means M (intAt (p .inputs .firsts) j)
 
   pub node-kept : (j : ℕ) → Means (nodeKept p j) (NodeRule p j)
   unfolding nodeKept kindKept
   node-kept j = go (leb kind 1) (eqb kind 2) refl refl
     where
       kind : ℕ
-      kind = nat (p .nodes .kinds) j
+      kind = natAt (p .nodes .kinds) j
 
       own : ℕ
       own = p .counts .n + p .counts .m + j
 
       a : ℕ
-      a = nat (p .nodes .a) j
+      a = natAt (p .nodes .a) j
 
       b : ℕ
-      b = nat (p .nodes .b) j
+      b = natAt (p .nodes .b) j
 
       lo : ℤ
-      lo = int (p .nodes .lows) j
+      lo = intAt (p .nodes .lows) j
 
       hi : ℤ
-      hi = int (p .nodes .highs) j
+      hi = intAt (p .nodes .highs) j
 
       limits : Means (within M lo && within M hi) (Within M lo × Within M hi)
       limits = both (within-means M lo) (within-means M hi)
@@ -117,7 +117,7 @@ module _ (p : Plan) where
   pub link-kept : (e : ℕ) → Means (linkLimits p e && linkOrdered p e) (LinkRule p e)
   unfolding linkLimits linkOrdered
   link-kept e =
-      let c = int (p .links .coefficients) e in
+      let c = intAt (p .links .coefficients) e in
       let names = both (ltb-means _ (p .counts .n)) (ltb-means _ (p .counts .n + p .counts .m + p .counts .k)) in
       let limits = both (both names (negated (zero-means c))) (within-means 16777216 c) in
       let all = both limits (ascends-means (p .links .targets) (p .links .sources) e) in (
@@ -135,7 +135,7 @@ module _ (p : Plan) where
   unfolding commandLimits commandOrdered
   command-kept e =
       let tick = both (leb-means 1 _) (leb-means _ (p .horizon)) in
-      let limits = both (both tick (ltb-means _ (p .counts .m))) (within-means M (int (p .commands .values) e)) in
+      let limits = both (both tick (ltb-means _ (p .counts .m))) (within-means M (intAt (p .commands .values) e)) in
       let all = both limits (ascends-means (p .commands .ticks) (p .commands .inputs) e) in (
         λ t. let h = all .0 t in record {
           least = h .0 .0 .0 .0;

@@ -4,7 +4,7 @@ use mathlib.Core.List.{List}
 use Prim.Native.Nat.{ℕ, zero, suc, _%_, _≤_, _<_}
 use native.Mathlib.Omega.{arith}
 use lib.ListN.{length}
-use Rattle.plan.specs.Lists.{nat}
+use Rattle.plan.specs.Lists.{natAt}
 use Rattle.plan.specs.Format.{sections, entrySizes, headerLength, offsetIn, lengthIn, startIn, countIn}
 use Rattle.plan.specs.Tests.{longEnough, offsetsKept, sizesKept}
 use Rattle.plan.specs.Rules.{OffsetRule, SizeRule}
@@ -36,5 +36,5 @@ module _ (file : List ℕ) where
   pub sizes-kept : Means (sizesKept file) (SizeRule file)
   unfolding sizesKept
   sizes-kept =
-      let all = every-means (λ k. both (eqb-means (lengthIn file k % nat entrySizes k) 0) (count-kept k (countIn file k))) sections in
+      let all = every-means (λ k. both (eqb-means (lengthIn file k % natAt entrySizes k) 0) (count-kept k (countIn file k))) sections in
       (λ t. record { whole = λ k l. all .0 t k l .0; count = λ k l. all .0 t k l .1 }, λ r. all .1 (λ k l. (r .whole k l, r .count k l)))

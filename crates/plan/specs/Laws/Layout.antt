@@ -8,7 +8,7 @@ use lib.ListN.{length, getD, length-append}
 use lib.Seq.{take-at, drop-at}
 use Rattle.words.specs.Word.{word, flat}
 use Rattle.words.specs.Flat.{length-flat, flat-append, word-flat}
-use Rattle.plan.specs.Lists.{nat, joined}
+use Rattle.plan.specs.Lists.{natAt, joined}
 use Rattle.plan.specs.Format.{sections, entrySizes, headerLength, part}
 use Rattle.plan.specs.Tests.{counts}
 use Rattle.plan.specs.Rules.{CountsRule}
@@ -30,15 +30,15 @@ each-section P a b c d e (suc (suc (suc (suc (suc k))))) h = absurd (omega arith
 abbrev pub entryWidths : List ℕ
 entryWidths = 2 ∷ 1 ∷ 5 ∷ 3 ∷ 3 ∷ []
 
-pub size-width : (k : ℕ) → k < sections → nat entrySizes k ≡ 4 * nat entryWidths k
-size-width = each-section (λ k. nat entrySizes k ≡ 4 * nat entryWidths k) refl refl refl refl refl
+pub size-width : (k : ℕ) → k < sections → natAt entrySizes k ≡ 4 * natAt entryWidths k
+size-width = each-section (λ k. natAt entrySizes k ≡ 4 * natAt entryWidths k) refl refl refl refl refl
 
 module _ (p : Plan) where
   unfoldable pub entryWords : ℕ → ℕ → List ℕ
   entryWords k = getD (integratorWords p ∷ inputWords p ∷ nodeWords p ∷ linkWords p ∷ commandWords p ∷ []) k (λ _. [])
 
   unfoldable pub sectionWords : ℕ → List ℕ
-  sectionWords k = joined (entryWords k) (nat (counts p) k)
+  sectionWords k = joined (entryWords k) (natAt (counts p) k)
 
   -- the words of the file up to section k
   unfoldable pub wordsTo : ℕ → List ℕ
@@ -54,14 +54,14 @@ module _ (p : Plan) where
   offset-next k = refl
 
   -- ---- lengths
-  pub length-entry : (k i : ℕ) → k < sections → length (entryWords k i) ≡ nat entryWidths k
+  pub length-entry : (k i : ℕ) → k < sections → length (entryWords k i) ≡ natAt entryWidths k
   unfolding entryWords integratorWords inputWords nodeWords linkWords commandWords
-  length-entry k i = each-section (λ k. length (entryWords k i) ≡ nat entryWidths k) refl refl refl refl refl k
+  length-entry k i = each-section (λ k. length (entryWords k i) ≡ natAt entryWidths k) refl refl refl refl refl k
 
   pub length-section : (k : ℕ) → k < sections → 4 * length (sectionWords k) ≡ lengthOf p k
   unfolding sectionWords lengthOf
   length-section k h =
-      let l = length-joined (entryWords k) (nat entryWidths k) (nat (counts p) k) (λ i g. length-entry k i h) in
+      let l = length-joined (entryWords k) (natAt entryWidths k) (natAt (counts p) k) (λ i g. length-entry k i h) in
       rw (l, size-width k h) (omega arith)
 
   pub length-header : 4 * length (headerWords p) ≡ headerLength
@@ -107,26 +107,26 @@ module _ (p : Plan) where
       (take-at here rest (lengthOf p k) (length-flat (sectionWords k) ∙ length-section k h))
 
   -- word c of entry i in its section, and in the file
-  module _ (k i c : ℕ) (h : k < sections) (l : i < nat (counts p) k) (g : c < nat entryWidths k) where
-    pub section-word : getD (sectionWords k) (nat entryWidths k * i + c) 0 ≡ getD (entryWords k i) c 0
+  module _ (k i c : ℕ) (h : k < sections) (l : i < natAt (counts p) k) (g : c < natAt entryWidths k) where
+    pub section-word : getD (sectionWords k) (natAt entryWidths k * i + c) 0 ≡ getD (entryWords k i) c 0
     unfolding sectionWords
     section-word =
-        let e = length-joined (entryWords k) (nat entryWidths k) i (λ j t. length-entry k j h) in
+        let e = length-joined (entryWords k) (natAt entryWidths k) i (λ j t. length-entry k j h) in
         let d = length-entry k i h in
-        rw (← e) (getD-joined (entryWords k) (nat (counts p) k) i c 0 l (omega arith))
+        rw (← e) (getD-joined (entryWords k) (natAt (counts p) k) i c 0 l (omega arith))
 
-    section-inside : nat entryWidths k * i + c < length (sectionWords k)
+    section-inside : natAt entryWidths k * i + c < length (sectionWords k)
     unfolding sectionWords
     section-inside =
-        let e = length-joined (entryWords k) (nat entryWidths k) (nat (counts p) k) (λ j t. length-entry k j h) in
-        omega (arith, mul-le-mul-left (nat entryWidths k) l)
+        let e = length-joined (entryWords k) (natAt entryWidths k) (natAt (counts p) k) (λ j t. length-entry k j h) in
+        omega (arith, mul-le-mul-left (natAt entryWidths k) l)
 
     -- read from the section's bytes
     pub entry-read : getD (entryWords k i) c 0 < 2 ^ 32
-        → word (flat (sectionWords k)) (nat entrySizes k * i + 4 * c) ≡ getD (entryWords k i) c 0
+        → word (flat (sectionWords k)) (natAt entrySizes k * i + 4 * c) ≡ getD (entryWords k i) c 0
     entry-read small =
-        let e : nat entrySizes k * i + 4 * c ≡ 4 * (nat entryWidths k * i + c) = rw (size-width k h) (omega arith) in
-        rw e (word-flat (sectionWords k) (nat entryWidths k * i + c) section-inside (rw section-word small) ∙ section-word)
+        let e : natAt entrySizes k * i + 4 * c ≡ 4 * (natAt entryWidths k * i + c) = rw (size-width k h) (omega arith) in
+        rw e (word-flat (sectionWords k) (natAt entryWidths k * i + c) section-inside (rw section-word small) ∙ section-word)
 
   -- the header's words
   pub header-offset : (k : ℕ) → k < sections → getD (headerWords p) (1 + 2 * k) 0 ≡ offsetOf p k

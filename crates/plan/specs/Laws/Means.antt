@@ -11,7 +11,7 @@ use borrow.Author.Tests.{leb-true, le-leb, ltb-true, lt-ltb, eqb-true, eq-eqb}
 use Rattle.integers.specs.Parts.{∣_∣, tight, zs}
 use Rattle.integers.specs.Order.{leZ-true}
 use Rattle.integers.specs.Range.{within, within-true}
-use Rattle.plan.specs.Lists.{nat, every}
+use Rattle.plan.specs.Lists.{natAt, every}
 use Rattle.plan.specs.Tests.{ascends}
 use Rattle.plan.specs.Rules.{Within, Ascends}
 use Rattle.plan.specs.Laws.Searches.{every-true}
@@ -65,13 +65,13 @@ within-size b z = Iff·trans (Iff·symm (within-means b z)) (within-true b z)
 
 -- ---- the order of entries: entry e stands above its predecessor, or has none
 pub ascends-means : (xs ys : List ℕ) (e : ℕ)
-    → Means (eqb e 0 || ascends (nat xs (e - 1)) (nat ys (e - 1)) (nat xs e) (nat ys e)) (Ascends xs ys e)
+    → Means (eqb e 0 || ascends (natAt xs (e - 1)) (natAt ys (e - 1)) (natAt xs e) (natAt ys e)) (Ascends xs ys e)
 unfolding ascends
 ascends-means xs ys zero = (λ t d q. absurd (omega arith), λ h. refl)
 ascends-means xs ys (suc d) =
     let back : suc d - 1 ≡ d = omega arith in
     rw (eqb·suc-zero d, back) (λ t c q. let same : c ≡ d = omega arith in rw same (above .0 t), λ h. above .1 (h d refl))
   where
-    above : Means (ascends (nat xs d) (nat ys d) (nat xs (suc d)) (nat ys (suc d)))
-        ((nat xs d < nat xs (suc d)) ⊎ ((nat xs d ≡ nat xs (suc d)) × (nat ys d < nat ys (suc d))))
+    above : Means (ascends (natAt xs d) (natAt ys d) (natAt xs (suc d)) (natAt ys (suc d)))
+        ((natAt xs d < natAt xs (suc d)) ⊎ ((natAt xs d ≡ natAt xs (suc d)) × (natAt ys d < natAt ys (suc d))))
     above = either (ltb-means _ _) (both (eqb-means _ _) (ltb-means _ _))

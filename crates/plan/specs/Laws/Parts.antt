@@ -7,7 +7,7 @@ use native.Mathlib.Omega.{arith}
 use lib.ListN.{length, length-take, length-drop}
 use Rattle.words.specs.Word.{Bytes}
 use Rattle.words.specs.Reading.{number-lt, bytes-take, bytes-drop}
-use Rattle.plan.specs.Lists.{nat}
+use Rattle.plan.specs.Lists.{natAt}
 use Rattle.plan.specs.Format.{sections, entrySizes, leastCounts, largestCounts, headerLength, offsetIn, lengthIn, countIn, part}
 use Rattle.plan.specs.Format.{sectionIn}
 use Rattle.plan.specs.Rules.{OffsetRule, SizeRule}
@@ -47,17 +47,17 @@ module _ (file : List ℕ) where
 
   module _ (z : SizeRule file) where
     -- a section is as long as its entries
-    pub length-entries : (k : ℕ) → k < sections → lengthIn file k ≡ nat entrySizes k * countIn file k
+    pub length-entries : (k : ℕ) → k < sections → lengthIn file k ≡ natAt entrySizes k * countIn file k
     unfolding countIn
     length-entries k h =
-        each-section (λ k. lengthIn file k % nat entrySizes k ≡ 0 → lengthIn file k ≡ nat entrySizes k * countIn file k)
+        each-section (λ k. lengthIn file k % natAt entrySizes k ≡ 0 → lengthIn file k ≡ natAt entrySizes k * countIn file k)
         (λ e. omega arith) (λ e. omega arith) (λ e. omega arith) (λ e. omega arith) (λ e. omega arith) k h (z .whole k h)
 
     length-limit : (k : ℕ) → k < sections
-        → (nat entrySizes k * nat leastCounts k ≤ lengthIn file k) × (lengthIn file k ≤ nat entrySizes k * nat largestCounts k)
+        → (natAt entrySizes k * natAt leastCounts k ≤ lengthIn file k) × (lengthIn file k ≤ natAt entrySizes k * natAt largestCounts k)
     length-limit k h =
         let c = z .count k h in
-        rw (length-entries k h) (mul-le-mul-left (nat entrySizes k) (c .0), mul-le-mul-left (nat entrySizes k) (c .1))
+        rw (length-entries k h) (mul-le-mul-left (natAt entrySizes k) (c .0), mul-le-mul-left (natAt entrySizes k) (c .1))
 
     -- the longest section has 256 links of 12 bytes
     pub length-most : (k : ℕ) → k < sections → lengthIn file k ≤ 3072

@@ -8,7 +8,7 @@ use lib.IntN.{pos}
 use lib.ListN.{getD}
 use Rattle.words.specs.Word.{signedOf, word}
 use Rattle.words.specs.Reading.{number-part}
-use Rattle.plan.specs.Lists.{nat}
+use Rattle.plan.specs.Lists.{natAt}
 use Rattle.plan.specs.Format.{sections, entrySizes, largestCounts, horizonIn, offsetIn, lengthIn, countIn, part}
 use Rattle.plan.specs.Format.{sectionIn, columnOf, columnIn, planIn}
 use Rattle.plan.specs.Rules.{SizeRule}
@@ -20,23 +20,23 @@ use Rattle.plan.specs.Laws.Parts.{length-entries}
 module _ (file : List ℕ) (z : SizeRule file) where
   -- entry i of column c is what stands there in its section
   pub column-at : {A : Type 0} (unused : A) (read : List ℕ → ℕ → A) (k i : ℕ) → k < sections → i < countIn file k → (c : ℕ)
-      → getD (columnIn unused read file k c) i unused ≡ read (sectionIn file k) (nat entrySizes k * i + 4 * c)
+      → getD (columnIn unused read file k c) i unused ≡ read (sectionIn file k) (natAt entrySizes k * i + 4 * c)
   unfolding columnOf columnIn
   column-at unused read k i h l c =
       let most = z .count k h .1 in
-      row-at unused (nat largestCounts k) (countIn file k) (λ j. read (sectionIn file k) (nat entrySizes k * j + 4 * c)) i most l
+      row-at unused (natAt largestCounts k) (countIn file k) (λ j. read (sectionIn file k) (natAt entrySizes k * j + 4 * c)) i most l
 
   -- a word of an entry stands in the file as far behind the section's offset
-  section-word : (k i c : ℕ) → k < sections → i < countIn file k → c < nat entryWidths k
-      → word (sectionIn file k) (nat entrySizes k * i + 4 * c) ≡ word file (offsetIn file k + (nat entrySizes k * i + 4 * c))
+  section-word : (k i c : ℕ) → k < sections → i < countIn file k → c < natAt entryWidths k
+      → word (sectionIn file k) (natAt entrySizes k * i + 4 * c) ≡ word file (offsetIn file k + (natAt entrySizes k * i + 4 * c))
   unfolding sectionIn part
   section-word k i c h l g =
-      number-part 4 file (offsetIn file k) (lengthIn file k) (nat entrySizes k * i + 4 * c)
-      (omega (arith, length-entries file z k h, size-width k h, mul-le-mul-left (nat entrySizes k) l))
+      number-part 4 file (offsetIn file k) (lengthIn file k) (natAt entrySizes k * i + 4 * c)
+      (omega (arith, length-entries file z k h, size-width k h, mul-le-mul-left (natAt entrySizes k) l))
 
   -- so entry i of column c, by the word at its place
-  pub column-place : {A : Type 0} (unused : A) (decode : ℕ → A) (k c i at : ℕ) → k < sections → i < countIn file k → c < nat entryWidths k
-      → at ≡ offsetIn file k + (nat entrySizes k * i + 4 * c)
+  pub column-place : {A : Type 0} (unused : A) (decode : ℕ → A) (k c i at : ℕ) → k < sections → i < countIn file k → c < natAt entryWidths k
+      → at ≡ offsetIn file k + (natAt entrySizes k * i + 4 * c)
       → getD (columnIn unused (λ s a. decode (word s a)) file k c) i unused ≡ decode (word file at)
   column-place unused decode k c i at h l g e =
       column-at unused (λ s a. decode (word s a)) k i h l c ∙ ap decode (section-word k i c h l g ∙ ap (word file) (sym e))

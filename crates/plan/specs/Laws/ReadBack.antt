@@ -10,7 +10,7 @@ use lib.ListN.{length, getD}
 use Rattle.integers.specs.Parts.{zs}
 use Rattle.words.specs.Word.{unsignedOf, signedOf, word, wordOf, flat}
 use Rattle.words.specs.Signs.{signed-unsigned}
-use Rattle.plan.specs.Lists.{nat, int}
+use Rattle.plan.specs.Lists.{natAt, intAt}
 use Rattle.plan.specs.Format.{M, sections, entrySizes, largestCounts, columnOf, columnIn, planIn, Shaped}
 use Rattle.plan.specs.Tests.{counts}
 use Rattle.plan.specs.Rules.{Within, PlanRules}
@@ -50,17 +50,17 @@ clean-only (Command i) e = absurd (false≢true e)
 
 module _ (p : Plan) (r : PlanRules p) (u : PlanUnused p) (s : Shaped p) where
   -- one column: its words stand for the entries of an array
-  column-back : {A : Type 0} (z : A) (decode : ℕ → A) (k c : ℕ) (xs : List A) → k < sections → c < nat entryWidths k
-      → length xs ≡ nat largestCounts k → ((i : ℕ) → nat (counts p) k ≤ i → getD xs i z ≡ z)
-      → ((i : ℕ) → i < nat (counts p) k → decode (getD (entryWords p k i) c 0) ≡ getD xs i z)
+  column-back : {A : Type 0} (z : A) (decode : ℕ → A) (k c : ℕ) (xs : List A) → k < sections → c < natAt entryWidths k
+      → length xs ≡ natAt largestCounts k → ((i : ℕ) → natAt (counts p) k ≤ i → getD xs i z ≡ z)
+      → ((i : ℕ) → i < natAt (counts p) k → decode (getD (entryWords p k i) c 0) ≡ getD xs i z)
       → columnIn z (λ part at. decode (word part at)) (encode p) k c ≡ xs
   unfolding columnOf columnIn
   column-back z decode k c xs h g l unused e =
       rw (count-back p r k h, section-back p r k h)
-      (row-ext z (nat largestCounts k) (nat (counts p) k) _ (λ i. getD xs i z) entry
-      ∙ row-all z (nat largestCounts k) (nat (counts p) k) xs l unused)
+      (row-ext z (natAt largestCounts k) (natAt (counts p) k) _ (λ i. getD xs i z) entry
+      ∙ row-all z (natAt largestCounts k) (natAt (counts p) k) xs l unused)
     where
-      entry : (i : ℕ) → i < nat (counts p) k → decode (word (flat (sectionWords p k)) (nat entrySizes k * i + 4 * c)) ≡ getD xs i z
+      entry : (i : ℕ) → i < natAt (counts p) k → decode (word (flat (sectionWords p k)) (natAt entrySizes k * i + 4 * c)) ≡ getD xs i z
       entry i t = ap decode (entry-read p k i c h t g (small-at (entryWords p k i) (entry-small p r k i h t) c)) ∙ e i t
 
   pub plan-back : planIn (encode p) ≡ p
@@ -74,26 +74,26 @@ module _ (p : Plan) (r : PlanRules p) (u : PlanUnused p) (s : Shaped p) where
         count-back p r 3 (omega arith),
         count-back p r 4 (omega arith),
         column-back (pos 0) (signedOf 4) 0 0 (p .integrators .starts) (omega arith) (omega arith) (s .starts) (u .starts)
-            (λ i h. signed-read (int (p .integrators .starts) i) (r .integrators i h .start)),
+            (λ i h. signed-read (intAt (p .integrators .starts) i) (r .integrators i h .start)),
         column-back (pos 0) pos 0 1 (p .integrators .quanta) (omega arith) (omega arith) (s .quanta) (u .quanta)
-            (λ i h. unsigned-read (int (p .integrators .quanta) i) (r .integrators i h .least)),
+            (λ i h. unsigned-read (intAt (p .integrators .quanta) i) (r .integrators i h .least)),
         column-back (pos 0) (signedOf 4) 1 0 (p .inputs .firsts) (omega arith) (omega arith) (s .firsts) (u .firsts)
-            (λ j h. signed-read (int (p .inputs .firsts) j) (r .inputs j h)),
+            (λ j h. signed-read (intAt (p .inputs .firsts) j) (r .inputs j h)),
         column-back 0 (λ w. w) 2 0 (p .nodes .kinds) (omega arith) (omega arith) (s .kinds) (u .kinds) (λ i h. refl),
         column-back 0 (λ w. w) 2 1 (p .nodes .a) (omega arith) (omega arith) (s .a) (u .a) (λ i h. refl),
         column-back 0 (λ w. w) 2 2 (p .nodes .b) (omega arith) (omega arith) (s .b) (u .b) (λ i h. refl),
         column-back (pos 0) (signedOf 4) 2 3 (p .nodes .lows) (omega arith) (omega arith) (s .lows) (u .lows)
-            (λ j h. signed-read (int (p .nodes .lows) j) (node-limits p j (r .nodes j h) .0)),
+            (λ j h. signed-read (intAt (p .nodes .lows) j) (node-limits p j (r .nodes j h) .0)),
         column-back (pos 0) (signedOf 4) 2 4 (p .nodes .highs) (omega arith) (omega arith) (s .highs) (u .highs)
-            (λ j h. signed-read (int (p .nodes .highs) j) (node-limits p j (r .nodes j h) .1)),
+            (λ j h. signed-read (intAt (p .nodes .highs) j) (node-limits p j (r .nodes j h) .1)),
         column-back 0 (λ w. w) 3 0 (p .links .targets) (omega arith) (omega arith) (s .targets) (u .targets) (λ i h. refl),
         column-back 0 (λ w. w) 3 1 (p .links .sources) (omega arith) (omega arith) (s .sources) (u .sources) (λ i h. refl),
         column-back (pos 0) (signedOf 4) 3 2 (p .links .coefficients) (omega arith) (omega arith) (s .coefficients) (u .coefficients)
-            (λ e h. signed-read (int (p .links .coefficients) e) (coefficient-within (r .links e h .coefficient))),
+            (λ e h. signed-read (intAt (p .links .coefficients) e) (coefficient-within (r .links e h .coefficient))),
         column-back 0 (λ w. w) 4 0 (p .commands .ticks) (omega arith) (omega arith) (s .ticks) (u .ticks) (λ i h. refl),
         column-back 0 (λ w. w) 4 1 (p .commands .inputs) (omega arith) (omega arith) (s .inputs) (u .inputs) (λ i h. refl),
         column-back (pos 0) (signedOf 4) 4 2 (p .commands .values) (omega arith) (omega arith) (s .values) (u .values)
-            (λ e h. signed-read (int (p .commands .values) e) (r .commands e h .value)),
+            (λ e h. signed-read (intAt (p .commands .values) e) (r .commands e h .value)),
       )
 
   -- what is found wrong with the file is what is found wrong with the plan

@@ -12,7 +12,7 @@ use borrow.Author.Tests.{leb-true, leb-false, eqb-true, eqb-false}
 use Rattle.integers.specs.Parts.{∣_∣, neg, tight, zs}
 use Rattle.words.specs.Word.{wordOf}
 use Rattle.words.specs.Signs.{unsigned-lt}
-use Rattle.plan.specs.Lists.{nat, int, joined}
+use Rattle.plan.specs.Lists.{natAt, intAt, joined}
 use Rattle.plan.specs.Format.{M, sections}
 use Rattle.plan.specs.Tests.{counts}
 use Rattle.plan.specs.Rules.{Within, NodeRule, PlanRules}
@@ -60,19 +60,19 @@ signed-small z h = unsigned-lt 4 (omega arith) z (signed-size z h)
 
 module _ (p : Plan) (j : ℕ) (r : NodeRule p j) where
   -- what a node of any kind keeps
-  node-right : nat (p .nodes .b) j ≤ p .counts .n + p .counts .m + j
-  node-right = go (eqb (nat (p .nodes .kinds) j) 2) refl
+  node-right : natAt (p .nodes .b) j ≤ p .counts .n + p .counts .m + j
+  node-right = go (eqb (natAt (p .nodes .kinds) j) 2) refl
     where
-      go : (b : Bool) → eqb (nat (p .nodes .kinds) j) 2 ≡ b → nat (p .nodes .b) j ≤ p .counts .n + p .counts .m + j
-      go true e = omega (arith, r .unused (eqb-true (nat (p .nodes .kinds) j) 2 e))
-      go false e = omega (arith, r .right (eqb-false (nat (p .nodes .kinds) j) 2 e))
+      go : (b : Bool) → eqb (natAt (p .nodes .kinds) j) 2 ≡ b → natAt (p .nodes .b) j ≤ p .counts .n + p .counts .m + j
+      go true e = omega (arith, r .unused (eqb-true (natAt (p .nodes .kinds) j) 2 e))
+      go false e = omega (arith, r .right (eqb-false (natAt (p .nodes .kinds) j) 2 e))
 
-  pub node-limits : Within M (int (p .nodes .lows) j) × Within M (int (p .nodes .highs) j)
-  node-limits = go (leb (nat (p .nodes .kinds) j) 1) refl
+  pub node-limits : Within M (intAt (p .nodes .lows) j) × Within M (intAt (p .nodes .highs) j)
+  node-limits = go (leb (natAt (p .nodes .kinds) j) 1) refl
     where
-      go : (b : Bool) → leb (nat (p .nodes .kinds) j) 1 ≡ b → Within M (int (p .nodes .lows) j) × Within M (int (p .nodes .highs) j)
-      go true e = omega (arith, zs, neg (pos M), r .plain (leb-true (nat (p .nodes .kinds) j) 1 e))
-      go false e = r .limits (leb-false (nat (p .nodes .kinds) j) 1 e)
+      go : (b : Bool) → leb (natAt (p .nodes .kinds) j) 1 ≡ b → Within M (intAt (p .nodes .lows) j) × Within M (intAt (p .nodes .highs) j)
+      go true e = omega (arith, zs, neg (pos M), r .plain (leb-true (natAt (p .nodes .kinds) j) 1 e))
+      go false e = r .limits (leb-false (natAt (p .nodes .kinds) j) 1 e)
 
 -- ---- the words of each part
 module _ (p : Plan) (r : PlanRules p) where
@@ -83,36 +83,36 @@ module _ (p : Plan) (r : PlanRules p) where
       pair : (k : ℕ) → k < sections → Small (offsetOf p k ∷ lengthOf p k ∷ [])
       pair k h = omega (arith, offset-most p k h, file-most p (r .counts))
 
-  pub entry-small : (k i : ℕ) → k < sections → i < nat (counts p) k → Small (entryWords p k i)
+  pub entry-small : (k i : ℕ) → k < sections → i < natAt (counts p) k → Small (entryWords p k i)
   unfolding counts entryWords integratorWords inputWords nodeWords linkWords commandWords
-  entry-small k i = each-section (λ k. i < nat (counts p) k → Small (entryWords p k i)) integrator input node link command k
+  entry-small k i = each-section (λ k. i < natAt (counts p) k → Small (entryWords p k i)) integrator input node link command k
     where
       integrator : i < p .counts .n → Small (integratorWords p i)
       integrator l =
           let e = r .integrators i l in
-          (signed-small (int (p .integrators .starts) i) (e .start), (signed-small (int (p .integrators .quanta) i) (quantum-within (e .least) (e .most)), tt))
+          (signed-small (intAt (p .integrators .starts) i) (e .start), (signed-small (intAt (p .integrators .quanta) i) (quantum-within (e .least) (e .most)), tt))
 
       input : i < p .counts .m → Small (inputWords p i)
-      input l = (signed-small (int (p .inputs .firsts) i) (r .inputs i l), tt)
+      input l = (signed-small (intAt (p .inputs .firsts) i) (r .inputs i l), tt)
 
       node : i < p .counts .k → Small (nodeWords p i)
       node l =
           let e = r .nodes i l in
           let right = node-right p i e in
-          let low = signed-small (int (p .nodes .lows) i) (node-limits p i e .0) in
-          let high = signed-small (int (p .nodes .highs) i) (node-limits p i e .1) in
+          let low = signed-small (intAt (p .nodes .lows) i) (node-limits p i e .0) in
+          let high = signed-small (intAt (p .nodes .highs) i) (node-limits p i e .1) in
           omega (arith, r .counts 0 (omega arith), r .counts 1 (omega arith), r .counts 2 (omega arith))
 
       link : i < p .counts .links → Small (linkWords p i)
       link l =
           let e = r .links i l in
-          let coefficient = signed-small (int (p .links .coefficients) i) (coefficient-within (e .coefficient)) in
+          let coefficient = signed-small (intAt (p .links .coefficients) i) (coefficient-within (e .coefficient)) in
           omega (arith, r .counts 0 (omega arith), r .counts 1 (omega arith), r .counts 2 (omega arith))
 
       command : i < p .counts .commands → Small (commandWords p i)
       command l =
           let e = r .commands i l in
-          let value = signed-small (int (p .commands .values) i) (e .value) in
+          let value = signed-small (intAt (p .commands .values) i) (e .value) in
           omega (arith, r .horizon, r .counts 1 (omega arith))
 
   pub file-small : Small (fileWords p)
@@ -120,4 +120,4 @@ module _ (p : Plan) (r : PlanRules p) where
   file-small =
       rw (words-to p)
       (small-append (headerWords p) (joined (sectionWords p) sections) header-small
-      (small-joined (sectionWords p) sections (λ k h. small-joined (entryWords p k) (nat (counts p) k) (λ i l. entry-small k i h l))))
+      (small-joined (sectionWords p) sections (λ k h. small-joined (entryWords p k) (natAt (counts p) k) (λ i l. entry-small k i h l))))

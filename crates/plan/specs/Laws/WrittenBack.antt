@@ -11,7 +11,7 @@ use Rattle.words.specs.Word.{Bytes, unsignedOf, word, signedWord, wordOf, flat}
 use Rattle.words.specs.Reading.{number-lt, bytes-number}
 use Rattle.words.specs.Flat.{length-flat, flat-append, flat-read}
 use Rattle.words.specs.Signs.{unsigned-signed}
-use Rattle.plan.specs.Lists.{nat, int, joined}
+use Rattle.plan.specs.Lists.{natAt, intAt, joined}
 use Rattle.plan.specs.Format.{sections, entrySizes, headerLength, horizonIn, offsetIn, lengthIn, countIn, part}
 use Rattle.plan.specs.Format.{sectionIn, signedsIn, planIn}
 use Rattle.plan.specs.Rules.{OffsetRule, SizeRule}
@@ -49,17 +49,17 @@ joined-reads s ws at n b e =
 module _ (file : List ℕ) (b : Bytes file) (o : OffsetRule file) (z : SizeRule file) where
   -- ---- the words of an entry
   signed-at : (k i : ℕ) → k < sections → i < countIn file k → (c : ℕ)
-      → wordOf (int (signedsIn file k c) i) ≡ word (sectionIn file k) (nat entrySizes k * i + 4 * c)
+      → wordOf (intAt (signedsIn file k c) i) ≡ word (sectionIn file k) (natAt entrySizes k * i + 4 * c)
   signed-at k i h l c =
-      let at = nat entrySizes k * i + 4 * c in
+      let at = natAt entrySizes k * i + 4 * c in
       ap wordOf (column-at file z (pos 0) signedWord k i h l c)
       ∙ unsigned-signed 4 (word (sectionIn file k) at) (number-lt 4 at (bytes-section file b k))
 
   entry-reads : (k i : ℕ) → k < sections → i < countIn file k
-      → Reads (sectionIn file k) (nat entrySizes k * i) 0 (entryWords (planIn file) k i)
+      → Reads (sectionIn file k) (natAt entrySizes k * i) 0 (entryWords (planIn file) k i)
   unfolding planIn unsignedOf entryWords integratorWords inputWords nodeWords linkWords commandWords
   entry-reads k i =
-      each-section (λ k. i < countIn file k → Reads (sectionIn file k) (nat entrySizes k * i) 0 (entryWords (planIn file) k i))
+      each-section (λ k. i < countIn file k → Reads (sectionIn file k) (natAt entrySizes k * i) 0 (entryWords (planIn file) k i))
       (λ l. (signed-at 0 i (omega arith) l 0, (ap wordOf (column-at file z (pos 0) (λ s at. pos (word s at)) 0 i (omega arith) l 1), tt)))
       (λ l. (signed-at 1 i (omega arith) l 0, tt))
       (λ l. let plain = column-at file z 0 word 2 i (omega arith) l in (plain 0, (plain 1, (plain 2, limits l))))
@@ -68,7 +68,7 @@ module _ (file : List ℕ) (b : Bytes file) (o : OffsetRule file) (z : SizeRule 
       k
     where
       limits : i < countIn file 2
-          → Reads (sectionIn file 2) (20 * i) 3 (wordOf (int (signedsIn file 2 3) i) ∷ wordOf (int (signedsIn file 2 4) i) ∷ [])
+          → Reads (sectionIn file 2) (20 * i) 3 (wordOf (intAt (signedsIn file 2 3) i) ∷ wordOf (intAt (signedsIn file 2 4) i) ∷ [])
       limits l = let signed = signed-at 2 i (omega arith) l in (signed 3, (signed 4, tt))
 
   -- ---- a section
@@ -83,7 +83,7 @@ module _ (file : List ℕ) (b : Bytes file) (o : OffsetRule file) (z : SizeRule 
       rw (counts-at file k h) (rw mul-zero at all ∙ take-all (size * countIn file k) (sectionIn file k) (omega (arith, whole)))
     where
       size : ℕ
-      size = nat entrySizes k
+      size = natAt entrySizes k
 
       words : ℕ → List ℕ
       words = entryWords (planIn file) k

@@ -4,14 +4,14 @@ use Prim.Native.Nat.{_-_, _≤_}
 use native.Mathlib.Omega.{arith}
 use lib.Dec.{leb}
 use borrow.Author.Tests.{ltb-true, ltb-false, lt-leb, le-leb}
-use Rattle.plan.specs.Lists.{nat, firstFrom}
+use Rattle.plan.specs.Lists.{natAt, firstFrom}
 use Rattle.rates.specs.Laws.Ranges.{first-on, first-here, first-end}
 use Rattle.rates.proofs.first_link_from.Statement.{statement}
 use Rattle.rates.proofs.first_link_from.Tie as tie
 
 abbrev Inv-loop : tie.InvT-loop
 Inv-loop targets i from links e₀ e =
-    (e ≤ links) × (firstFrom (λ d. leb i (nat targets d)) e (links - e) ≡ firstFrom (λ d. leb i (nat targets d)) from (links - from))
+    (e ≤ links) × (firstFrom (λ d. leb i (natAt targets d)) e (links - e) ≡ firstFrom (λ d. leb i (natAt targets d)) from (links - from))
 
 abbrev μ-loop : tie.MeasureT-loop
 μ-loop targets i from links e₀ e = links - e
@@ -34,13 +34,13 @@ loop-less c = omega arith
 loop-again : tie.Need-loop-again Inv-loop μ-loop
 loop-again c =
     let l = c .before .before .before .loop in let a = c .before .before .before .before .args in
-    let below = lt-leb (a .i) (nat (a .targets .now) (l .e)) (ltb-true _ _ (c .if1 .taken)) in
+    let below = lt-leb (a .i) (natAt (a .targets .now) (l .e)) (ltb-true _ _ (c .if1 .taken)) in
     (omega arith, first-on _ (l .e) (a .links) (omega arith) below ∙ l .inv .1)
 
 returns : tie.Need-returns Inv-loop μ-loop
 returns c =
     let l = c .before .before .before .loop in let a = c .before .before .before .before .args in
-    let found = le-leb (a .i) (nat (a .targets .now) (l .e)) (ltb-false _ _ (c .if1 .left)) in
+    let found = le-leb (a .i) (natAt (a .targets .now) (l .e)) (ltb-false _ _ (c .if1 .left)) in
     first-here _ (l .e) (a .links) (omega arith) found ∙ l .inv .1
 
 returns-2 : tie.Need-returns-2 Inv-loop μ-loop

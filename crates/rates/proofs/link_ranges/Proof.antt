@@ -3,7 +3,7 @@ use mathlib.Core.Path.{_≡_, _∙_}
 use Prim.Native.Nat.{_+_, _-_, _≤_}
 use native.Mathlib.Omega.{arith}
 use lib.Dec.{leb}
-use Rattle.plan.specs.Lists.{nat, row, firstFrom}
+use Rattle.plan.specs.Lists.{natAt, row, firstFrom}
 use Rattle.plan.specs.Laws.Rows.{row-none, row-more}
 use Rattle.rates.specs.Links.{firstLink}
 use Rattle.rates.specs.Laws.Ranges.{first-most, next-first}
@@ -12,7 +12,7 @@ use Rattle.rates.proofs.link_ranges.Tie as tie
 
 abbrev Inv-loop : tie.InvT-loop
 Inv-loop n links targets ranges₀ e₀ i₀ ranges e i =
-    (i ≤ n + 1) × (e ≤ links) × (firstFrom (λ d. leb i (nat targets d)) e (links - e) ≡ firstLink targets links i)
+    (i ≤ n + 1) × (e ≤ links) × (firstFrom (λ d. leb i (natAt targets d)) e (links - e) ≡ firstLink targets links i)
     × (ranges ≡ row 0 33 i (firstLink targets links))
 
 abbrev μ-loop : tie.MeasureT-loop

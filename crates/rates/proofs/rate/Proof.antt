@@ -8,7 +8,7 @@ use mir.Val.{SFits, toZ, ofZ}
 use mir.Facts.{toZ-ofZ}
 use Rattle.integers.specs.Division.{floored}
 use Rattle.integers.specs.Signed64.{reads}
-use Rattle.plan.specs.Lists.{nat}
+use Rattle.plan.specs.Lists.{natAt}
 use Rattle.rates.specs.Links.{term, sumFrom, rangeRate}
 use Rattle.rates.specs.Laws.Sums.{sum-more, coefficient-fits, value-fits, term-fits, sum-fits}
 use Rattle.rates.proofs.rate.Statement.{statement}
@@ -46,13 +46,13 @@ element-copy-out-sum-3 c = omega (arith, c .before .before .before .before .pre 
 mul-sum-4 : tie.Need-mul-sum-4 Inv-loop μ-loop
 mul-sum-4 c =
     let s = c .before .before .before .before .before in let r = s .pre in let e = c .before .before .before .before .loop .e in
-    let x = coefficient-fits r e (omega arith) in let y = value-fits r (nat (s .args .sources .now) e) in
+    let x = coefficient-fits r e (omega arith) in let y = value-fits r (natAt (s .args .sources .now) e) in
     simp reads (term-fits r e (omega arith))
 
 add-sum : tie.Need-add-sum Inv-loop μ-loop
 add-sum c =
     let s = c .before .before .before .before .before in let r = s .pre in let l = c .before .before .before .before .loop in
-    let x = coefficient-fits r (l .e) (omega arith) in let y = value-fits r (nat (s .args .sources .now) (l .e)) in
+    let x = coefficient-fits r (l .e) (omega arith) in let y = value-fits r (natAt (s .args .sources .now) (l .e)) in
     let p = term-fits r (l .e) (omega arith) in let d = sum-fits r (l .e) (omega arith) (omega arith) in
     simp (l .inv .2, reads, ← sum-more r (l .e) (omega arith)) (sum-fits r (l .e + 1) (omega arith) (omega arith))
 
@@ -65,7 +65,7 @@ loop-less c = omega arith
 loop-again : tie.Need-loop-again Inv-loop μ-loop
 loop-again c =
     let s = c .before .before .before .before .before in let r = s .pre in let l = c .before .before .before .before .loop in
-    let x = coefficient-fits r (l .e) (omega arith) in let y = value-fits r (nat (s .args .sources .now) (l .e)) in
+    let x = coefficient-fits r (l .e) (omega arith) in let y = value-fits r (natAt (s .args .sources .now) (l .e)) in
     let p = term-fits r (l .e) (omega arith) in let d = sum-fits r (l .e) (omega arith) (omega arith) in
     (omega arith, omega arith, simp (l .inv .2, reads, sum-more r (l .e) (omega arith)))
 

@@ -7,7 +7,7 @@ use lib.IntN.{pos}
 use mir.Syntax.{w64}
 use mir.Val.{SFits}
 use mir.Facts.{toZ-ofZ}
-use Rattle.plan.specs.Lists.{nat, row}
+use Rattle.plan.specs.Lists.{natAt, row}
 use Rattle.plan.specs.Laws.Rows.{row-none, row-more}
 use Rattle.rates.specs.Links.{rangeRate}
 use Rattle.rates.proofs.rates.Statement.{statement}
@@ -15,7 +15,7 @@ use Rattle.rates.proofs.rates.Tie as tie
 
 abbrev Inv-loop : tie.InvT-loop
 Inv-loop n ranges sources coefficients values slopes₀ i₀ slopes i =
-    (i ≤ n) × (slopes ≡ row (pos 0) 32 i (λ j. rangeRate sources coefficients values (nat ranges j) (nat ranges (j + 1))))
+    (i ≤ n) × (slopes ≡ row (pos 0) 32 i (λ j. rangeRate sources coefficients values (natAt ranges j) (natAt ranges (j + 1))))
 
 abbrev μ-loop : tie.MeasureT-loop
 μ-loop n ranges sources coefficients values slopes₀ i₀ slopes i = n - i

@@ -13,7 +13,7 @@ use borrow.Author.Tests.{leb-true, leb-false, eqb-true, eqb-false, eq-eqb, ne-eq
 use Rattle.integers.specs.Parts.{∣_∣, sum, zs}
 use Rattle.integers.specs.Division.{floored}
 use Rattle.plan.specs.Format.{M}
-use Rattle.plan.specs.Lists.{nat, int, row}
+use Rattle.plan.specs.Lists.{natAt, intAt, row}
 use Rattle.plan.specs.Rules.{PlanRules}
 use Rattle.plan.specs.Laws.Counts.{counts-of}
 use Rattle.plan.specs.Laws.Means.{within-size}
@@ -35,54 +35,54 @@ begin p i = firstLink (p .links .targets) (p .counts .links) i
 -- ---- the sum over links that stand together
 module _ (p : Plan) (q u : List ℤ) (i : ℕ) where
   -- none is the integrator's
-  sum-past : (a d : ℕ) → ((e : ℕ) → a ≤ e → e < a + d → nat (p .links .targets) e ≡ i → ⊥) → sumOver p q u i (a + d) ≡ sumOver p q u i a
+  sum-past : (a d : ℕ) → ((e : ℕ) → a ≤ e → e < a + d → natAt (p .links .targets) e ≡ i → ⊥) → sumOver p q u i (a + d) ≡ sumOver p q u i a
   unfolding sumOver
   sum-past a zero h = rw add-zero
   sum-past a (suc d) h =
       let s = sumOver p q u i (a + d) in
-      let other = ne-eqb (nat (p .links .targets) (a + d)) i (h (a + d) (omega arith) (omega arith)) in
+      let other = ne-eqb (natAt (p .links .targets) (a + d)) i (h (a + d) (omega arith) (omega arith)) in
       let none : s +ℤ pos 0 ≡ s = omega (arith, zs, sum s (pos 0)) in
       rw (add-suc, other) (none ∙ sum-past a d (λ e b l. h e b (omega arith)))
 
   -- all are the integrator's
-  sum-own : (values : List ℤ) (a d : ℕ) → ((e : ℕ) → a ≤ e → e < a + d → nat (p .links .targets) e ≡ i)
-      → ((e : ℕ) → e < a + d → int values (nat (p .links .sources) e) ≡ valueOf p q u (nat (p .links .sources) e))
+  sum-own : (values : List ℤ) (a d : ℕ) → ((e : ℕ) → a ≤ e → e < a + d → natAt (p .links .targets) e ≡ i)
+      → ((e : ℕ) → e < a + d → intAt values (natAt (p .links .sources) e) ≡ valueOf p q u (natAt (p .links .sources) e))
       → sumOver p q u i (a + d) ≡ sumOver p q u i a +ℤ sumFrom (termOf p values) a d
   unfolding sumOver sumFrom
   sum-own values a zero h v = let s = sumOver p q u i a in rw add-zero (omega (arith, zs, sum s (pos 0)))
   sum-own values a (suc d) h v =
       let x = sumOver p q u i a in let y = sumFrom (termOf p values) a d in let z = termOf p values (a + d) in
-      let own = eq-eqb (nat (p .links .targets) (a + d)) i (h (a + d) (omega arith) (omega arith)) in
+      let own = eq-eqb (natAt (p .links .targets) (a + d)) i (h (a + d) (omega arith) (omega arith)) in
       let more : x +ℤ y +ℤ z ≡ x +ℤ (y +ℤ z) = omega (arith, zs, sum x y, sum (x +ℤ y) z, sum y z, sum x (y +ℤ z)) in
       rw (add-suc, own, sum-own values a d (λ e b l. h e b (omega arith)) (λ e l. v e (omega arith)), ← v (a + d) (omega arith)) more
 
 module _ (p : Plan) (rules : PlanRules p) where
   -- ---- the targets before a range's beginning, and from there on
-  before : (i e : ℕ) → e < begin p i → nat (p .links .targets) e < i
-  before i e h = leb-false i (nat (p .links .targets) e) (first-link (p .links .targets) (p .counts .links) i .earlier e (omega arith) h)
+  before : (i e : ℕ) → e < begin p i → natAt (p .links .targets) e < i
+  before i e h = leb-false i (natAt (p .links .targets) e) (first-link (p .links .targets) (p .counts .links) i .earlier e (omega arith) h)
 
-  from : (i e : ℕ) → begin p i ≤ e → e < p .counts .links → i ≤ nat (p .links .targets) e
+  from : (i e : ℕ) → begin p i ≤ e → e < p .counts .links → i ≤ natAt (p .links .targets) e
   from i e h l = go (eqb (begin p i) e) refl
     where
-      here : i ≤ nat (p .links .targets) (begin p i)
-      here = leb-true i (nat (p .links .targets) (begin p i)) (first-link (p .links .targets) (p .counts .links) i .passes (omega arith))
+      here : i ≤ natAt (p .links .targets) (begin p i)
+      here = leb-true i (natAt (p .links .targets) (begin p i)) (first-link (p .links .targets) (p .counts .links) i .passes (omega arith))
 
       later : {a b a′ b′ : ℕ} → Before a b a′ b′ → a ≤ a′
       later (inl h) = omega arith
       later (inr h) = omega arith
 
-      go : (t : Bool) → eqb (begin p i) e ≡ t → i ≤ nat (p .links .targets) e
+      go : (t : Bool) → eqb (begin p i) e ≡ t → i ≤ natAt (p .links .targets) e
       go true t = rw (eqb-true (begin p i) e t) at here
       go false t =
           let above = ascending (p .links .targets) (p .links .sources) (p .counts .links) (λ d k. rules .links d k .order) (begin p i) e in
           omega (arith, here, later (above (omega (arith, eqb-false (begin p i) e t)) l))
 
   -- ---- the table of ranges
-  pub ranges-at : (i : ℕ) → i ≤ p .counts .n → nat (rangesOf p) i ≡ firstLink (p .links .targets) (p .counts .links) i
+  pub ranges-at : (i : ℕ) → i ≤ p .counts .n → natAt (rangesOf p) i ≡ firstLink (p .links .targets) (p .counts .links) i
   unfolding rangesOf
   ranges-at i h = row-at 0 33 (p .counts .n + 1) (firstLink (p .links .targets) (p .counts .links)) i (omega (arith, counts-of p (rules .counts))) (omega arith)
 
-  pub own-rated : (values : List ℤ) → ((i : ℕ) → ∣ int values i ∣ ≤ M) → AllRated (p .counts .n) (rangesOf p) (p .links .sources) (p .links .coefficients) values
+  pub own-rated : (values : List ℤ) → ((i : ℕ) → ∣ intAt values i ∣ ≤ M) → AllRated (p .counts .n) (rangesOf p) (p .links .sources) (p .links .coefficients) values
   own-rated values sized i h = rw (ranges-at i (omega arith), ranges-at (i + 1) (omega arith)) rated
     where
       last : (e : ℕ) → e < begin p (i + 1) → e < p .counts .links
@@ -94,12 +94,12 @@ module _ (p : Plan) (rules : PlanRules p) where
             order = first-ascends (p .links .targets) (p .counts .links) i;
             few = omega (arith, first-most (p .links .targets) (p .counts .links) (i + 1), counts-of p (rules .counts));
             known = λ e l. omega (arith, rules .links e (last e l) .source, sources-most p rules);
-            small = λ e l. within-size 16777216 (int (p .links .coefficients) e) .0 (rules .links e (last e l) .coefficient);
+            small = λ e l. within-size 16777216 (intAt (p .links .coefficients) e) .0 (rules .links e (last e l) .coefficient);
             sized = sized;
           }
 
   -- ---- the rate
-  module _ (values q u : List ℤ) (same : (i : ℕ) → i < p .counts .n + p .counts .m + p .counts .k → int values i ≡ valueOf p q u i) where
+  module _ (values q u : List ℤ) (same : (i : ℕ) → i < p .counts .n + p .counts .m + p .counts .k → intAt values i ≡ valueOf p q u i) where
     own-sum : (i : ℕ) → sumFrom (termOf p values) (begin p i) (begin p (i + 1) - begin p i) ≡ sumOver p q u i (p .counts .links)
     unfolding sumOver
     own-sum i = sym (behind ∙ within ∙ ahead)
@@ -126,7 +126,7 @@ module _ (p : Plan) (rules : PlanRules p) where
             let all : a + (b - a) ≡ b = omega (arith, ab) in
             rw all at (sum-own p q u i values a (b - a)
             (λ e h l. omega (arith, ab, from i e h (omega (arith, ab, most)), before (i + 1) e (omega (arith, ab))))
-            (λ e l. same (nat (p .links .sources) e) (rules .links e (omega (arith, ab, most)) .source)))
+            (λ e l. same (natAt (p .links .sources) e) (rules .links e (omega (arith, ab, most)) .source)))
 
         ahead : sumOver p q u i a +ℤ sumFrom (termOf p values) a (b - a) ≡ sumFrom (termOf p values) a (b - a)
         ahead =
@@ -135,10 +135,10 @@ module _ (p : Plan) (rules : PlanRules p) where
             rw none (omega (arith, zs, sum (pos 0) s))
 
     pub own-rate : (i : ℕ) → i < p .counts .n
-        → rangeRate (p .links .sources) (p .links .coefficients) values (nat (rangesOf p) i) (nat (rangesOf p) (i + 1)) ≡ rateOf p q u i
+        → rangeRate (p .links .sources) (p .links .coefficients) values (natAt (rangesOf p) i) (natAt (rangesOf p) (i + 1)) ≡ rateOf p q u i
     unfolding rangeRate rateOf
     own-rate i h = rw (ranges-at i (omega arith), ranges-at (i + 1) (omega arith)) (ap floored (own-sum i))
 
-    pub own-rates : row (pos 0) 32 (p .counts .n) (λ i. rangeRate (p .links .sources) (p .links .coefficients) values (nat (rangesOf p) i) (nat (rangesOf p) (i + 1)))
+    pub own-rates : row (pos 0) 32 (p .counts .n) (λ i. rangeRate (p .links .sources) (p .links .coefficients) values (natAt (rangesOf p) i) (natAt (rangesOf p) (i + 1)))
         ≡ row (pos 0) 32 (p .counts .n) (rateOf p q u)
     own-rates = row-ext (pos 0) 32 (p .counts .n) _ _ own-rate

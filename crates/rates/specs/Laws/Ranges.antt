@@ -6,7 +6,7 @@ use Prim.Native.Nat.{ℕ, suc, _+_, _-_, _≤_, _<_}
 use native.Mathlib.Omega.{arith}
 use lib.Dec.{leb}
 use borrow.Author.Tests.{lt-leb, leb-true, leb-false}
-use Rattle.plan.specs.Lists.{nat, firstFrom}
+use Rattle.plan.specs.Lists.{natAt, firstFrom}
 use Rattle.plan.specs.Laws.Searches.{First, first, first-unique}
 use Rattle.rates.specs.Links.{firstLink}
 
@@ -28,24 +28,24 @@ module _ (test : ℕ → Bool) (i n : ℕ) where
   first-end h = let none : n - i ≡ 0 = omega arith in rw none
 
 module _ (targets : List ℕ) (links : ℕ) where
-  pub first-link : (i : ℕ) → First (λ e. leb i (nat targets e)) 0 links (firstLink targets links i)
+  pub first-link : (i : ℕ) → First (λ e. leb i (natAt targets e)) 0 links (firstLink targets links i)
   unfolding firstLink
-  first-link i = first (λ e. leb i (nat targets e)) 0 links
+  first-link i = first (λ e. leb i (natAt targets e)) 0 links
 
   pub first-most : (i : ℕ) → firstLink targets links i ≤ links
   first-most i = omega (arith, first-link i .most)
 
   -- before the first link with target i all targets are below i, so the search for i + 1 goes on from there
-  pub next-first : (i : ℕ) → firstFrom (λ e. leb (i + 1) (nat targets e)) (firstLink targets links i) (links - firstLink targets links i)
+  pub next-first : (i : ℕ) → firstFrom (λ e. leb (i + 1) (natAt targets e)) (firstLink targets links i) (links - firstLink targets links i)
       ≡ firstLink targets links (i + 1)
   unfolding firstLink
-  next-first i = first-unique (λ e. leb (i + 1) (nat targets e)) 0 links f whole
+  next-first i = first-unique (λ e. leb (i + 1) (natAt targets e)) 0 links f whole
     where
       begin : ℕ
       begin = firstLink targets links i
 
       test : ℕ → Bool
-      test e = leb (i + 1) (nat targets e)
+      test e = leb (i + 1) (natAt targets e)
 
       f : ℕ
       f = firstFrom test begin (links - begin)
@@ -57,7 +57,7 @@ module _ (targets : List ℕ) (links : ℕ) where
       most = first-most i
 
       low : (e : ℕ) → e < begin → test e ≡ false
-      low e h = lt-leb (i + 1) (nat targets e) (omega (arith, leb-false i (nat targets e) (first-link i .earlier e (omega arith) h)))
+      low e h = lt-leb (i + 1) (natAt targets e) (omega (arith, leb-false i (natAt targets e) (first-link i .earlier e (omega arith) h)))
 
       earlier : (e : ℕ) → e < f → test e ≡ false
       earlier e h = go (leb begin e) refl
@@ -78,4 +78,4 @@ module _ (targets : List ℕ) (links : ℕ) where
   pub first-ascends : (i : ℕ) → firstLink targets links i ≤ firstLink targets links (i + 1)
   first-ascends i =
       let begin = firstLink targets links i in
-      rw (next-first i) at (first (λ e. leb (i + 1) (nat targets e)) begin (links - begin) .from)
+      rw (next-first i) at (first (λ e. leb (i + 1) (natAt targets e)) begin (links - begin) .from)

@@ -10,20 +10,20 @@ use mir.Val.{SFits}
 use Rattle.integers.specs.Parts.{∣_∣, sum, zs}
 use Rattle.integers.specs.Order.{size-mul}
 use Rattle.plan.specs.Format.{M}
-use Rattle.plan.specs.Lists.{nat, int}
+use Rattle.plan.specs.Lists.{natAt, intAt}
 use Rattle.rates.specs.Links.{term, sumFrom, Rated}
 
 module _ {sources : List ℕ} {coefficients values : List ℤ} {from to : ℕ} (r : Rated sources coefficients values from to) where
   -- ---- the operands
-  pub coefficient-fits : (e : ℕ) → e < to → SFits w64 (int coefficients e)
+  pub coefficient-fits : (e : ℕ) → e < to → SFits w64 (intAt coefficients e)
   coefficient-fits e h = omega (arith, zs, r .small e h)
 
-  pub value-fits : (i : ℕ) → SFits w64 (int values i)
+  pub value-fits : (i : ℕ) → SFits w64 (intAt values i)
   value-fits i = omega (arith, zs, r .sized i)
 
   -- ---- a term
   term-size : (e : ℕ) → e < to → ∣ term sources coefficients values e ∣ ≤ 2 ^ 54
-  term-size e h = size-mul (int coefficients e) (int values (nat sources e)) 16777216 M (r .small e h) (r .sized (nat sources e))
+  term-size e h = size-mul (intAt coefficients e) (intAt values (natAt sources e)) 16777216 M (r .small e h) (r .sized (natAt sources e))
 
   pub term-fits : (e : ℕ) → e < to → SFits w64 (term sources coefficients values e)
   term-fits e h = let s = term-size e h in omega (arith, zs)

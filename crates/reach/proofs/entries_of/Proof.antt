@@ -6,13 +6,13 @@ use Prim.Native.Nat.{ℕ, _<_, _^_}
 use native.Mathlib.Omega.{arith}
 use Rattle.bitset.specs.Mask.{has, each, union}
 use Rattle.bitset.specs.Visiting.{rest-lt, lowest-lt, each-turn, each-done}
-use Rattle.plan.specs.Lists.{nat}
+use Rattle.plan.specs.Lists.{natAt}
 use Rattle.reach.specs.Table.{entriesOf}
 use Rattle.reach.proofs.entries_of.Statement.{statement}
 use Rattle.reach.proofs.entries_of.Tie as tie
 
 abbrev join : List ℕ → ℕ → ℕ → ℕ
-join table i entries = union entries (nat table i)
+join table i entries = union entries (natAt table i)
 
 abbrev Inv-loop : tie.InvT-loop
 Inv-loop changed table left₀ entries₀ left entries =

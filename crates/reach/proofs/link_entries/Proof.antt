@@ -3,7 +3,7 @@ use mathlib.Core.Path.{_≡_, refl, ap, _∙_}
 use Prim.Native.Nat.{_≤_, _-_}
 use native.Mathlib.Omega.{arith}
 use lib.ListN.{replicate}
-use Rattle.plan.specs.Lists.{nat}
+use Rattle.plan.specs.Lists.{natAt}
 use Rattle.reach.specs.Table.{marked, linked}
 use Rattle.reach.specs.Laws.Turns.{link-inside, marked-more}
 use Rattle.reach.proofs.link_entries.Statement.{statement}
@@ -56,7 +56,7 @@ loop-less c = omega arith
 loop-again : tie.Need-loop-again Inv-loop μ-loop
 loop-again c =
     let a = c .before .before .before .before .before .args in let l = c .before .before .before .before .loop in
-    (omega arith, marked-more (nat (a .sources .now)) (nat (a .targets .now)) (replicate 64 0) (l .table) (l .e) _ (l .inv .1) (c .with64 .ensures))
+    (omega arith, marked-more (natAt (a .sources .now)) (natAt (a .targets .now)) (replicate 64 0) (l .table) (l .e) _ (l .inv .1) (c .with64 .ensures))
 
 returns : tie.Need-returns Inv-loop μ-loop
 returns c =

@@ -11,13 +11,13 @@ use lib.Seq.{getD-set-same, getD-set-other}
 use borrow.Author.Tests.{eq-eqb, ne-eqb}
 use Rattle.bitset.specs.Mask.{has, each, union}
 use Rattle.bitset.specs.Bits.{has-none, has-or, has-with}
-use Rattle.plan.specs.Lists.{nat, some}
+use Rattle.plan.specs.Lists.{natAt, some}
 use Rattle.reach.specs.Table.{marked, added, handedDown, entriesOf, Wired}
 use Rattle.reach.specs.Laws.Some.{some-ext, some-none, some-also}
 
 -- bit b stands in the entry of a source that is in `sources`
 unfoldable pub inEntries : List ℕ → (ℕ → Bool) → ℕ → Bool
-inEntries table sources b = some (λ i. sources i && has (nat table i) b) 64
+inEntries table sources b = some (λ i. sources i && has (natAt table i) b) 64
 
 -- the entries joined
 pub entries-of-has : (table : List ℕ) (changed b : ℕ) → has (entriesOf table changed) b ≡ inEntries table (has changed) b
@@ -25,20 +25,20 @@ unfolding entriesOf inEntries each some
 entries-of-has table changed b = below 64
   where
     join : ℕ → ℕ → ℕ
-    join i entries = union entries (nat table i)
+    join i entries = union entries (natAt table i)
 
     more : (n : ℕ) (t : Bool) (entries : ℕ) {a : Bool} → has entries b ≡ a
-        → has (cond t (join n entries) entries) b ≡ (a || (t && has (nat table n) b))
-    more n true entries e = has-or entries (nat table n) b ∙ ap (λ x. x || has (nat table n) b) e
+        → has (cond t (join n entries) entries) b ≡ (a || (t && has (natAt table n) b))
+    more n true entries e = has-or entries (natAt table n) b ∙ ap (λ x. x || has (natAt table n) b) e
     more n false entries {a} e = e ∙ sym (or-false a)
 
-    below : (n : ℕ) → has (each join (has changed) n 0) b ≡ some (λ i. has changed i && has (nat table i) b) n
+    below : (n : ℕ) → has (each join (has changed) n 0) b ≡ some (λ i. has changed i && has (natAt table i) b) n
     below zero = has-none b
     below (suc n) = more n (has changed n) (each join (has changed) n 0) (below n)
 
 pub entries-ext : (table : List ℕ) (f g : ℕ → Bool) (b : ℕ) → ((i : ℕ) → f i ≡ g i) → inEntries table f b ≡ inEntries table g b
 unfolding inEntries
-entries-ext table f g b e = some-ext _ _ 64 (λ i h. ap (λ x. x && has (nat table i) b) (e i))
+entries-ext table f g b e = some-ext _ _ 64 (λ i h. ap (λ x. x && has (natAt table i) b) (e i))
 
 pub entries-none : (sources : ℕ → Bool) (b : ℕ) → inEntries (replicate 64 0) sources b ≡ false
 unfolding inEntries
@@ -50,12 +50,12 @@ and-over true b c = refl
 and-over false b c = refl
 
 -- an entry stored anew, which has the bit also if c
-stored : (table : List ℕ) (sources : ℕ → Bool) (b a v : ℕ) (c : Bool) → length table ≡ 64 → a < 64 → has v b ≡ (has (nat table a) b || c)
+stored : (table : List ℕ) (sources : ℕ → Bool) (b a v : ℕ) (c : Bool) → length table ≡ 64 → a < 64 → has v b ≡ (has (natAt table a) b || c)
     → inEntries (set table a v) sources b ≡ (inEntries table sources b || (sources a && c))
 unfolding inEntries
 stored table sources b a v c len h e =
-    some-also _ (λ i. sources i && has (nat table i) b) (sources a && c) a 64 h
-    (rw (getD-set-same table a v 0 (omega arith), e) (and-over (sources a) (has (nat table a) b) c))
+    some-also _ (λ i. sources i && has (natAt table i) b) (sources a && c) a 64 h
+    (rw (getD-set-same table a v 0 (omega arith), e) (and-over (sources a) (has (natAt table a) b) c))
     (λ i ne. rw (getD-set-other table a i v 0 ne))
 
 module _ (place bit : ℕ → ℕ) (table : List ℕ) where
@@ -70,26 +70,26 @@ module _ (place bit : ℕ → ℕ) (table : List ℕ) where
   marked-entries sources b zero len h = sym (or-false (inEntries table sources b))
   marked-entries sources b (suc e) len h =
       stored (marked place bit table e) sources b (place e) _ (eqb b (bit e)) (marked-length e ∙ len) (h e (omega arith))
-      (has-with (nat (marked place bit table e) (place e)) (bit e) b)
+      (has-with (natAt (marked place bit table e) (place e)) (bit e) b)
       ∙ ap (λ x. x || (sources (place e) && eqb b (bit e))) (marked-entries sources b e len (λ f l. h f (omega arith)))
       ∙ or-assoc (inEntries table sources b) (some (λ f. sources (place f) && eqb b (bit f)) e) (sources (place e) && eqb b (bit e))
 
 added-entries : (table : List ℕ) (sources : ℕ → Bool) (b a entry : ℕ) → length table ≡ 64 → a < 64
     → inEntries (added table a entry) sources b ≡ (inEntries table sources b || (sources a && has entry b))
-added-entries table sources b a entry len h = stored table sources b a _ (has entry b) len h (has-or (nat table a) entry b)
+added-entries table sources b a entry len h = stored table sources b a _ (has entry b) len h (has-or (natAt table a) entry b)
 
 -- a source more, if c
 with-source : (table : List ℕ) (sources : ℕ → Bool) (b a : ℕ) (c : Bool) → a < 64 → sources a ≡ false
-    → inEntries table (λ i. cond (eqb i a) c (sources i)) b ≡ (inEntries table sources b || (c && has (nat table a) b))
+    → inEntries table (λ i. cond (eqb i a) c (sources i)) b ≡ (inEntries table sources b || (c && has (natAt table a) b))
 unfolding inEntries
 with-source table sources b a c h out =
-    some-also _ (λ i. sources i && has (nat table i) b) (c && has (nat table a) b) a 64 h (rw (eq-eqb a a refl, out)) (λ i ne. rw (ne-eqb i a ne))
+    some-also _ (λ i. sources i && has (natAt table i) b) (c && has (natAt table a) b) a 64 h (rw (eq-eqb a a refl, out)) (λ i ne. rw (ne-eqb i a ne))
 
 -- ---- a node's entry handed down to the operands that it uses
 module _ (kinds a b : List ℕ) (base : ℕ) where
   pub handed-length : (j : ℕ) (table : List ℕ) → length (handedDown kinds a b base j table) ≡ length table
   unfolding handedDown
-  handed-length j table = go (eqb (nat kinds j) 2) _ _ (simp length-set) (simp length-set)
+  handed-length j table = go (eqb (natAt kinds j) 2) _ _ (simp length-set) (simp length-set)
     where
       go : (two : Bool) (x y : List ℕ) → length x ≡ length table → length y ≡ length table → length (cond two x y) ≡ length table
       go true x y e f = e
@@ -100,13 +100,13 @@ module _ (kinds a b : List ℕ) (base : ℕ) where
       → (table : List ℕ) (sources : ℕ → Bool) (bit j : ℕ) → length table ≡ 64 → j < k → sources (base + j) ≡ false
       → inEntries (handedDown kinds a b base j table) sources bit
       ≡ inEntries table
-      (λ i. cond (eqb i (base + j)) (sources (nat a j) || (not (eqb (nat kinds j) 2) && sources (nat b j))) (sources i)) bit
+      (λ i. cond (eqb i (base + j)) (sources (natAt a j) || (not (eqb (natAt kinds j) 2) && sources (natAt b j))) (sources i)) bit
   unfolding handedDown
   handed-entries k wired table sources bit j len h out =
-      let l = nat a j in let r = nat b j in let entry = nat table (base + j) in let left = added table l entry in
+      let l = natAt a j in let r = natAt b j in let entry = natAt table (base + j) in let left = added table l entry in
       let one = added-entries table sources bit l entry len (omega (arith, wired .room, wired .left j h)) in
       let two = added-entries left sources bit r entry (length-set table l _ ∙ len) (omega (arith, wired .room, wired .right j h)) in
-      go (eqb (nat kinds j) 2) left (added left r entry) (inEntries table sources bit) (sources l) (sources r) (has entry bit) one
+      go (eqb (natAt kinds j) 2) left (added left r entry) (inEntries table sources bit) (sources l) (sources r) (has entry bit) one
       (two ∙ ap (λ x. x || (sources r && has entry bit)) one)
       ∙ sym (with-source table sources bit (base + j) _ (omega (arith, wired .room)) out)
     where

@@ -12,7 +12,7 @@ use lib.Pow.{pow-pos}
 use borrow.Author.Tests.{eqb-true, eqb-false, eq-eqb, ne-eqb, ltb-true, ltb-false, lt-ltb, le-ltb}
 use Rattle.bitset.specs.Mask.{has, maskOf, joinedOf}
 use Rattle.bitset.specs.Bits.{has-high, has-shr, has-maskOf, maskOf-lt, maskOf-ext}
-use Rattle.plan.specs.Lists.{nat, some}
+use Rattle.plan.specs.Lists.{natAt, some}
 use Rattle.plan.specs.Rules.{PlanRules}
 use Rattle.plan.specs.Laws.Counts.{counts-of}
 use Rattle.plan.specs.declared.Plan.{Plan}
@@ -42,12 +42,12 @@ module _ (p : Plan) (rules : PlanRules p) where
       record {
         room = omega (arith, counts-of p (rules .counts));
         left = λ j h. rules .nodes j h .left;
-        right = λ j h. below j h (eqb (nat (p .nodes .kinds) j) 2) refl;
+        right = λ j h. below j h (eqb (natAt (p .nodes .kinds) j) 2) refl;
       }
     where
-      below : (j : ℕ) → j < p .counts .k → (two : Bool) → eqb (nat (p .nodes .kinds) j) 2 ≡ two → nat (p .nodes .b) j < p .counts .n + p .counts .m + j
-      below j h true e = omega (arith, counts-of p (rules .counts) .n-least, rules .nodes j h .unused (eqb-true (nat (p .nodes .kinds) j) 2 e))
-      below j h false e = rules .nodes j h .right (eqb-false (nat (p .nodes .kinds) j) 2 e)
+      below : (j : ℕ) → j < p .counts .k → (two : Bool) → eqb (natAt (p .nodes .kinds) j) 2 ≡ two → natAt (p .nodes .b) j < p .counts .n + p .counts .m + j
+      below j h true e = omega (arith, counts-of p (rules .counts) .n-least, rules .nodes j h .unused (eqb-true (natAt (p .nodes .kinds) j) 2 e))
+      below j h false e = rules .nodes j h .right (eqb-false (natAt (p .nodes .kinds) j) 2 e)
 
   pub table-linked : Linked (p .links .targets) (p .links .sources) (p .counts .links)
   table-linked =
@@ -63,14 +63,14 @@ module _ (p : Plan) (rules : PlanRules p) where
   own = ownNodes (p .counts .n + p .counts .m) (linked (p .links .targets) (p .links .sources) (p .counts .links)) (p .counts .k)
 
   linked-length : length (linked (p .links .targets) (p .links .sources) (p .counts .links)) ≡ 64
-  linked-length = marked-length (nat (p .links .sources)) (nat (p .links .targets)) (replicate 64 0) (p .counts .links) ∙ length-replicate {A = ℕ} 64 0
+  linked-length = marked-length (natAt (p .links .sources)) (natAt (p .links .targets)) (replicate 64 0) (p .counts .links) ∙ length-replicate {A = ℕ} 64 0
 
   own-length : length own ≡ 64
   own-length = marked-length (λ j. p .counts .n + p .counts .m + j) (λ j. 32 + j) (linked (p .links .targets) (p .links .sources) (p .counts .links)) (p .counts .k) ∙ linked-length
 
   module _ (chosen : ℕ → Bool) where
     abbrev linkHas : ℕ → ℕ → Bool
-    linkHas b e = chosen (nat (p .links .sources) e) && eqb b (nat (p .links .targets) e)
+    linkHas b e = chosen (natAt (p .links .sources) e) && eqb b (natAt (p .links .targets) e)
 
     abbrev nodeHas : ℕ → ℕ → Bool
     nodeHas b j = chosen (p .counts .n + p .counts .m + j) && eqb b (32 + j)
@@ -81,14 +81,14 @@ module _ (p : Plan) (rules : PlanRules p) where
         marked-entries (λ j. p .counts .n + p .counts .m + j) (λ j. 32 + j) (linked (p .links .targets) (p .links .sources) (p .counts .links)) chosen b (p .counts .k) linked-length
         (λ j h. omega (arith, table-wired .room))
         ∙ ap (λ x. x || some (nodeHas b) (p .counts .k))
-        (marked-entries (nat (p .links .sources)) (nat (p .links .targets)) (replicate 64 0) chosen b (p .counts .links) (length-replicate {A = ℕ} 64 0)
+        (marked-entries (natAt (p .links .sources)) (natAt (p .links .targets)) (replicate 64 0) chosen b (p .counts .links) (length-replicate {A = ℕ} 64 0)
         (table-linked .source) ∙ ap (λ x. x || some (linkHas b) (p .counts .links)) (entries-none chosen b))
 
     -- an integrator's: a link of its own names a chosen source
-    own-low : (b : ℕ) → b < 32 → inEntries own chosen b ≡ some (λ e. eqb (nat (p .links .targets) e) b && chosen (nat (p .links .sources) e)) (p .counts .links)
+    own-low : (b : ℕ) → b < 32 → inEntries own chosen b ≡ some (λ e. eqb (natAt (p .links .targets) e) b && chosen (natAt (p .links .sources) e)) (p .counts .links)
     own-low b h =
         own-has b
-        ∙ ap₂ _||_ (some-ext _ _ (p .counts .links) (λ e l. exchanged (chosen (nat (p .links .sources) e)) b (nat (p .links .targets) e)))
+        ∙ ap₂ _||_ (some-ext _ _ (p .counts .links) (λ e l. exchanged (chosen (natAt (p .links .sources) e)) b (natAt (p .links .targets) e)))
         (some-none _ (p .counts .k) (λ j l. other (chosen (p .counts .n + p .counts .m + j)) b (32 + j) (λ e. omega arith)))
         ∙ or-false _
 
@@ -97,7 +97,7 @@ module _ (p : Plan) (rules : PlanRules p) where
         own-has (32 + j)
         ∙ ap (λ x. x || some (nodeHas (32 + j)) (p .counts .k))
         (some-none _ (p .counts .links)
-        (λ e h. other (chosen (nat (p .links .sources) e)) (32 + j) (nat (p .links .targets) e) (λ q. omega (arith, table-linked .target e h))))
+        (λ e h. other (chosen (natAt (p .links .sources) e)) (32 + j) (natAt (p .links .targets) e) (λ q. omega (arith, table-linked .target e h))))
 
     -- a node's: it is chosen
     own-node : (j : ℕ) → j < p .counts .k → inEntries own chosen (32 + j) ≡ chosen (p .counts .n + p .counts .m + j)
@@ -130,7 +130,7 @@ module _ (p : Plan) (rules : PlanRules p) where
 
     not-reached : (i : ℕ) → p .counts .n ≤ i → reached p d t i ≡ false
     unfolding reached linkReaches
-    not-reached i h = some-none _ (p .counts .links) (λ e l. rw (ne-eqb (nat (p .links .targets) e) i (λ q. omega (arith, rules .links e l .target))))
+    not-reached i h = some-none _ (p .counts .links) (λ e l. rw (ne-eqb (natAt (p .links .targets) e) i (λ q. omega (arith, rules .links e l .target))))
 
     -- ---- the sources that change, as a mask
     module _ (changed : ℕ) (all : changed ≡ maskOf (changes p d t) (p .counts .n + p .counts .m)) where

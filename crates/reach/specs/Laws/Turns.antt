@@ -7,34 +7,34 @@ use native.Mathlib.Omega.{arith}
 use lib.ListN.{set}
 use borrow.Author.Tests.{eq-eqb, ne-eqb}
 use Rattle.bitset.specs.Mask.{withBit}
-use Rattle.plan.specs.Lists.{nat}
+use Rattle.plan.specs.Lists.{natAt}
 use Rattle.reach.specs.Table.{marked, added, handedDown, followedDown, Linked, Wired}
 
 -- ---- the numbers that a link and a node name are places of the table
 pub link-inside : {targets sources : List ℕ} {links : ℕ} → Linked targets sources links → (e : ℕ) → e < links
-    → (nat targets e < 64) × (nat sources e < 64)
+    → (natAt targets e < 64) × (natAt sources e < 64)
 link-inside l e h = (omega (arith, l .target e h), l .source e h)
 
 pub operands-inside : {a b : List ℕ} {base k : ℕ} → Wired a b base k → (j : ℕ) → j < k
-    → (nat a j < 64) × (nat b j < 64)
+    → (natAt a j < 64) × (natAt b j < 64)
 operands-inside w j h = (omega (arith, w .room, w .left j h), omega (arith, w .room, w .right j h))
 
 -- ---- turns: one more bit set
 pub marked-more : (place bit : ℕ → ℕ) (table so-far : List ℕ) (e v : ℕ) → so-far ≡ marked place bit table e
-    → v ≡ withBit (nat so-far (place e)) (bit e) → set so-far (place e) v ≡ marked place bit table (e + 1)
+    → v ≡ withBit (natAt so-far (place e)) (bit e) → set so-far (place e) v ≡ marked place bit table (e + 1)
 unfolding marked
 marked-more place bit table so-far e v p q = rw (q, p, add-one)
 
 module _ (kinds a b : List ℕ) (base : ℕ) (table : List ℕ) (j : ℕ) where
   -- kind 2 uses its left operand only
-  pub handed-left : nat kinds j ≡ 2 → added table (nat a j) (nat table (base + j)) ≡ handedDown kinds a b base j table
+  pub handed-left : natAt kinds j ≡ 2 → added table (natAt a j) (natAt table (base + j)) ≡ handedDown kinds a b base j table
   unfolding handedDown
-  handed-left e = rw (eq-eqb (nat kinds j) 2 e)
+  handed-left e = rw (eq-eqb (natAt kinds j) 2 e)
 
-  pub handed-both : (nat kinds j ≡ 2 → ⊥)
-      → added (added table (nat a j) (nat table (base + j))) (nat b j) (nat table (base + j)) ≡ handedDown kinds a b base j table
+  pub handed-both : (natAt kinds j ≡ 2 → ⊥)
+      → added (added table (natAt a j) (natAt table (base + j))) (natAt b j) (natAt table (base + j)) ≡ handedDown kinds a b base j table
   unfolding handedDown
-  handed-both e = rw (ne-eqb (nat kinds j) 2 e)
+  handed-both e = rw (ne-eqb (natAt kinds j) 2 e)
 
 -- the highest node first, then those below it
 pub followed-more : (kinds a b : List ℕ) (base : ℕ) (table : List ℕ) (j : ℕ) → 0 < j

@@ -13,7 +13,7 @@ use borrow.Author.Tests.{leb-true}
 use Rattle.integers.specs.Parts.{∣_∣}
 use Rattle.integers.specs.Range.{within, within-true}
 use Rattle.plan.specs.Format.{M}
-use Rattle.plan.specs.Lists.{nat, int, row, every}
+use Rattle.plan.specs.Lists.{natAt, intAt, row, every}
 use Rattle.plan.specs.Rules.{PlanRules}
 use Rattle.plan.specs.declared.Plan.{Plan}
 use Rattle.plan.specs.Laws.Counts.{counts-of}
@@ -57,16 +57,16 @@ later false b c = refl
 
 module _ (p : Plan) (r : Running) where
   abbrev pub outputAt : ℕ → Bool
-  outputAt i = within M (int (r .q) i)
+  outputAt i = within M (intAt (r .q) i)
 
   abbrev pub inputAt : ℕ → Bool
-  inputAt j = within M (int (r .inputs) j)
+  inputAt j = within M (intAt (r .inputs) j)
 
   -- the other clauses of integrator i
   abbrev pub figuresAt : ℕ → Bool
   figuresAt i =
-      figuresSound (r .clocks .clock) (int (p .integrators .quanta) i) (rateOf p (r .q) (r .inputs) i)
-      (int (r .x) i) (int (r .q) i) (int (r .s) i) (nat (r .l) i) (nat (r .d) i)
+      figuresSound (r .clocks .clock) (intAt (p .integrators .quanta) i) (rateOf p (r .q) (r .inputs) i)
+      (intAt (r .x) i) (intAt (r .q) i) (intAt (r .s) i) (natAt (r .l) i) (natAt (r .d) i)
 
   integrator-both : (i : ℕ) → integratorSound p r i ≡ (outputAt i && figuresAt i)
   unfolding integratorSound figuresSound upperLevel lowerLevel dueOf
@@ -103,15 +103,15 @@ module _ (p : Plan) (r : Running) where
   slopes = row (pos 0) 32 (p .counts .n) (rateOf p (r .q) (r .inputs))
 
   module _ (rules : PlanRules p) where
-    slope-at : (i : ℕ) → i < p .counts .n → int slopes i ≡ rateOf p (r .q) (r .inputs) i
+    slope-at : (i : ℕ) → i < p .counts .n → intAt slopes i ≡ rateOf p (r .q) (r .inputs) i
     slope-at i h = row-at (pos 0) 32 (p .counts .n) (rateOf p (r .q) (r .inputs)) i (counts-of p (rules .counts) .n) h
 
     module _ (outputs : every outputAt (p .counts .n) ≡ true) (inputs : every inputAt (p .counts .m) ≡ true) where
-      output-size : (i : ℕ) → i < p .counts .n → ∣ int (r .q) i ∣ ≤ M
-      output-size i h = within-true M (int (r .q) i) .0 (every-true outputAt (p .counts .n) .0 outputs i h)
+      output-size : (i : ℕ) → i < p .counts .n → ∣ intAt (r .q) i ∣ ≤ M
+      output-size i h = within-true M (intAt (r .q) i) .0 (every-true outputAt (p .counts .n) .0 outputs i h)
 
-      input-size : (j : ℕ) → j < p .counts .m → ∣ int (r .inputs) j ∣ ≤ M
-      input-size j h = within-true M (int (r .inputs) j) .0 (every-true inputAt (p .counts .m) .0 inputs j h)
+      input-size : (j : ℕ) → j < p .counts .m → ∣ intAt (r .inputs) j ∣ ≤ M
+      input-size j h = within-true M (intAt (r .inputs) j) .0 (every-true inputAt (p .counts .m) .0 inputs j h)
 
       pub sources-ready : (p .counts .n ≤ 32) × (p .counts .m ≤ 8)
           × NodesReady (p .nodes .a) (p .nodes .b) (p .nodes .lows) (p .nodes .highs) (firstValues (p .counts .n) (p .counts .m) (r .q) (r .inputs)) (p .counts .n + p .counts .m) (p .counts .k)

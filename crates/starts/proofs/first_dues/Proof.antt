@@ -8,7 +8,7 @@ use mir.Val.{SFits}
 use mir.Facts.{toZ-ofZ}
 use lib.IntN.{ℤ, _+ℤ_, _-ℤ_}
 use mathlib.Core.List.{List}
-use Rattle.plan.specs.Lists.{int, row}
+use Rattle.plan.specs.Lists.{intAt, row}
 use Rattle.plan.specs.Laws.Rows.{row-none, row-more}
 use Rattle.machine.specs.Due.{dueTick}
 use Rattle.starts.proofs.first_dues.Statement.{statement}
@@ -16,7 +16,7 @@ use Rattle.starts.proofs.first_dues.Tie as tie
 
 -- integrator i's due tick
 abbrev due : List ℤ → List ℤ → List ℤ → ℕ → ℕ
-due starts quanta slopes i = dueTick 0 (int starts i) (int starts i +ℤ int quanta i) (int starts i -ℤ int quanta i) (int slopes i)
+due starts quanta slopes i = dueTick 0 (intAt starts i) (intAt starts i +ℤ intAt quanta i) (intAt starts i -ℤ intAt quanta i) (intAt slopes i)
 
 abbrev Inv-loop : tie.InvT-loop
 Inv-loop n starts quanta slopes dues₀ i₀ dues i = (i ≤ n) × (dues ≡ row 0 32 i (due starts quanta slopes))
@@ -48,9 +48,9 @@ element-copy-out-due-tick-2 c = omega arith
 due-tick-requires : tie.Need-due-tick-requires Inv-loop μ-loop
 due-tick-requires c κs =
     let b = c .before .before .before .before .before in let i = c .before .before .before .before .loop .i in
-    let start : SFits w64 (int (b .args .starts .now) i) = sfits-of (c .before .before .start .given) in
-    let quantum : SFits w64 (int (b .args .quanta .now) i) = sfits-of (c .before .due-tick-arg .given) in
-    let slope : SFits w64 (int (b .args .slopes .now) i) = sfits-of (c .due-tick-arg2 .given) in
+    let start : SFits w64 (intAt (b .args .starts .now) i) = sfits-of (c .before .before .start .given) in
+    let quantum : SFits w64 (intAt (b .args .quanta .now) i) = sfits-of (c .before .due-tick-arg .given) in
+    let slope : SFits w64 (intAt (b .args .slopes .now) i) = sfits-of (c .due-tick-arg2 .given) in
     rw (toZ-ofZ start, toZ-ofZ quantum, toZ-ofZ slope) (b .pre .1 i (omega arith))
 
 mul-dues : tie.Need-mul-dues Inv-loop μ-loop
@@ -68,9 +68,9 @@ loop-less c = omega arith
 loop-again : tie.Need-loop-again Inv-loop μ-loop
 loop-again c =
     let b = c .before .before .before .before .before .before in let l = c .before .before .before .before .before .loop in
-    let start : SFits w64 (int (b .args .starts .now) (l .i)) = sfits-of (c .before .before .before .start .given) in
-    let quantum : SFits w64 (int (b .args .quanta .now) (l .i)) = sfits-of (c .before .before .due-tick-arg .given) in
-    let slope : SFits w64 (int (b .args .slopes .now) (l .i)) = sfits-of (c .before .due-tick-arg2 .given) in
+    let start : SFits w64 (intAt (b .args .starts .now) (l .i)) = sfits-of (c .before .before .before .start .given) in
+    let quantum : SFits w64 (intAt (b .args .quanta .now) (l .i)) = sfits-of (c .before .before .due-tick-arg .given) in
+    let slope : SFits w64 (intAt (b .args .slopes .now) (l .i)) = sfits-of (c .before .due-tick-arg2 .given) in
     let here : c .due-tick .result ≡ due (b .args .starts .now) (b .args .quanta .now) (b .args .slopes .now) (l .i) =
     rw (toZ-ofZ start, toZ-ofZ quantum, toZ-ofZ slope) at (c .due-tick .ensures) in
     (omega arith, rw (l .inv .1, here) (row-more 0 32 (l .i) _))

@@ -9,7 +9,7 @@ use lib.ListN.{replicate}
 use Rattle.integers.specs.Parts.{∣_∣}
 use Rattle.bitset.specs.Mask.{each}
 use Rattle.plan.specs.Format.{M}
-use Rattle.plan.specs.Lists.{nat, int, row}
+use Rattle.plan.specs.Lists.{natAt, intAt, row}
 use Rattle.plan.specs.Rules.{PlanRules}
 use Rattle.plan.specs.Laws.Counts.{counts-of}
 use Rattle.plan.specs.Laws.Means.{within-size}
@@ -36,11 +36,11 @@ zeros w k = row-none 0 w (λ i. 0) ∙ table-ext w _ _ (λ i h. same (ltb i 0) �
     same false = refl
 
 module _ (p : Plan) (rules : PlanRules p) where
-  outputs : (i : ℕ) → i < p .counts .n → ∣ int (p .integrators .starts) i ∣ ≤ M
-  outputs i h = within-size M (int (p .integrators .starts) i) .0 (rules .integrators i h .start)
+  outputs : (i : ℕ) → i < p .counts .n → ∣ intAt (p .integrators .starts) i ∣ ≤ M
+  outputs i h = within-size M (intAt (p .integrators .starts) i) .0 (rules .integrators i h .start)
 
-  inputs : (j : ℕ) → j < p .counts .m → ∣ int (p .inputs .firsts) j ∣ ≤ M
-  inputs j h = within-size M (int (p .inputs .firsts) j) .0 (rules .inputs j h)
+  inputs : (j : ℕ) → j < p .counts .m → ∣ intAt (p .inputs .firsts) j ∣ ≤ M
+  inputs j h = within-size M (intAt (p .inputs .firsts) j) .0 (rules .inputs j h)
 
   -- ---- the values of sources
   pub start-nodes-ready : NodesReady (p .nodes .a) (p .nodes .b) (p .nodes .lows) (p .nodes .highs) (firstValues (p .counts .n) (p .counts .m) (p .integrators .starts) (p .inputs .firsts)) (p .counts .n + p .counts .m) (p .counts .k)
@@ -62,22 +62,22 @@ module _ (p : Plan) (rules : PlanRules p) where
     start-rates-ready = rw (values-are, ranges-are) (own-rated p rules _ (values-sized p (p .integrators .starts) (p .inputs .firsts) rules outputs inputs))
 
     pub start-slopes : {s : List ℤ}
-        → s ≡ row (pos 0) 32 (p .counts .n) (λ i. rangeRate (p .links .sources) (p .links .coefficients) values (nat ranges i) (nat ranges (i + 1)))
+        → s ≡ row (pos 0) 32 (p .counts .n) (λ i. rangeRate (p .links .sources) (p .links .coefficients) values (natAt ranges i) (natAt ranges (i + 1)))
         → s ≡ row (pos 0) 32 (p .counts .n) (startSlope p)
     unfolding startSlope
     start-slopes e = rw (values-are, ranges-are) at e ∙ own-rates p rules _ (p .integrators .starts) (p .inputs .firsts) (values-at p (p .integrators .starts) (p .inputs .firsts) rules)
 
   -- ---- the due ticks
   module _ {s : List ℤ} (slopes : s ≡ row (pos 0) 32 (p .counts .n) (startSlope p)) where
-    slope-at : (i : ℕ) → i < p .counts .n → int s i ≡ startSlope p i
+    slope-at : (i : ℕ) → i < p .counts .n → intAt s i ≡ startSlope p i
     slope-at i h = rw slopes (row-at (pos 0) 32 (p .counts .n) (startSlope p) i (counts-of p (rules .counts) .n) h)
 
     pub start-dues-ready : StartsReady (p .counts .n) (p .integrators .starts) (p .integrators .quanta) s
     start-dues-ready i h = rw (slope-at i h) (due-ready-start p i rules h)
 
     pub start-dues : {d : List ℕ}
-        → d ≡ row 0 32 (p .counts .n) (λ i. dueTick 0 (int (p .integrators .starts) i) (int (p .integrators .starts) i +ℤ int (p .integrators .quanta) i)
-        (int (p .integrators .starts) i -ℤ int (p .integrators .quanta) i) (int s i))
+        → d ≡ row 0 32 (p .counts .n) (λ i. dueTick 0 (intAt (p .integrators .starts) i) (intAt (p .integrators .starts) i +ℤ intAt (p .integrators .quanta) i)
+        (intAt (p .integrators .starts) i -ℤ intAt (p .integrators .quanta) i) (intAt s i))
         → d ≡ row 0 32 (p .counts .n) (startDue p)
     start-dues e = e ∙ row-ext 0 32 (p .counts .n) _ _ (λ i h. rw (slope-at i h) (due-is-start p i))
 

@@ -14,7 +14,7 @@ use Rattle.bitset.specs.Mask.{has, maskOf}
 use Rattle.bitset.specs.Bits.{has-high, maskOf-lt, has-maskOf}
 use Rattle.bitset.specs.Counts.{countOf-le}
 use Rattle.plan.specs.Format.{M}
-use Rattle.plan.specs.Lists.{int, joined}
+use Rattle.plan.specs.Lists.{intAt, joined}
 use Rattle.plan.specs.Rules.{PlanRules}
 use Rattle.plan.specs.Laws.Counts.{counts-of}
 use Rattle.plan.specs.declared.Plan.{Plan}
@@ -38,7 +38,7 @@ joined-cut f n (suc k) e = rw (add-suc, e (n + k) (omega arith), append-nil) (jo
 
 -- ---- the events of an instant: `changed` is the mask of the sources that change, whose values stand in `values`
 module _ (p : Plan) (rules : PlanRules p) (d : List ℕ) (t : ℕ) (q u values : List ℤ) (changed : ℕ)
-    (mask : changed ≡ maskOf (changes p d t) (p .counts .n + p .counts .m)) (value : (i : ℕ) → i < p .counts .n + p .counts .m → int values i ≡ valueWith p q u zero i) where
+    (mask : changed ≡ maskOf (changes p d t) (p .counts .n + p .counts .m)) (value : (i : ℕ) → i < p .counts .n + p .counts .m → intAt values i ≡ valueWith p q u zero i) where
   changed-below : (i : ℕ) → i < p .counts .n + p .counts .m → has changed i ≡ changes p d t i
   changed-below i h = rw mask (has-maskOf (changes p d t) (p .counts .n + p .counts .m) i h)
 
@@ -55,10 +55,10 @@ module _ (p : Plan) (rules : PlanRules p) (d : List ℕ) (t : ℕ) (q u values :
       (λ i h. rw (changed-below i h, value i h))
     where
       written : ℕ → List ℕ
-      written i = cond (has changed i) (eventBytes t i (int values i)) []
+      written i = cond (has changed i) (eventBytes t i (intAt values i)) []
 
   -- writing them asks for room and for values of their size
-  pub events-ready : (at size : ℕ) → at + (p .counts .n + p .counts .m) * 12 ≤ size → ((i : ℕ) → i < p .counts .n + p .counts .m → ∣ int values i ∣ ≤ M)
+  pub events-ready : (at size : ℕ) → at + (p .counts .n + p .counts .m) * 12 ≤ size → ((i : ℕ) → i < p .counts .n + p .counts .m → ∣ intAt values i ∣ ≤ M)
       → EventsReady changed t values at size
   events-ready at size room sized =
       record {
@@ -66,6 +66,6 @@ module _ (p : Plan) (rules : PlanRules p) (d : List ℕ) (t : ℕ) (q u values :
         sized = λ i h. inside i h (ltb i (p .counts .n + p .counts .m)) refl;
       }
     where
-      inside : (i : ℕ) → has changed i ≡ true → (b : Bool) → ltb i (p .counts .n + p .counts .m) ≡ b → ∣ int values i ∣ ≤ M
+      inside : (i : ℕ) → has changed i ≡ true → (b : Bool) → ltb i (p .counts .n + p .counts .m) ≡ b → ∣ intAt values i ∣ ≤ M
       inside i h true e = sized i (ltb-true i (p .counts .n + p .counts .m) e)
       inside i h false e = absurd (true≢false (sym h ∙ changed-above i (ltb-false i (p .counts .n + p .counts .m) e)))

@@ -9,7 +9,7 @@ use lib.Signed.{mag}
 use lib.ListN.{length, length-append}
 use Rattle.bitset.specs.Mask.{has, each, lowestOf, restOf}
 use Rattle.bitset.specs.Visiting.{rest-lt, lowest-lt, has-lowest, has-rest, each-step, each-done}
-use Rattle.plan.specs.Lists.{int, joined}
+use Rattle.plan.specs.Lists.{intAt, joined}
 use Rattle.plan.specs.Laws.Small.{size-mag}
 use Rattle.machine.specs.Instant.{eventBytes}
 use Rattle.machine.specs.Laws.EventWords.{length-event}
@@ -32,7 +32,7 @@ each-append f test (suc n) s = go (test n) (each-append f test n s)
 
 module _ (t : ℕ) (values : List ℤ) where
   abbrev pub eventOf : ℕ → List ℕ
-  eventOf i = eventBytes t i (int values i)
+  eventOf i = eventBytes t i (intAt values i)
 
   module _ (m : ℕ) where
     pub events-first : 0 < m → m < 2 ^ 64 → eventsIn m t values ≡ eventOf (lowestOf 64 m) ++ eventsIn (restOf m) t values
@@ -74,7 +74,7 @@ module _ {t : ℕ} {values : List ℤ} {m at : ℕ} {s : List ℕ} where
       one-more = rw lowest (events-first t values left p (w .fits))
 
       length-one : length (eventOf t values i) ≡ 12
-      length-one = length-event t i (int values i)
+      length-one = length-event t i (intAt values i)
 
       length-left : length (eventsIn left t values) ≡ 12 + length (eventsIn (restOf left) t values)
       length-left = rw (one-more, length-append, length-one)
@@ -85,10 +85,10 @@ module _ {t : ℕ} {values : List ℤ} {m at : ℕ} {s : List ℕ} where
       pub source-lt : i < 64
       source-lt = rw lowest (lowest-lt 64 left p (w .fits))
 
-      pub value-small : mag (int values i) < 2 ^ 31
+      pub value-small : mag (intAt values i) < 2 ^ 31
       value-small =
           let there : has left i ≡ true = rw lowest (has-lowest 64 left p (w .fits)) in
-          omega (arith, size-mag (int values i), w .ready .sized i there)
+          omega (arith, size-mag (intAt values i), w .ready .sized i there)
 
       behind : putAt (putAt r end (eventOf t values i)) (end + 12) (eventsIn (restOf left) t values) ≡ putAt r end (eventsIn left t values)
       behind =

@@ -7,7 +7,7 @@ use lib.IntN.{ℤ, pos}
 use lib.ListN.{length, length-set}
 use lib.Seq.{getD-set-same, getD-set-other}
 use Rattle.bitset.specs.Mask.{has, maskOf, each}
-use Rattle.plan.specs.Lists.{int}
+use Rattle.plan.specs.Lists.{intAt}
 use Rattle.plan.specs.Laws.Counts.{Counts, counts-of}
 use Rattle.plan.specs.declared.Plan.{Plan}
 use Rattle.machine.specs.Reach.{isDue}
@@ -20,10 +20,10 @@ use Rattle.steps.specs.Laws.Walks.{Stores, Walked, walked, row-is}
 
 -- ---- entry by entry
 abbrev outputIn : Outputting → ℕ → ℤ
-outputIn o i = int (o .q) i
+outputIn o i = intAt (o .q) i
 
 abbrev valueIn : Outputting → ℕ → ℤ
-valueIn o i = int (o .values) i
+valueIn o i = intAt (o .values) i
 
 abbrev taken : Running → ℕ → ℕ → ℤ → ℤ
 taken r t j before = positionAt r t j
@@ -73,9 +73,9 @@ module _ (p : Plan) (r : Running) (sound : SoundRunning p r) (shaped : RunningSh
   values-full = walked-values .full
 
   -- the sources above the integrators keep their values
-  pub values-kept : (i : ℕ) → p .counts .n ≤ i → int (o .values) i ≡ int values i
+  pub values-kept : (i : ℕ) → p .counts .n ≤ i → intAt (o .values) i ≡ intAt values i
   values-kept = walked-values .past
 
   -- where `values` held the outputs before, it holds the new ones
-  pub values-are : ((i : ℕ) → i < p .counts .n → int values i ≡ int (r .q) i) → (i : ℕ) → i < p .counts .n → int (o .values) i ≡ int (outputs p r t) i
+  pub values-are : ((i : ℕ) → i < p .counts .n → intAt values i ≡ intAt (r .q) i) → (i : ℕ) → i < p .counts .n → intAt (o .values) i ≡ intAt (outputs p r t) i
   values-are same i h = walked-values .at i h ∙ rw (same i h) (sym (outputs-at p limits r t i h))

@@ -16,7 +16,7 @@ use lib.Pow.{pow-pos}
 use borrow.Author.Tests.{eqb-true, eqb-false, eq-eqb, ne-eqb}
 use Rattle.bitset.specs.Mask.{has, maskOf}
 use Rattle.bitset.specs.Bits.{has-none, has-with, with-lt, mask-ext, maskOf-lt, has-maskOf}
-use Rattle.plan.specs.Lists.{nat, int, some}
+use Rattle.plan.specs.Lists.{natAt, intAt, some}
 use Rattle.plan.specs.Rules.{PlanRules}
 use Rattle.plan.specs.Unused.{UnusedInt}
 use Rattle.plan.specs.Laws.Counts.{counts-of}
@@ -33,10 +33,10 @@ use Rattle.machine.specs.Laws.Ascending.{ascending}
 use Rattle.steps.specs.Commands.{Obeying, obeying, obeyOne, obeyFrom, CommandsReady}
 
 -- ---- lists and tests
-set-entry : (xs : List ℤ) (k i : ℕ) (v : ℤ) → k < length xs → int (set xs k v) i ≡ cond (eqb k i) v (int xs i)
+set-entry : (xs : List ℤ) (k i : ℕ) (v : ℤ) → k < length xs → intAt (set xs k v) i ≡ cond (eqb k i) v (intAt xs i)
 set-entry xs k i v h = go (eqb k i) refl
   where
-    go : (b : Bool) → eqb k i ≡ b → int (set xs k v) i ≡ cond b v (int xs i)
+    go : (b : Bool) → eqb k i ≡ b → intAt (set xs k v) i ≡ cond b v (intAt xs i)
     go true e = rw (← eqb-true k i e) (getD-set-same xs k v (pos 0) h)
     go false e = getD-set-other xs k i v (pos 0) (λ q. eqb-false k i e (sym q))
 
@@ -66,34 +66,34 @@ module _ (p : Plan) (t j : ℕ) where
   unfolding some
   some-next e f = rw f (or-false (some (setsInput p t j) e))
 
-  other-tick : (e : ℕ) → (nat (p .commands .ticks) e ≡ t → ⊥) → setsInput p t j e ≡ false
+  other-tick : (e : ℕ) → (natAt (p .commands .ticks) e ≡ t → ⊥) → setsInput p t j e ≡ false
   other-tick e h = means-false (sets-means p t j e .0) (λ s. h (s .0))
 
-  own-tick : (e : ℕ) → nat (p .commands .ticks) e ≡ t → setsInput p t j e ≡ eqb (nat (p .commands .inputs) e) j
+  own-tick : (e : ℕ) → natAt (p .commands .ticks) e ≡ t → setsInput p t j e ≡ eqb (natAt (p .commands .inputs) e) j
   unfolding setsInput
-  own-tick e h = rw (eq-eqb (nat (p .commands .ticks) e) t h)
+  own-tick e h = rw (eq-eqb (natAt (p .commands .ticks) e) t h)
 
 -- ---- one command after the other
 -- Those commands of tick t are obeyed that stand before the next one; u and `values` are the values of inputs and of sources before.
 record ObeyedTo (p : Plan) (u values : List ℤ) (t : ℕ) (o : Obeying) : Type 0 where
   most : o .next ≤ p .counts .commands
-  earlier : (e : ℕ) → e < o .next → nat (p .commands .ticks) e ≤ t
-  ahead : o .next < p .counts .commands → t ≤ nat (p .commands .ticks) (o .next)
+  earlier : (e : ℕ) → e < o .next → natAt (p .commands .ticks) e ≤ t
+  ahead : o .next < p .counts .commands → t ≤ natAt (p .commands .ticks) (o .next)
   width : length (o .inputs) ≡ 8
-  inputs : (j : ℕ) → int (o .inputs) j ≡ settingOf p u t j (o .next)
+  inputs : (j : ℕ) → intAt (o .inputs) j ≡ settingOf p u t j (o .next)
   unused : UnusedInt (p .counts .m) (o .inputs)
   small : o .commanded < 2 ^ p .counts .m
   commanded : (j : ℕ) → has (o .commanded) j ≡ some (setsInput p t j) (o .next)
   same-length : length (o .values) ≡ length values
-  sources : ((j : ℕ) → j < p .counts .m → int values (p .counts .n + j) ≡ int u j) → (j : ℕ) → j < p .counts .m → int (o .values) (p .counts .n + j) ≡ settingOf p u t j (o .next)
-  kept : (i : ℕ) → ((e : ℕ) → e < o .next → nat (p .commands .ticks) e ≡ t → i ≡ p .counts .n + nat (p .commands .inputs) e → ⊥) → int (o .values) i ≡ int values i
+  sources : ((j : ℕ) → j < p .counts .m → intAt values (p .counts .n + j) ≡ intAt u j) → (j : ℕ) → j < p .counts .m → intAt (o .values) (p .counts .n + j) ≡ settingOf p u t j (o .next)
+  kept : (i : ℕ) → ((e : ℕ) → e < o .next → natAt (p .commands .ticks) e ≡ t → i ≡ p .counts .n + natAt (p .commands .inputs) e → ⊥) → intAt (o .values) i ≡ intAt values i
 
 -- the ticks of commands ascend
-ticks-ascend : (p : Plan) → PlanRules p → (d e : ℕ) → d ≤ e → e < p .counts .commands → nat (p .commands .ticks) d ≤ nat (p .commands .ticks) e
+ticks-ascend : (p : Plan) → PlanRules p → (d e : ℕ) → d ≤ e → e < p .counts .commands → natAt (p .commands .ticks) d ≤ natAt (p .commands .ticks) e
 ticks-ascend p rules d e h l = go (eqb d e) refl
   where
-    go : (b : Bool) → eqb d e ≡ b → nat (p .commands .ticks) d ≤ nat (p .commands .ticks) e
-    go true s = omega (arith, ap (nat (p .commands .ticks)) (eqb-true d e s))
+    go : (b : Bool) → eqb d e ≡ b → natAt (p .commands .ticks) d ≤ natAt (p .commands .ticks) e
+    go true s = omega (arith, ap (natAt (p .commands .ticks)) (eqb-true d e s))
     go false s =
         let before : d < e = omega (arith, eqb-false d e s) in
         ⊎-elim (λ b. omega arith) (λ b. omega arith)
@@ -107,18 +107,18 @@ module _ (p : Plan) (rules : PlanRules p) (u values : List ℤ) (t : ℕ) (wide 
   obeyAll = obeyFrom t (p .counts .n) (p .commands .ticks) (p .commands .inputs) (p .commands .values)
 
   -- one more
-  obeyed-more : (o : Obeying) → ObeyedTo p u values t o → o .next < p .counts .commands → nat (p .commands .ticks) (o .next) ≡ t
+  obeyed-more : (o : Obeying) → ObeyedTo p u values t o → o .next < p .counts .commands → natAt (p .commands .ticks) (o .next) ≡ t
       → ObeyedTo p u values t (obey (o .next) o)
   unfolding obeyOne settingOf some
   obeyed-more o w h tick =
       let e = o .next in
-      let k = nat (p .commands .inputs) (o .next) in
-      let v = int (p .commands .values) (o .next) in
+      let k = natAt (p .commands .inputs) (o .next) in
+      let v = intAt (p .commands .values) (o .next) in
       let rule = rules .commands (o .next) h in
       let limits = counts-of p (rules .counts) in
       record {
         most = omega arith;
-        earlier = λ d l. let b : d < suc e = omega arith in below-suc (λ d. nat (p .commands .ticks) d ≤ t) b (w .earlier d) (omega arith);
+        earlier = λ d l. let b : d < suc e = omega arith in below-suc (λ d. natAt (p .commands .ticks) d ≤ t) b (w .earlier d) (omega arith);
         ahead = λ l. omega (arith, ticks-ascend p rules e (e + 1) (omega arith) l);
         width = length-set (o .inputs) k v ∙ w .width;
         inputs = λ j.
@@ -139,20 +139,20 @@ module _ (p : Plan) (rules : PlanRules p) (u values : List ℤ) (t : ℕ) (wide 
 
   -- all: the next command is of another tick, or there is none
   abbrev Done : Obeying → Type 0
-  Done o = ObeyedTo p u values t o × (o .next < p .counts .commands → nat (p .commands .ticks) (o .next) ≡ t → ⊥)
+  Done o = ObeyedTo p u values t o × (o .next < p .counts .commands → natAt (p .commands .ticks) (o .next) ≡ t → ⊥)
 
   obeyed-all : (left : ℕ) (o : Obeying) → o .next + left ≡ p .counts .commands → ObeyedTo p u values t o → Done (obeyAll (o .next) left o)
   unfolding obeyFrom obeyOne
   obeyed-all zero o l w = (w, λ h. absurd (omega arith))
   obeyed-all (suc left) o l w =
-      go (eqb (nat (p .commands .ticks) (o .next)) t) refl
-      (λ b. obeyed-all left (obey (o .next) o) (omega arith) (obeyed-more o w (omega arith) (eqb-true (nat (p .commands .ticks) (o .next)) t b)))
+      go (eqb (natAt (p .commands .ticks) (o .next)) t) refl
+      (λ b. obeyed-all left (obey (o .next) o) (omega arith) (obeyed-more o w (omega arith) (eqb-true (natAt (p .commands .ticks) (o .next)) t b)))
     where
-      go : (b : Bool) → eqb (nat (p .commands .ticks) (o .next)) t ≡ b
-          → (eqb (nat (p .commands .ticks) (o .next)) t ≡ true → Done (obeyAll (o .next + 1) left (obey (o .next) o)))
+      go : (b : Bool) → eqb (natAt (p .commands .ticks) (o .next)) t ≡ b
+          → (eqb (natAt (p .commands .ticks) (o .next)) t ≡ true → Done (obeyAll (o .next + 1) left (obey (o .next) o)))
           → Done (cond b (obeyAll (o .next + 1) left (obey (o .next) o)) o)
       go true b more = more b
-      go false b more = (w, λ h. eqb-false (nat (p .commands .ticks) (o .next)) t b)
+      go false b more = (w, λ h. eqb-false (natAt (p .commands .ticks) (o .next)) t b)
 
 -- ---- all commands of a tick
 -- What is asked before tick t: the inputs' values u and the sources' values in arrays of their full width, the clock before t, the next
@@ -163,7 +163,7 @@ pub record TickReady (p : Plan) (u values : List ℤ) (clock t next : ℕ) : Typ
   pub values-width : length values ≡ 64
   pub next-is : next ≡ nextCommand p clock
   pub later : clock < t
-  pub ahead : next < p .counts .commands → t ≤ nat (p .commands .ticks) next
+  pub ahead : next < p .counts .commands → t ≤ natAt (p .commands .ticks) next
 
 -- What the commands of tick t leave.
 pub record Obeyed (p : Plan) (u values : List ℤ) (t : ℕ) (o : Obeying) : Type 0 where
@@ -172,20 +172,20 @@ pub record Obeyed (p : Plan) (u values : List ℤ) (t : ℕ) (o : Obeying) : Typ
   pub next-is : o .next ≡ nextCommand p t
   pub same-length : length (o .values) ≡ length values
   -- the values of inputs, where those before are those of u
-  pub sources : ((j : ℕ) → j < p .counts .m → int values (p .counts .n + j) ≡ int u j) → (j : ℕ) → j < p .counts .m → int (o .values) (p .counts .n + j) ≡ int (settings p u t) j
+  pub sources : ((j : ℕ) → j < p .counts .m → intAt values (p .counts .n + j) ≡ intAt u j) → (j : ℕ) → j < p .counts .m → intAt (o .values) (p .counts .n + j) ≡ intAt (settings p u t) j
   -- the values of all sources but commanded inputs
-  pub kept : (i : ℕ) → ((j : ℕ) → j < p .counts .m → isCommanded p t j ≡ true → i ≡ p .counts .n + j → ⊥) → int (o .values) i ≡ int values i
+  pub kept : (i : ℕ) → ((j : ℕ) → j < p .counts .m → isCommanded p t j ≡ true → i ≡ p .counts .n + j → ⊥) → intAt (o .values) i ≡ intAt values i
 
 module _ (p : Plan) (rules : PlanRules p) (u values : List ℤ) where
   module _ (clock t next : ℕ) (ready : TickReady p u values clock t next) where
-    before : (d : ℕ) → d < next → nat (p .commands .ticks) d < t
+    before : (d : ℕ) → d < next → natAt (p .commands .ticks) d < t
     before d h = omega (arith, rw (← ready .next-is) at (command-earlier p clock d) h, ready .later)
 
     -- no command before the next one is of the tick
     none-before : (j d : ℕ) → d < next → setsInput p t j d ≡ false
     none-before j d h = other-tick p t j d (λ q. omega (arith, before d h))
 
-    first-settings : (j : ℕ) → settingOf p u t j next ≡ int u j
+    first-settings : (j : ℕ) → settingOf p u t j next ≡ intAt u j
     unfolding settingOf
     first-settings j = unchanged (settingOf p u t j) 0 next (omega arith) (λ d l h. setting-next p t j u d (none-before j d h))
 
@@ -209,8 +209,8 @@ module _ (p : Plan) (rules : PlanRules p) (u values : List ℤ) where
           kept = λ i f. refl;
         }
 
-  module _ (t : ℕ) (o : Obeying) (w : ObeyedTo p u values t o) (end : o .next < p .counts .commands → nat (p .commands .ticks) (o .next) ≡ t → ⊥) where
-    above : o .next < p .counts .commands → t < nat (p .commands .ticks) (o .next)
+  module _ (t : ℕ) (o : Obeying) (w : ObeyedTo p u values t o) (end : o .next < p .counts .commands → natAt (p .commands .ticks) (o .next) ≡ t → ⊥) where
+    above : o .next < p .counts .commands → t < natAt (p .commands .ticks) (o .next)
     above h = omega (arith, w .ahead h, end h)
 
     -- no command from the next one on is of the tick
@@ -241,8 +241,8 @@ module _ (p : Plan) (rules : PlanRules p) (u values : List ℤ) where
               w .sources agree j h ∙ sym (all-settings j) ∙ sym (row-at (pos 0) 8 (p .counts .m) _ j (limits .m) h);
           kept = λ i f.
               w .kept i
-              (λ e h tick. f (nat (p .commands .inputs) e) (rules .commands e (omega (arith, w .most)) .number)
-              (commanded-means p t (nat (p .commands .inputs) e) .1 (e, omega (arith, w .most), tick, refl)));
+              (λ e h tick. f (natAt (p .commands .inputs) e) (rules .commands e (omega (arith, w .most)) .number)
+              (commanded-means p t (natAt (p .commands .inputs) e) .1 (e, omega (arith, w .most), tick, refl)));
         }
 
   -- the commands of tick t
@@ -256,10 +256,10 @@ module _ (p : Plan) (rules : PlanRules p) (u values : List ℤ) where
 
 -- outputs and values of nodes
 module _ {p : Plan} {u values : List ℤ} {t : ℕ} {o : Obeying} (done : Obeyed p u values t o) where
-  pub outputs-kept : (i : ℕ) → i < p .counts .n → int (o .values) i ≡ int values i
+  pub outputs-kept : (i : ℕ) → i < p .counts .n → intAt (o .values) i ≡ intAt values i
   outputs-kept i h = done .kept i (λ j l c q. omega arith)
 
-  pub nodes-kept : (i : ℕ) → p .counts .n + p .counts .m ≤ i → int (o .values) i ≡ int values i
+  pub nodes-kept : (i : ℕ) → p .counts .n + p .counts .m ≤ i → intAt (o .values) i ≡ intAt values i
   nodes-kept i h = done .kept i (λ j l c q. omega arith)
 
 -- what obeying them asks

@@ -10,7 +10,7 @@ use mir.Val.{ofZ}
 use mathlib.Core.Path.{_≡_, refl, _∙_}
 use Prim.Native.Nat.{_-_}
 use Rattle.integers.specs.Parts.{∣_∣}
-use Rattle.plan.specs.Lists.{int}
+use Rattle.plan.specs.Lists.{intAt}
 use Rattle.plan.specs.Unused.{unusedInt}
 use Rattle.entryrules.specs.Comparing.{zero-bits}
 use Rattle.unused.specs.Laws.Unused.{none-left, one-more, one-fails}
@@ -33,9 +33,9 @@ shared-slice-copy-out-if1 : tie.Need-shared-slice-copy-out-if1 Inv-loop μ-loop
 shared-slice-copy-out-if1 c = search needs
 
 -- what the comparison looks at
-by-bits : (c : tie.After-if12 Inv-loop μ-loop) → let l = c .before .before in let z = int (now (l .before .args .xs)) (l .loop .i) in
+by-bits : (c : tie.After-if12 Inv-loop μ-loop) → let l = c .before .before in let z = intAt (now (l .before .args .xs)) (l .loop .i) in
     eqb ∣ z ∣ 0 ≡ eqb (ofZ w64 z) 0
-by-bits c = let l = c .before .before in zero-bits (int (now (l .before .args .xs)) (l .loop .i)) (sfits-of (c .if12 .given))
+by-bits c = let l = c .before .before in zero-bits (intAt (now (l .before .args .xs)) (l .loop .i)) (sfits-of (c .if12 .given))
 
 returns : tie.Need-returns Inv-loop μ-loop
 unfolding unusedInt

@@ -14,7 +14,7 @@ use mir.Facts.{toZ-ofZ}
 use mir.Syntax.{w64}
 use mir.Val.{SFits}
 use Rattle.integers.specs.Signed64.{rd}
-use Rattle.plan.specs.Lists.{int, row}
+use Rattle.plan.specs.Lists.{intAt, row}
 use Rattle.plan.specs.Laws.Rows.{row-none, row-more}
 use Rattle.values.specs.Sources.{firstValues}
 use Rattle.values.proofs.first_values.Statement.{statement}
@@ -22,16 +22,16 @@ use Rattle.values.proofs.first_values.Tie as tie
 
 -- integrator i's output or an input's value
 abbrev source : ℕ → List ℤ → List ℤ → ℕ → ℤ
-source n q u i = cond (ltb i n) (int q i) (int u (i - n))
+source n q u i = cond (ltb i n) (intAt q i) (intAt u (i - n))
 
 -- a turn of each loop; what is stored is read back from its bits
 module _ (n : ℕ) (q u : List ℤ) where
-  output-turn : (i : ℕ) {xs : List ℤ} → xs ≡ row (pos 0) 64 i (source n q u) → SFits w64 (int q i) → i < n
-      → set xs i (rd (int q i)) ≡ row (pos 0) 64 (i + 1) (source n q u)
+  output-turn : (i : ℕ) {xs : List ℤ} → xs ≡ row (pos 0) 64 i (source n q u) → SFits w64 (intAt q i) → i < n
+      → set xs i (rd (intAt q i)) ≡ row (pos 0) 64 (i + 1) (source n q u)
   output-turn i e f h = rw (e, toZ-ofZ f) (rw (lt-ltb i n h) at (row-more (pos 0) 64 i (source n q u)))
 
-  input-turn : (j : ℕ) {xs : List ℤ} → xs ≡ row (pos 0) 64 (n + j) (source n q u) → SFits w64 (int u j)
-      → set xs (n + j) (rd (int u j)) ≡ row (pos 0) 64 (n + (j + 1)) (source n q u)
+  input-turn : (j : ℕ) {xs : List ℤ} → xs ≡ row (pos 0) 64 (n + j) (source n q u) → SFits w64 (intAt u j)
+      → set xs (n + j) (rd (intAt u j)) ≡ row (pos 0) 64 (n + (j + 1)) (source n q u)
   input-turn j e f =
       let own : n + j - n ≡ j = omega arith in let next : n + j + 1 ≡ n + (j + 1) = omega arith in
       rw (e, toZ-ofZ f, ← next) (rw (le-ltb (n + j) n (omega arith), own) at (row-more (pos 0) 64 (n + j) (source n q u)))

@@ -7,7 +7,7 @@ use native.Mathlib.Omega.{arith}
 use mir.Facts.{toZ-ofZ}
 use Rattle.integers.specs.Signed64.{rd, fits-size}
 use Rattle.plan.specs.Format.{M}
-use Rattle.plan.specs.Lists.{nat, int}
+use Rattle.plan.specs.Lists.{natAt, intAt}
 use Rattle.values.specs.Sources.{nodeFrom, nodeStep}
 use Rattle.values.proofs.work_node.Statement.{statement}
 use Rattle.values.proofs.work_node.Tie as tie
@@ -17,23 +17,23 @@ module _ (s : tie.Start) where
   j = s .args .j
 
   abbrev left : ℕ
-  left = nat (s .args .a .now) j
+  left = natAt (s .args .a .now) j
 
   abbrev right : ℕ
-  right = nat (s .args .b .now) j
+  right = natAt (s .args .b .now) j
 
   operands : (left < 64) × (right < 64)
   operands = (s .pre .1 .left j (s .pre .0), s .pre .1 .right j (s .pre .0))
 
   -- what is read back from the bits
-  value : (i : ℕ) → rd (int (s .args .values .now) i) ≡ int (s .args .values .now) i
-  value i = toZ-ofZ (fits-size (int (s .args .values .now) i) M (s .pre .1 .sized i) tt)
+  value : (i : ℕ) → rd (intAt (s .args .values .now) i) ≡ intAt (s .args .values .now) i
+  value i = toZ-ofZ (fits-size (intAt (s .args .values .now) i) M (s .pre .1 .sized i) tt)
 
-  low : rd (int (s .args .lows .now) j) ≡ int (s .args .lows .now) j
-  low = toZ-ofZ (fits-size (int (s .args .lows .now) j) M (s .pre .1 .low j (s .pre .0)) tt)
+  low : rd (intAt (s .args .lows .now) j) ≡ intAt (s .args .lows .now) j
+  low = toZ-ofZ (fits-size (intAt (s .args .lows .now) j) M (s .pre .1 .low j (s .pre .0)) tt)
 
-  high : rd (int (s .args .highs .now) j) ≡ int (s .args .highs .now) j
-  high = toZ-ofZ (fits-size (int (s .args .highs .now) j) M (s .pre .1 .high j (s .pre .0)) tt)
+  high : rd (intAt (s .args .highs .now) j) ≡ intAt (s .args .highs .now) j
+  high = toZ-ofZ (fits-size (intAt (s .args .highs .now) j) M (s .pre .1 .high j (s .pre .0)) tt)
 
 mul-first : tie.Need-mul-first
 mul-first c = search needs

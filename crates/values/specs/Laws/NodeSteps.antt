@@ -10,7 +10,7 @@ use lib.Seq.{getD-set-same, getD-set-other, set-out}
 use borrow.Author.Tests.{ltb-true, ltb-false, eqb-true, eqb-false}
 use Rattle.integers.specs.Parts.{∣_∣}
 use Rattle.plan.specs.Format.{M}
-use Rattle.plan.specs.Lists.{int}
+use Rattle.plan.specs.Lists.{intAt}
 use Rattle.machine.specs.Laws.Sizes.{node-size}
 use Rattle.values.specs.Sources.{nodeFrom, nodeStep, NodesReady}
 
@@ -32,11 +32,11 @@ module _ (kinds a b : List ℕ) (lows highs : List ℤ) (base j : ℕ) (values :
   unfolding nodeStep
   step-length = length-set values (base + j) _
 
-  pub step-own : base + j < length values → int then (base + j) ≡ nodeFrom kinds a b lows highs base j values
+  pub step-own : base + j < length values → intAt then (base + j) ≡ nodeFrom kinds a b lows highs base j values
   unfolding nodeStep
   step-own h = getD-set-same values (base + j) _ (pos 0) h
 
-  pub step-other : (i : ℕ) → (i ≡ base + j → ⊥) → int then i ≡ int values i
+  pub step-other : (i : ℕ) → (i ≡ base + j → ⊥) → intAt then i ≡ intAt values i
   unfolding nodeStep
   step-other i n = getD-set-other values (base + j) i _ (pos 0) n
 

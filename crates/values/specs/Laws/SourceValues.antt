@@ -15,7 +15,7 @@ use borrow.Author.Tests.{ltb-true, ltb-false, lt-ltb, eqb-true, eqb-false}
 use Rattle.integers.specs.Parts.{∣_∣}
 use Rattle.bitset.specs.Mask.{each}
 use Rattle.plan.specs.Format.{M}
-use Rattle.plan.specs.Lists.{nat, int, row}
+use Rattle.plan.specs.Lists.{natAt, intAt, row}
 use Rattle.plan.specs.Rules.{NodeRule, PlanRules}
 use Rattle.plan.specs.Laws.Counts.{Counts, counts-of}
 use Rattle.plan.specs.Laws.Means.{within-size}
@@ -37,16 +37,16 @@ room p rules = go (counts-of p (rules .counts))
 
 -- both operands stand below their node, also the 0 that names nothing
 operands-below : (p : Plan) → PlanRules p → (j : ℕ) → j < p .counts .k
-    → (nat (p .nodes .a) j < p .counts .n + p .counts .m + j) × (nat (p .nodes .b) j < p .counts .n + p .counts .m + j)
-operands-below p rules j h = go (counts-of p (rules .counts)) (rules .nodes j h) (eqb (nat (p .nodes .kinds) j) 2) refl
+    → (natAt (p .nodes .a) j < p .counts .n + p .counts .m + j) × (natAt (p .nodes .b) j < p .counts .n + p .counts .m + j)
+operands-below p rules j h = go (counts-of p (rules .counts)) (rules .nodes j h) (eqb (natAt (p .nodes .kinds) j) 2) refl
   where
-    go : Counts p → NodeRule p j → (b : Bool) → eqb (nat (p .nodes .kinds) j) 2 ≡ b
-        → (nat (p .nodes .a) j < p .counts .n + p .counts .m + j) × (nat (p .nodes .b) j < p .counts .n + p .counts .m + j)
-    go c r true e = (r .left, omega (arith, r .unused (eqb-true (nat (p .nodes .kinds) j) 2 e)))
-    go c r false e = (r .left, r .right (eqb-false (nat (p .nodes .kinds) j) 2 e))
+    go : Counts p → NodeRule p j → (b : Bool) → eqb (natAt (p .nodes .kinds) j) 2 ≡ b
+        → (natAt (p .nodes .a) j < p .counts .n + p .counts .m + j) × (natAt (p .nodes .b) j < p .counts .n + p .counts .m + j)
+    go c r true e = (r .left, omega (arith, r .unused (eqb-true (natAt (p .nodes .kinds) j) 2 e)))
+    go c r false e = (r .left, r .right (eqb-false (natAt (p .nodes .kinds) j) 2 e))
 
 -- ---- what the code asks
-pub nodes-ready : (p : Plan) → PlanRules p → (values : List ℤ) → ((i : ℕ) → ∣ int values i ∣ ≤ M)
+pub nodes-ready : (p : Plan) → PlanRules p → (values : List ℤ) → ((i : ℕ) → ∣ intAt values i ∣ ≤ M)
     → NodesReady (p .nodes .a) (p .nodes .b) (p .nodes .lows) (p .nodes .highs) values (p .counts .n + p .counts .m) (p .counts .k)
 nodes-ready p rules values sized =
     record {
@@ -54,15 +54,15 @@ nodes-ready p rules values sized =
       room = room p rules;
       left = λ j h. omega (arith, operands-below p rules j h .0, room p rules);
       right = λ j h. omega (arith, operands-below p rules j h .1, room p rules);
-      low = λ j h. within-size M (int (p .nodes .lows) j) .0 (node-limits p j (rules .nodes j h) .0);
-      high = λ j h. within-size M (int (p .nodes .highs) j) .0 (node-limits p j (rules .nodes j h) .1);
+      low = λ j h. within-size M (intAt (p .nodes .lows) j) .0 (node-limits p j (rules .nodes j h) .0);
+      high = λ j h. within-size M (intAt (p .nodes .highs) j) .0 (node-limits p j (rules .nodes j h) .1);
       sized = sized;
     }
 
-row-sized : (k : ℕ) (f : ℕ → ℤ) → k ≤ 64 → ((i : ℕ) → i < k → ∣ f i ∣ ≤ M) → (i : ℕ) → ∣ int (row (pos 0) 64 k f) i ∣ ≤ M
+row-sized : (k : ℕ) (f : ℕ → ℤ) → k ≤ 64 → ((i : ℕ) → i < k → ∣ f i ∣ ≤ M) → (i : ℕ) → ∣ intAt (row (pos 0) 64 k f) i ∣ ≤ M
 row-sized k f h sized i = go (ltb i k) refl
   where
-    go : (b : Bool) → ltb i k ≡ b → ∣ int (row (pos 0) 64 k f) i ∣ ≤ M
+    go : (b : Bool) → ltb i k ≡ b → ∣ intAt (row (pos 0) 64 k f) i ∣ ≤ M
     go true e = rw (row-at (pos 0) 64 k f i h (ltb-true i k e)) (sized i (ltb-true i k e))
     go false e = rw (row-unused (pos 0) 64 k f i (ltb-false i k e)) (omega arith)
 
@@ -71,24 +71,24 @@ unfolding valuesOf
 values-length p q u = length-row (pos 0) 64 (p .counts .n + p .counts .m + p .counts .k) (valueOf p q u)
 
 module _ (p : Plan) (q u : List ℤ) (rules : PlanRules p) where
-  pub values-at : (i : ℕ) → i < p .counts .n + p .counts .m + p .counts .k → int (valuesOf p q u) i ≡ valueOf p q u i
+  pub values-at : (i : ℕ) → i < p .counts .n + p .counts .m + p .counts .k → intAt (valuesOf p q u) i ≡ valueOf p q u i
   unfolding valuesOf
   values-at i h = row-at (pos 0) 64 (p .counts .n + p .counts .m + p .counts .k) (valueOf p q u) i (room p rules) h
 
-  pub values-unused : (i : ℕ) → p .counts .n + p .counts .m + p .counts .k ≤ i → int (valuesOf p q u) i ≡ pos 0
+  pub values-unused : (i : ℕ) → p .counts .n + p .counts .m + p .counts .k ≤ i → intAt (valuesOf p q u) i ≡ pos 0
   unfolding valuesOf
   values-unused i h = row-unused (pos 0) 64 (p .counts .n + p .counts .m + p .counts .k) (valueOf p q u) i h
 
-  module _ (outputs : (i : ℕ) → i < p .counts .n → ∣ int q i ∣ ≤ M) (inputs : (j : ℕ) → j < p .counts .m → ∣ int u j ∣ ≤ M) where
-    pub first-sized : (i : ℕ) → ∣ int (firstValues (p .counts .n) (p .counts .m) q u) i ∣ ≤ M
+  module _ (outputs : (i : ℕ) → i < p .counts .n → ∣ intAt q i ∣ ≤ M) (inputs : (j : ℕ) → j < p .counts .m → ∣ intAt u j ∣ ≤ M) where
+    pub first-sized : (i : ℕ) → ∣ intAt (firstValues (p .counts .n) (p .counts .m) q u) i ∣ ≤ M
     unfolding firstValues
     first-sized = row-sized (p .counts .n + p .counts .m) _ (omega (arith, room p rules)) (λ i h. go i h (ltb i (p .counts .n)) refl)
       where
-        go : (i : ℕ) → i < p .counts .n + p .counts .m → (b : Bool) → ltb i (p .counts .n) ≡ b → ∣ cond b (int q i) (int u (i - p .counts .n)) ∣ ≤ M
+        go : (i : ℕ) → i < p .counts .n + p .counts .m → (b : Bool) → ltb i (p .counts .n) ≡ b → ∣ cond b (intAt q i) (intAt u (i - p .counts .n)) ∣ ≤ M
         go i h true e = outputs i (ltb-true i (p .counts .n) e)
         go i h false e = inputs (i - p .counts .n) (omega (arith, ltb-false i (p .counts .n) e))
 
-    pub values-sized : (i : ℕ) → ∣ int (valuesOf p q u) i ∣ ≤ M
+    pub values-sized : (i : ℕ) → ∣ intAt (valuesOf p q u) i ∣ ≤ M
     unfolding valuesOf
     values-sized = row-sized (p .counts .n + p .counts .m + p .counts .k) (valueOf p q u) (room p rules) (λ i h. value-size p q u rules outputs inputs i)
 
@@ -101,24 +101,24 @@ module _ (p : Plan) (q u : List ℤ) (rules : PlanRules p) where
 
   -- a node's value by those of its operands
   node-by-operands : (j : ℕ) → j < p .counts .k
-      → nodeOf (nat (p .nodes .kinds) j) (int (p .nodes .lows) j) (int (p .nodes .highs) j) (valueOf p q u (nat (p .nodes .a) j)) (valueOf p q u (nat (p .nodes .b) j))
+      → nodeOf (natAt (p .nodes .kinds) j) (intAt (p .nodes .lows) j) (intAt (p .nodes .highs) j) (valueOf p q u (natAt (p .nodes .a) j)) (valueOf p q u (natAt (p .nodes .b) j))
       ≡ valueOf p q u (base + j)
   node-by-operands j h =
       let below = operands-below p rules j h in
-      ap₂ (nodeOf (nat (p .nodes .kinds) j) (int (p .nodes .lows) j) (int (p .nodes .highs) j)) (value-settled p q u j (nat (p .nodes .a) j) (omega arith) (below .0))
-      (value-settled p q u j (nat (p .nodes .b) j) (omega arith) (below .1))
+      ap₂ (nodeOf (natAt (p .nodes .kinds) j) (intAt (p .nodes .lows) j) (intAt (p .nodes .highs) j)) (value-settled p q u j (natAt (p .nodes .a) j) (omega arith) (below .0))
+      (value-settled p q u j (natAt (p .nodes .b) j) (omega arith) (below .1))
       ∙ sym (worked-out p q u rules j h)
 
   -- from an array that holds the values of integrators and inputs, and of the nodes that are not touched
   module _ (touched : ℕ → Bool) (values : List ℤ) (full : length values ≡ 64)
-      (sources : (i : ℕ) → i < base → int values i ≡ valueWith p q u zero i)
-      (kept : (j : ℕ) → j < p .counts .k → touched j ≡ false → int values (base + j) ≡ valueOf p q u (base + j))
-      (unused : (i : ℕ) → base + p .counts .k ≤ i → int values i ≡ pos 0) where
+      (sources : (i : ℕ) → i < base → intAt values i ≡ valueWith p q u zero i)
+      (kept : (j : ℕ) → j < p .counts .k → touched j ≡ false → intAt values (base + j) ≡ valueOf p q u (base + j))
+      (unused : (i : ℕ) → base + p .counts .k ≤ i → intAt values i ≡ pos 0) where
     -- once the first j nodes are visited
     record Visited (j : ℕ) (now : List ℤ) : Type 0 where
       entries : length now ≡ 64
-      below : (i : ℕ) → i < base + j → int now i ≡ valueOf p q u i
-      above : (i : ℕ) → base + j ≤ i → int now i ≡ int values i
+      below : (i : ℕ) → i < base + j → intAt now i ≡ valueOf p q u i
+      above : (i : ℕ) → base + j ≤ i → intAt now i ≡ intAt values i
 
     none : Visited zero values
     none =
@@ -142,8 +142,8 @@ module _ (p : Plan) (q u : List ℤ) (rules : PlanRules p) where
         own : nodeFrom (p .nodes .kinds) (p .nodes .a) (p .nodes .b) (p .nodes .lows) (p .nodes .highs) base j now ≡ valueOf p q u (base + j)
         own =
             let b = operands-below p rules j h in
-            ap₂ (nodeOf (nat (p .nodes .kinds) j) (int (p .nodes .lows) j) (int (p .nodes .highs) j)) (v .below (nat (p .nodes .a) j) (b .0))
-            (v .below (nat (p .nodes .b) j) (b .1))
+            ap₂ (nodeOf (natAt (p .nodes .kinds) j) (intAt (p .nodes .lows) j) (intAt (p .nodes .highs) j)) (v .below (natAt (p .nodes .a) j) (b .0))
+            (v .below (natAt (p .nodes .b) j) (b .1))
             ∙ node-by-operands j h
 
     passed : (j : ℕ) (now : List ℤ) → j < p .counts .k → touched j ≡ false → Visited j now → Visited (suc j) now
@@ -171,7 +171,7 @@ module _ (p : Plan) (q u : List ℤ) (rules : PlanRules p) where
         let v = visited (p .counts .k) (omega arith) in
         ext-getD (pos 0) _ (valuesOf p q u) (v .entries ∙ sym (values-length p q u)) (λ i h. go i (ltb i (base + p .counts .k)) refl)
       where
-        go : (i : ℕ) (b : Bool) → ltb i (base + p .counts .k) ≡ b → int (each step touched (p .counts .k) values) i ≡ int (valuesOf p q u) i
+        go : (i : ℕ) (b : Bool) → ltb i (base + p .counts .k) ≡ b → intAt (each step touched (p .counts .k) values) i ≡ intAt (valuesOf p q u) i
         go i true e = let h = ltb-true i (base + p .counts .k) e in visited (p .counts .k) (omega arith) .below i h ∙ sym (values-at i h)
         go i false e =
             let h = ltb-false i (base + p .counts .k) e in visited (p .counts .k) (omega arith) .above i h ∙ unused i h ∙ sym (values-unused i h)
@@ -182,5 +182,5 @@ module _ (p : Plan) (q u : List ℤ) (rules : PlanRules p) where
       touched-worked (λ _. true) (firstValues (p .counts .n) (p .counts .m) q u) (length-row (pos 0) 64 base _) first (λ j h e. absurd (true≢false e))
       (λ i h. row-unused (pos 0) 64 base _ i (omega arith))
     where
-      first : (i : ℕ) → i < base → int (firstValues (p .counts .n) (p .counts .m) q u) i ≡ valueWith p q u zero i
+      first : (i : ℕ) → i < base → intAt (firstValues (p .counts .n) (p .counts .m) q u) i ≡ valueWith p q u zero i
       first i h = row-at (pos 0) 64 base _ i (omega (arith, room p rules)) h ∙ rw (lt-ltb i base h)

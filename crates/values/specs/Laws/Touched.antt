@@ -9,7 +9,7 @@ use lib.IntN.{ℤ}
 use lib.ListN.{length}
 use Rattle.bitset.specs.Mask.{has, maskOf, each}
 use Rattle.bitset.specs.Visiting.{each-mask}
-use Rattle.plan.specs.Lists.{int}
+use Rattle.plan.specs.Lists.{intAt}
 use Rattle.plan.specs.Rules.{PlanRules}
 use Rattle.plan.specs.Laws.Counts.{counts-of}
 use Rattle.plan.specs.declared.Plan.{Plan}
@@ -22,11 +22,11 @@ use Rattle.values.specs.Laws.SourceValues.{values-at, values-unused, tou
 -- With the due ticks d, at tick t; q₀ and u₀ are the outputs and input values before, q and u after. `values` holds the new values of
 -- integrators and inputs, and above them what it held before.
 module _ (p : Plan) (rules : PlanRules p) (d : List ℕ) (t : ℕ) (q u q₀ u₀ : List ℤ)
-    (same-q : (i : ℕ) → i < p .counts .n → isDue d t i ≡ false → int q i ≡ int q₀ i)
-    (same-u : (j : ℕ) → j < p .counts .m → isCommanded p t j ≡ false → int u j ≡ int u₀ j)
+    (same-q : (i : ℕ) → i < p .counts .n → isDue d t i ≡ false → intAt q i ≡ intAt q₀ i)
+    (same-u : (j : ℕ) → j < p .counts .m → isCommanded p t j ≡ false → intAt u j ≡ intAt u₀ j)
     (values : List ℤ) (full : length values ≡ 64)
-    (sources : (i : ℕ) → i < p .counts .n + p .counts .m → int values i ≡ valueWith p q u zero i)
-    (others : (i : ℕ) → p .counts .n + p .counts .m ≤ i → int values i ≡ int (valuesOf p q₀ u₀) i) where
+    (sources : (i : ℕ) → i < p .counts .n + p .counts .m → intAt values i ≡ valueWith p q u zero i)
+    (others : (i : ℕ) → p .counts .n + p .counts .m ≤ i → intAt values i ≡ intAt (valuesOf p q₀ u₀) i) where
   abbrev base : ℕ
   base = p .counts .n + p .counts .m
 
@@ -36,7 +36,7 @@ module _ (p : Plan) (rules : PlanRules p) (d : List ℕ) (t : ℕ) (q u q₀ u�
   abbrev depends : ℕ → Bool
   depends j = dependsWith p d t (p .counts .k) (base + j)
 
-  node-kept : (j : ℕ) → j < p .counts .k → depends j ≡ false → int values (base + j) ≡ valueOf p q u (base + j)
+  node-kept : (j : ℕ) → j < p .counts .k → depends j ≡ false → intAt values (base + j) ≡ valueOf p q u (base + j)
   unfolding valueOf
   node-kept j h e =
       others (base + j) (omega arith) ∙ values-at p q₀ u₀ rules (base + j) (omega arith)

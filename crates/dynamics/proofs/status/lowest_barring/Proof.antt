@@ -18,7 +18,7 @@ use Rattle.integers.specs.Signed64.{rd}
 use Rattle.bitset.specs.Mask.{lowestOf}
 use Rattle.bitset.specs.Visiting.{rest-lt}
 use Rattle.plan.specs.Format.{M}
-use Rattle.plan.specs.Lists.{int, firstFrom}
+use Rattle.plan.specs.Lists.{intAt, firstFrom}
 use Rattle.dynamics.specs.Standing.{barsIn, DueReach}
 use Rattle.dynamics.specs.Laws.Barring.{valueAt, lowest-below, bars-none, bars-lowest, bars-rest, reach-lowest, reach-rest}
 use Rattle.dynamics.specs.Laws.Barring.{above-most, below-least, inside}
@@ -33,7 +33,7 @@ abbrev μ-loop : tie.MeasureT-loop
 μ-loop n due t x s l left₀ left = left
 
 -- an element that is read is its bits, read back
-read : (xs : List ℤ) (i : ℕ) → mag (int xs i) < 2 ^ hbits w64 → rd (int xs i) ≡ int xs i
+read : (xs : List ℤ) (i : ℕ) → mag (intAt xs i) < 2 ^ hbits w64 → rd (intAt xs i) ≡ intAt xs i
 read xs i h = toZ-ofZ (sfits-of h)
 
 -- the lowest left is an index of the arrays

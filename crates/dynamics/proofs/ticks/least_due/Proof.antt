@@ -6,7 +6,7 @@ use mathlib.Core.List.{List}
 use Prim.Native.Nat.{ℕ, _+_, _-_, _≤_, _<_}
 use native.Mathlib.Numerals.{add-one}
 use native.Mathlib.Omega.{arith}
-use Rattle.plan.specs.Lists.{nat}
+use Rattle.plan.specs.Lists.{natAt}
 use Rattle.machine.specs.Next.{leastDue}
 use Rattle.dynamics.proofs.ticks.least_due.Statement.{statement}
 use Rattle.dynamics.proofs.ticks.least_due.Tie as tie
@@ -18,11 +18,11 @@ abbrev μ-loop : tie.MeasureT-loop
 μ-loop n d least₀ i₀ least i = n - i
 
 -- one due tick more, below the least so far or not
-lower : (d : List ℕ) (i least : ℕ) → least ≡ leastDue d i → nat d i < least → nat d i ≡ leastDue d (i + 1)
+lower : (d : List ℕ) (i least : ℕ) → least ≡ leastDue d i → natAt d i < least → natAt d i ≡ leastDue d (i + 1)
 unfolding leastDue
 lower d i least e h = rw add-one (omega arith)
 
-kept : (d : List ℕ) (i least : ℕ) → least ≡ leastDue d i → least ≤ nat d i → least ≡ leastDue d (i + 1)
+kept : (d : List ℕ) (i least : ℕ) → least ≡ leastDue d i → least ≤ natAt d i → least ≡ leastDue d (i + 1)
 unfolding leastDue
 kept d i least e h = rw add-one (omega arith)
 

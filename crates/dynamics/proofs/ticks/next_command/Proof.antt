@@ -7,20 +7,20 @@ use Prim.Native.Nat.{ℕ, _-_, _≤_, _<_}
 use native.Mathlib.Omega.{arith}
 use denote.Ref.{now}
 use lib.Dec.{ltb}
-use Rattle.plan.specs.Lists.{nat, firstFrom}
+use Rattle.plan.specs.Lists.{natAt, firstFrom}
 use Rattle.plan.specs.Laws.Searches.{first-unique}
 use Rattle.dynamics.proofs.ticks.next_command.Statement.{statement}
 use Rattle.dynamics.proofs.ticks.next_command.Tie as tie
 
 abbrev Inv-loop : tie.InvT-loop
-Inv-loop commands ticks clock e₀ e = (e ≤ commands) × ((i : ℕ) → i < e → nat ticks i ≤ clock)
+Inv-loop commands ticks clock e₀ e = (e ≤ commands) × ((i : ℕ) → i < e → natAt ticks i ≤ clock)
 
 abbrev μ-loop : tie.MeasureT-loop
 μ-loop commands ticks clock e₀ e = commands - e
 
 -- the command at which the loop ends is above the clock, or none is left
 ended : (c : tie.At-loop Inv-loop μ-loop) → let a = c .before .args in let e = c .loop .e in
-    (e < a .commands → a .clock < nat (now (a .ticks)) e) → e ≡ firstFrom (λ i. ltb (a .clock) (nat (now (a .ticks)) i)) 0 (a .commands)
+    (e < a .commands → a .clock < natAt (now (a .ticks)) e) → e ≡ firstFrom (λ i. ltb (a .clock) (natAt (now (a .ticks)) i)) 0 (a .commands)
 ended c above =
     first-unique _ 0 _ _
     (record {

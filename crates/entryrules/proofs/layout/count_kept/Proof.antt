@@ -1,6 +1,6 @@
 -- The two comparisons are the two ends of the range.
 use Rattle.plan.specs.Tests.{countKept}
-use Rattle.plan.specs.Lists.{nat}
+use Rattle.plan.specs.Lists.{natAt}
 use Rattle.plan.specs.Format.{leastCounts}
 use mathlib.Core.Path.{sym}
 use native.Mathlib.Omega.{arith}
@@ -16,7 +16,7 @@ returns : tie.Need-returns
 unfolding countKept
 returns c =
     let a = c .before .before .args in
-    let low = lt-leb (nat leastCounts (a .k)) (a .count) (omega (arith, c .before .least-count .ensures)) in
+    let low = lt-leb (natAt leastCounts (a .k)) (a .count) (omega (arith, c .before .least-count .ensures)) in
     sym (rw low)
 
 largest-count-requires : tie.Need-largest-count-requires
@@ -26,7 +26,7 @@ returns-2 : tie.Need-returns-2
 unfolding countKept
 returns-2 c =
     let a = c .before .before .before .args in
-    let low = le-leb (nat leastCounts (a .k)) (a .count) (omega (arith, c .before .before .least-count .ensures)) in
+    let low = le-leb (natAt leastCounts (a .k)) (a .count) (omega (arith, c .before .before .least-count .ensures)) in
     sym (rw (low, ← c .largest-count .ensures))
 
 pub count-kept-spec : {M : Type 1} → statement M

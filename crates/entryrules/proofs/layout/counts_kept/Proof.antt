@@ -4,7 +4,7 @@ use native.Mathlib.Omega.{arith}
 use Prim.Native.Nat.{_-_, _≤_}
 use mathlib.Core.Path.{_≡_, sym}
 use mathlib.Core.Bool.{true}
-use Rattle.plan.specs.Lists.{nat, every}
+use Rattle.plan.specs.Lists.{natAt, every}
 use Rattle.plan.specs.Format.{sections}
 use Rattle.plan.specs.Tests.{countKept}
 use Rattle.entryrules.specs.Testing.{every-none, every-more, every-fails, held, failed}
@@ -12,7 +12,7 @@ use Rattle.entryrules.proofs.layout.counts_kept.Statement.{statement}
 use Rattle.entryrules.proofs.layout.counts_kept.Tie as tie
 
 abbrev Inv-loop : tie.InvT-loop
-Inv-loop counts k₀ k = (k ≤ sections) × (every (λ j. countKept j (nat counts j)) k ≡ true)
+Inv-loop counts k₀ k = (k ≤ sections) × (every (λ j. countKept j (natAt counts j)) k ≡ true)
 
 abbrev μ-loop : tie.MeasureT-loop
 μ-loop counts k₀ k = sections - k

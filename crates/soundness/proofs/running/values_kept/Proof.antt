@@ -7,13 +7,13 @@ use native.Mathlib.Omega.{arith}
 use Prim.Native.Nat.{_-_, _≤_}
 use Rattle.integers.specs.Range.{within}
 use Rattle.plan.specs.Format.{M}
-use Rattle.plan.specs.Lists.{int, every}
+use Rattle.plan.specs.Lists.{intAt, every}
 use Rattle.entryrules.specs.Testing.{every-none, every-more, every-fails, element, held, failed}
 use Rattle.soundness.proofs.running.values_kept.Statement.{statement}
 use Rattle.soundness.proofs.running.values_kept.Tie as tie
 
 abbrev Inv-loop : tie.InvT-loop
-Inv-loop values count i₀ i = (i ≤ count) × (every (λ j. within M (int values j)) i ≡ true)
+Inv-loop values count i₀ i = (i ≤ count) × (every (λ j. within M (intAt values j)) i ≡ true)
 
 abbrev μ-loop : tie.MeasureT-loop
 μ-loop values count i₀ i = count - i
@@ -32,7 +32,7 @@ value-kept-requires c κs = search needs
 
 -- what the call has said of the entry
 answer : (c : tie.After-value-kept Inv-loop μ-loop) → let l = c .before .before .before in
-    c .value-kept .result ≡ within M (int (now (l .before .args .values)) (l .loop .i))
+    c .value-kept .result ≡ within M (intAt (now (l .before .args .values)) (l .loop .i))
 answer c = rw (element (c .before .value-kept-arg .given)) at (c .value-kept .ensures)
 
 returns : tie.Need-returns Inv-loop μ-loop

@@ -6,7 +6,7 @@ use native.Mathlib.Omega.{arith}
 use mir.Syntax.{w64}
 use mir.Val.{SFits}
 use mir.Facts.{toZ-ofZ}
-use Rattle.plan.specs.Lists.{nat, int}
+use Rattle.plan.specs.Lists.{natAt, intAt}
 use Rattle.steps.specs.Commands.{obeying, obeyOne, obeyFrom}
 use Rattle.steps.specs.Laws.Obeying.{obey-turn, obey-other, obey-end}
 use Rattle.steps.proofs.commands.obey_commands.Statement.{statement}
@@ -42,7 +42,7 @@ element-copy-out-value : tie.Need-element-copy-out-value Inv-loop μ-loop
 element-copy-out-value c = omega arith
 
 -- the command's input is one of the eight
-known : (c : tie.In-loop Inv-loop μ-loop) → nat (c .before .before .args .numbers .now) (c .before .loop .e) < 8
+known : (c : tie.In-loop Inv-loop μ-loop) → natAt (c .before .before .args .numbers .now) (c .before .loop .e) < 8
 known c = c .before .before .pre .known (c .before .loop .e) (c .loop-test .taken)
 
 mul-value-2 : tie.Need-mul-value-2 Inv-loop μ-loop
@@ -76,7 +76,7 @@ loop-again c =
     let inside = then .before .before in
     let l = inside .before .loop in
     let a = inside .before .before .args in
-    let fits : SFits w64 (int (a .settings .now) (l .e)) = record { sfits = c .before .value .given } in
+    let fits : SFits w64 (intAt (a .settings .now) (l .e)) = record { sfits = c .before .value .given } in
     let o = obeying (l .inputs) (l .values) (l .commanded) (l .e) in
     let turn = obey-turn (a .t) (a .n) (a .ticks .now) (a .numbers .now) (a .settings .now) (l .e) (a .commands) o
     (inside .loop-test .taken) (then .if1 .taken) in

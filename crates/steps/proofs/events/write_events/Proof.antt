@@ -7,7 +7,7 @@ use borrow.Author.Needs.{needs}
 use Rattle.bitset.specs.Visiting.{rest-lt}
 use Rattle.words.specs.Word.{wordOf}
 use Rattle.words.specs.Putting.{rd32, length-behind}
-use Rattle.plan.specs.Lists.{int}
+use Rattle.plan.specs.Lists.{intAt}
 use Rattle.machine.specs.Instant.{eventBytes}
 use Rattle.steps.specs.Laws.Buffers.{put-back}
 use Rattle.steps.specs.Laws.EventTurns.{Writing, begun, finished, room, source-lt, value-small, turn}
@@ -58,7 +58,7 @@ write-triple-requires c κs =
       omega (arith, length-behind (l .buf) (l .end), room (l .inv) p (source .ensures)),
       start .fits .t .fits,
       omega (arith, source-lt (l .inv) p (source .ensures)),
-      rw (rd32 (int (start .args .values .now) (source .result)) small) small,
+      rw (rd32 (intAt (start .args .values .now) (source .result)) small) small,
     )
 
 add-end : tie.Need-add-end Inv-loop μ-loop
@@ -85,7 +85,7 @@ loop-again c =
     let l = inside .before .loop in
     let a = inside .before .before .before .args in
     let p = some inside in
-    let value = int (a .values .now) (source .result) in
+    let value = intAt (a .values .now) (source .result) in
     let event = a .t ∷ source .result ∷ wordOf value ∷ [] in
     let small = value-small (l .inv) p (source .ensures) in
     turn (l .inv) p (source .ensures) (c .rest64 .ensures)

@@ -10,7 +10,7 @@ use mir.Facts.{toZ-ofZ}
 use Rattle.integers.specs.Signed64.{rd}
 use Rattle.bitset.specs.Mask.{has, each}
 use Rattle.bitset.specs.Visiting.{rest-lt, lowest-lt, each-turn, each-done}
-use Rattle.plan.specs.Lists.{int}
+use Rattle.plan.specs.Lists.{intAt}
 use Rattle.dynamics.specs.Standing.{DueReach}
 use Rattle.dynamics.specs.Laws.Barring.{valueAt, reach-lowest, reach-rest}
 use Rattle.steps.specs.Outputs.{outputting, outputOne}
@@ -35,8 +35,8 @@ value : (c : tie.After-position Inv-loop μ-loop) →
     rd (c .position .result) ≡ valueAt (a .t) (now (a .x)) (now (a .s)) (now (a .l)) i
 value c =
     let i = c .before .before .before .before .lowest .result in let a = c .before .before .before .before .before .before .before .args in
-    let x : SFits w64 (int (now (a .x)) i) = sfits-of (c .before .before .before .position-arg .given) in
-    let s : SFits w64 (int (now (a .s)) i) = sfits-of (c .before .before .position-arg2 .given) in
+    let x : SFits w64 (intAt (now (a .x)) i) = sfits-of (c .before .before .before .position-arg .given) in
+    let s : SFits w64 (intAt (now (a .s)) i) = sfits-of (c .before .before .position-arg2 .given) in
     toZ-ofZ (sfits-of (c .position .ok)) ∙ (rw (toZ-ofZ x, toZ-ofZ s) at (c .position .ensures))
 
 loop-holds : tie.Need-loop-holds Inv-loop μ-loop
@@ -66,8 +66,8 @@ element-copy-out-position-3 c = in-range (c .before .before)
 position-requires : tie.Need-position-requires Inv-loop μ-loop
 position-requires c κs =
     let e = c .before .before .before .lowest in let m = c .before .before .before .before .before in let a = m .before .args in
-    let x : SFits w64 (int (now (a .x)) (e .result)) = sfits-of (c .before .before .position-arg .given) in
-    let s : SFits w64 (int (now (a .s)) (e .result)) = sfits-of (c .before .position-arg2 .given) in
+    let x : SFits w64 (intAt (now (a .x)) (e .result)) = sfits-of (c .before .before .position-arg .given) in
+    let s : SFits w64 (intAt (now (a .s)) (e .result)) = sfits-of (c .before .position-arg2 .given) in
     rw (toZ-ofZ x, toZ-ofZ s, e .ensures)
     (reach-lowest {n = 32} (omega arith) (m .loop .inv .0) (omega arith) _ _ _ _ (m .loop .inv .1))
 
