@@ -1,5 +1,4 @@
 -- Masks: a number read as the set of its set bits. Definitions, and the laws of bits, of counts and of visiting.
-pub mod Mask
-pub mod Bits
 pub mod Counts
-pub mod Visiting
+pub mod Mask
+pub mod Laws

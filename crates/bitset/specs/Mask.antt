@@ -1,4 +1,4 @@
--- A mask is a number read as a set: bit i is set where i is in the set. The definitions that contracts cite. Assumes nothing.
+-- Model of the code: a mask is a number read as a set, bit i set where i is in the set. Laws/Bits and Laws/Visiting say what is in each set.
 use mathlib.Core.Bool.{Bool, true, cond}
 use Prim.Native.Nat.{ℕ, zero, suc, _+_, _-_, _*_, _/_, _%_, _^_}
 use lib.Dec.{eqb}
@@ -14,13 +14,8 @@ unfoldable pub maskOf : (ℕ → Bool) → ℕ → ℕ
 maskOf p zero = 0
 maskOf p (suc n) = cond (p n) (2 ^ n + maskOf p n) (maskOf p n)
 
--- how many i below n have p i
-unfoldable pub countOf : (ℕ → Bool) → ℕ → ℕ
-countOf p zero = 0
-countOf p (suc n) = cond (p n) (suc (countOf p n)) (countOf p n)
-
 -- the loop with a test: from the state s, f i for each i below n with p i, in ascending order
-unfoldable pub each : {S : Type 0} → (ℕ → S → S) → (ℕ → Bool) → ℕ → S → S
+unfoldable pub each : {S : Type 0} (f : ℕ → S → S) (p : ℕ → Bool) (n : ℕ) (s : S) → S
 each f p zero s = s
 each f p (suc n) s = cond (p n) (f n (each f p n s)) (each f p n s)
 

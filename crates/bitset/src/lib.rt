@@ -4,7 +4,8 @@ ghost use mathlib.Core.Path.{_≡_};
 ghost use Prim.Native.Nat.{_<_, _≤_};
 ghost use lib.Dec.{eqb};
 ghost use lib.ListN.{getD};
-ghost use Rattle.bitset.specs.Mask.{has, maskOf, countOf, allOf, union, withBit, lowestOf, restOf};
+ghost use Rattle.bitset.specs.Mask.{has, maskOf, allOf, union, withBit, lowestOf, restOf};
+ghost use Rattle.bitset.specs.Counts.{countOf};
 
 mod wide;
 

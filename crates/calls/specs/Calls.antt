@@ -1,6 +1,7 @@
--- What each public call answers: number, figures, state and buffer, by cases in the order of "When a call declines". "An accepted call gives
--- number 0 .. Other calls try 10 to 14 as named, accept if none of theirs is met, and else return number, 0 for every other figure, and the
--- state handed in; no buffer byte changes." The section view's answer is `sectionOf` of the crate `plan`, and lies at `sectionStart`.
+-- Binding definition: what each public call answers, number, figures, state and buffer, by cases in the order of "When a call declines".
+-- "An accepted call gives number 0 .. Other calls try 10 to 14 as named, accept if none of theirs is met, and else return number, 0 for
+-- every other figure, and the state handed in; no buffer byte changes." The section view's answer is `sectionOf` of the crate `plan`, and
+-- lies at `sectionStart`.
 use mathlib.Core.Bool.{cond}
 use mathlib.Core.List.{List, _++_}
 use Prim.Native.Nat.{ℕ, _+_, _*_}

@@ -1,4 +1,4 @@
--- The limits of docs/LIMITS.md as statements: of an accepted file, and of a sound state, whether or not a run reaches it.
+-- Promise: the limits of docs/LIMITS.md as statements, of an accepted file, and of a sound state, whether or not a run reaches it.
 use mathlib.Core.Path.{_≡_}
 use mathlib.Core.Logic.{_⊎_}
 use mathlib.Core.List.{List}
@@ -8,7 +8,7 @@ use lib.Signed.{_≤ℤ_, _<ℤ_}
 use lib.Dec.{eqb}
 use lib.ListN.{length}
 use Rattle.integers.specs.Parts.{∣_∣}
-use Rattle.bitset.specs.Mask.{countOf}
+use Rattle.bitset.specs.Counts.{countOf}
 use Rattle.plan.specs.Format.{M, offsetIn, lengthIn}
 use Rattle.plan.specs.Lists.{natAt, intAt}
 use Rattle.plan.specs.Refusals.{sectionOf, sectionStart}

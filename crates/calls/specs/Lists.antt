@@ -1,5 +1,5 @@
--- "Lists of run calls: the state is the loaded one, then what the last call returned, and nothing else writes it." A list is the fold of the
--- run's own answer, which the contracts of the runs cite.
+-- Binding definition: "Lists of run calls: the state is the loaded one, then what the last call returned, and nothing else writes it." A
+-- list is the fold of the run's own answer, which the contracts of the runs cite.
 use mathlib.Core.Path.{_≡_}
 use mathlib.Core.Bool.{cond}
 use mathlib.Core.List.{List, [], _∷_, _++_}

@@ -1,5 +1,5 @@
--- The promises, as statements. Each is a type: a proof of it is a term of exactly that type, and stands in Proofs. Nothing is assumed here, and
--- nothing proved.
+-- Promise: all of them in one record, as statements. Each is a type: a proof of it is a term of exactly that type, and stands in Proofs.
+-- Nothing is assumed here, and nothing proved.
 pub mod Numbers
 pub mod Files
 pub mod Machine

@@ -1,5 +1,6 @@
--- A list of run calls as a program makes it: what each call was handed, what it answered, and what its buffer then held. Where the contracts of `run_lazy`
--- and `run_eager` hold of these, and the states go from call to call, they are the list of Lists.antt.
+-- The same as a proposition: a list of run calls as a program makes it, what each call was handed, what it answered, and what its buffer
+-- then held. Where the contracts of `run_lazy` and `run_eager` hold of these, and the states go from call to call, they are the list of
+-- Lists.antt, as Proofs/Sessions shows.
 use mathlib.Core.Path.{_≡_}
 use mathlib.Core.Bool.{cond}
 use mathlib.Core.List.{List, [], _∷_, _++_}

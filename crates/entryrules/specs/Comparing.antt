@@ -13,9 +13,10 @@ use native.Mathlib.Omega.{arith}
 use mir.Syntax.{w64}
 use mir.Val.{SFits, ofZ}
 use mir.Facts.{toZ-ofZ}
-use Rattle.integers.specs.Parts.{∣_∣, zs}
+use Rattle.integers.specs.Parts.{∣_∣}
+use Rattle.integers.specs.Laws.Parts.{zs}
 use Rattle.integers.specs.Range.{within}
-use Rattle.integers.specs.Signed64.{rd}
+use Rattle.integers.specs.Laws.Signed64.{rd}
 use Rattle.plan.specs.Format.{M}
 
 -- ---- z < y was found, or was not

@@ -11,7 +11,7 @@ use mir.Val.{hbits}
 use mir.Facts.{toZ-ofZ}
 use borrow.Author.Needs.{sfits-of}
 use borrow.Author.Tests.{not-true, not-false}
-use Rattle.integers.specs.Signed64.{rd}
+use Rattle.integers.specs.Laws.Signed64.{rd}
 use Rattle.plan.specs.Lists.{every}
 use Rattle.plan.specs.Laws.Searches.{below-suc}
 

@@ -1,6 +1,5 @@
--- The integers, as the cup simulator's rules use them: laws of ℤ, signed 64-bit locals, division that rounds down or up, and ranges.
+-- The integers, as the cup simulator's rules use them: sizes, division that rounds down or up, ranges, and what is proved of these.
 pub mod Parts
-pub mod Order
-pub mod Signed64
 pub mod Division
 pub mod Range
+pub mod Laws

@@ -1,4 +1,5 @@
--- "Due", for every position, also one past a level.
+-- Binding definition: "Due", for every position, also one past a level. "The least T ≥ 1" stands here as a proposition too; `ticks-least`
+-- of Laws/Due shows that they agree.
 use mathlib.Core.Bool.{cond}
 use mathlib.Core.List.{List}
 use Prim.Native.Nat.{ℕ, _+_, _≤_, max}
@@ -22,19 +23,19 @@ unfoldable pub lowerLevel : Plan → List ℤ → ℕ → ℤ
 lowerLevel p q i = intAt q i -ℤ intAt (p .integrators .quanta) i
 
 -- from x to the level ahead: the upper one for a slope above 0, else the lower. It is below 0 where x is past that level
-unfoldable pub distance : ℤ → ℤ → ℤ → ℤ → ℤ
+unfoldable pub distance : (x upper lower s : ℤ) → ℤ
 distance x upper lower s = cond (ltZ (pos 0) s) (upper -ℤ x) (x -ℤ lower)
 
 -- T for a slope that is not 0: the distance by the slope's size, rounded up, a distance below 0 counting as 0, and at least 1
-unfoldable pub ticksTo : ℤ → ℤ → ℤ → ℤ → ℕ
+unfoldable pub ticksTo : (x upper lower s : ℤ) → ℕ
 ticksTo x upper lower s = max 1 (ceilDiv (up (distance x upper lower s)) ∣ s ∣)
 
 -- d, from l, x, the levels and s: "for s = 0 d is never"
-unfoldable pub dueTick : ℕ → ℤ → ℤ → ℤ → ℤ → ℕ
+unfoldable pub dueTick : (l : ℕ) (x upper lower s : ℤ) → ℕ
 dueTick l x upper lower s = cond (eqb ∣ s ∣ 0) never (l + ticksTo x upper lower s)
 
 -- the same for integrator i of a plan, with the outputs q
-unfoldable pub dueOf : Plan → List ℤ → ℕ → ℕ → ℤ → ℤ → ℕ
+unfoldable pub dueOf : (p : Plan) (q : List ℤ) (i l : ℕ) (x s : ℤ) → ℕ
 dueOf p q i l x s = dueTick l x (upperLevel p q i) (lowerLevel p q i) s
 
 -- in document 01's words: after T ticks x is at or past the level ahead

@@ -1,11 +1,11 @@
--- "One instant", steps 1 to 6, and its events.
+-- Binding definition: "One instant", steps 1 to 6, and its events.
 use mathlib.Core.Path.{_≡_}
 use mathlib.Core.Bool.{Bool, true, cond, _||_}
 use mathlib.Core.Logic.{_⊎_}
 use mathlib.Core.List.{List, [], _∷_}
 use Prim.Native.Nat.{ℕ, zero, suc, _+_, _-_}
 use lib.IntN.{ℤ, pos, _+ℤ_, _*ℤ_}
-use Rattle.bitset.specs.Mask.{countOf}
+use Rattle.bitset.specs.Counts.{countOf}
 use Rattle.words.specs.Word.{wordOf, flat}
 use Rattle.plan.specs.Lists.{natAt, intAt, row, joined}
 use Rattle.plan.specs.declared.Plan.{Plan}
@@ -22,7 +22,7 @@ unfoldable pub positionAt : Running → ℕ → ℕ → ℤ
 positionAt r t i = intAt (r .x) i +ℤ intAt (r .s) i *ℤ pos (t - natAt (r .l) i)
 
 -- the value of input j after those of the first e commands that are of tick t
-unfoldable pub settingOf : Plan → List ℤ → ℕ → ℕ → ℕ → ℤ
+unfoldable pub settingOf : (p : Plan) (u : List ℤ) (t j e : ℕ) → ℤ
 settingOf p u t j zero = intAt u j
 settingOf p u t j (suc e) = cond (setsInput p t j e) (intAt (p .commands .values) e) (settingOf p u t j e)
 
@@ -31,12 +31,12 @@ unfoldable pub settings : Plan → List ℤ → ℕ → List ℤ
 settings p u t = row (pos 0) 8 (p .counts .m) (λ j. settingOf p u t j (p .counts .commands))
 
 -- 5. "The lazy engine moves those due or reached, the eager engine all"
-unfoldable pub moves : Plan → Engine → List ℕ → ℕ → ℕ → Bool
+unfoldable pub moves : (p : Plan) (engine : Engine) (d : List ℕ) (t i : ℕ) → Bool
 moves p Lazy d t i = isDue d t i || reached p d t i
 moves p Eager d t i = true
 
 -- the same in document 01's words
-abbrev pub Moves : Plan → Engine → List ℕ → ℕ → ℕ → Type 0
+abbrev pub Moves : (p : Plan) (engine : Engine) (d : List ℕ) (t i : ℕ) → Type 0
 Moves p Lazy d t i = (natAt d i ≡ t) ⊎ Reached p d t i
 Moves p Eager d t i = Unit {0}
 
@@ -45,7 +45,7 @@ unfoldable pub eventBytes : ℕ → ℕ → ℤ → List ℕ
 eventBytes t source value = flat (t ∷ source ∷ wordOf value ∷ [])
 
 -- at tick t, with the due ticks d before it, and the outputs q and input values u after it
-unfoldable pub eventsAt : Plan → ℕ → List ℕ → List ℤ → List ℤ → List ℕ
+unfoldable pub eventsAt : (p : Plan) (t : ℕ) (d : List ℕ) (q u : List ℤ) → List ℕ
 eventsAt p t d q u = joined (λ i. cond (changes p d t i) (eventBytes t i (valueWith p q u zero i)) []) (p .counts .n + p .counts .m)
 
 module _ (p : Plan) (r : Running) (t : ℕ) where

@@ -1,4 +1,4 @@
--- The next command, and "Next instant t: the least of all d and the next command's tick."
+-- Binding definition: the next command, and "Next instant t: the least of all d and the next command's tick."
 use mathlib.Core.Bool.{cond}
 use mathlib.Core.List.{List}
 use Prim.Native.Nat.{ℕ, zero, suc, min}

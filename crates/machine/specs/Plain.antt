@@ -1,11 +1,11 @@
--- "The plain machine is these rules with every integrator moved at each instant and no update count." It keeps no l, since every position
--- is at the clock, and is fed the plan and a budget sum.
+-- Binding definition: "The plain machine is these rules with every integrator moved at each instant and no update count." It keeps no l,
+-- since every position is at the clock, and is fed the plan and a budget sum.
 use mathlib.Core.Bool.{cond, _||_}
 use mathlib.Core.List.{List, [], _++_}
 use Prim.Native.Nat.{ℕ, zero, suc, _+_, _-_}
 use lib.IntN.{ℤ, pos, _+ℤ_, _*ℤ_}
 use lib.Dec.{eqb}
-use Rattle.bitset.specs.Mask.{countOf}
+use Rattle.bitset.specs.Counts.{countOf}
 use Rattle.plan.specs.Lists.{intAt, row}
 use Rattle.plan.specs.declared.Plan.{Plan}
 use Rattle.machine.specs.Values.{rateOf}
@@ -28,7 +28,7 @@ pub record Plain : Type 0 where
 
 module _ (p : Plan) where
   -- every integrator gets the slope and the due tick by rule, from its position, the outputs and the input values at a tick
-  unfoldable pub settled : List ℤ → List ℤ → List ℤ → ℕ → ℕ → Plain
+  unfoldable pub settled : (x q u : List ℤ) (t instants : ℕ) → Plain
   settled x q u t instants =
       let slope = rateOf p q u in
       record {

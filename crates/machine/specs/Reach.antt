@@ -1,4 +1,5 @@
--- Steps 2 and 4: which inputs are commanded, what depends on what changes, and which integrators are reached.
+-- Binding definition: steps 2 and 4, which inputs are commanded, what depends on what changes, and which integrators are reached. What
+-- changes, depends and is reached stands here as propositions too; Laws/Reach shows that they agree.
 use mathlib.Core.Path.{_≡_}
 use mathlib.Core.Bool.{Bool, cond, not, _&&_, _||_}
 use mathlib.Core.List.{List}
@@ -12,7 +13,7 @@ unfoldable pub isDue : List ℕ → ℕ → ℕ → Bool
 isDue d t i = eqb (natAt d i) t
 
 -- command e is one "of tick t" and sets input j
-unfoldable pub setsInput : Plan → ℕ → ℕ → ℕ → Bool
+unfoldable pub setsInput : (p : Plan) (t j e : ℕ) → Bool
 setsInput p t j e = eqb (natAt (p .commands .ticks) e) t && eqb (natAt (p .commands .inputs) e) j
 
 unfoldable pub isCommanded : Plan → ℕ → ℕ → Bool

@@ -1,4 +1,4 @@
--- "A run with budget b takes b instants, or fewer if the status is first 1 or 2"; and "Position call".
+-- Binding definition: "A run with budget b takes b instants, or fewer if the status is first 1 or 2"; and "Position call".
 use mathlib.Core.Bool.{cond}
 use mathlib.Core.List.{List, [], _++_}
 use Prim.Native.Nat.{ℕ, zero, suc}

@@ -1,4 +1,5 @@
--- "A sound state": its clauses as propositions, in document 01's order.
+-- The same as a proposition: "A sound state", which SoundTest.antt has as a test, its clauses in document 01's order. `sound-means` of
+-- Laws/Tested shows that they agree.
 use mathlib.Core.Path.{_≡_}
 use Prim.Native.Nat.{ℕ, _*_, _≤_, _<_}
 use lib.IntN.{pos, _-ℤ_}

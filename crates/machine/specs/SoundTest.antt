@@ -1,4 +1,5 @@
--- "A sound state" as a test, which the calls that take a state try first. The counts are tested before anything that they bound.
+-- Binding definition: "A sound state" as a test, which the calls that take a state try first. The counts are tested before anything that
+-- they bound.
 use mathlib.Core.Bool.{Bool, _&&_}
 use Prim.Native.Nat.{ℕ, _*_}
 use lib.IntN.{_-ℤ_}

@@ -1,4 +1,4 @@
--- "Start: x = q = start, l = c = 0, slopes and dues by rule, counts 0." And the idle state.
+-- Binding definition: "Start: x = q = start, l = c = 0, slopes and dues by rule, counts 0." And the idle state.
 use Prim.Native.Nat.{ℕ}
 use lib.IntN.{ℤ, pos}
 use Rattle.plan.specs.Lists.{intAt, row}

@@ -1,5 +1,5 @@
--- "Status is read from the state: 1 finished if t is never or above the horizon; else 2 range if step 1 bars the instant (with the lowest
--- such integrator); else 0 paused."
+-- Binding definition: "Status is read from the state: 1 finished if t is never or above the horizon; else 2 range if step 1 bars the
+-- instant (with the lowest such integrator); else 0 paused."
 use mathlib.Core.Bool.{Bool, cond, not, _&&_, _||_}
 use mathlib.Core.List.{List}
 use Prim.Native.Nat.{ℕ}
@@ -15,19 +15,19 @@ use Rattle.machine.specs.Instant.{positionAt, tickOf}
 use Rattle.machine.specs.declared.Running.{Running}
 
 -- "If any such value is beyond ±M, the instant isn't taken": integrator i is due at t, and its value there is beyond
-unfoldable pub bars : List ℕ → ℕ → (ℕ → ℤ) → ℕ → Bool
+unfoldable pub bars : (d : List ℕ) (t : ℕ) (value : ℕ → ℤ) (i : ℕ) → Bool
 bars d t value i = isDue d t i && not (within M (value i))
 
 -- the lowest integrator that bars the instant at t, or n where none does
-unfoldable pub barring : Plan → List ℕ → ℕ → (ℕ → ℤ) → ℕ
+unfoldable pub barring : (p : Plan) (d : List ℕ) (t : ℕ) (value : ℕ → ℤ) → ℕ
 barring p d t value = firstFrom (bars d t value) 0 (p .counts .n)
 
 -- the status, by the due ticks, the next instant's tick and the values that due integrators would take there
-unfoldable pub statusAt : Plan → List ℕ → ℕ → (ℕ → ℤ) → ℕ
+unfoldable pub statusAt : (p : Plan) (d : List ℕ) (t : ℕ) (value : ℕ → ℤ) → ℕ
 statusAt p d t value = cond (eqb t never || ltb (p .horizon) t) 1 (cond (ltb (barring p d t value) (p .counts .n)) 2 0)
 
 -- "integrator (0 unless range)"
-unfoldable pub integratorAt : Plan → List ℕ → ℕ → (ℕ → ℤ) → ℕ
+unfoldable pub integratorAt : (p : Plan) (d : List ℕ) (t : ℕ) (value : ℕ → ℤ) → ℕ
 integratorAt p d t value = cond (eqb (statusAt p d t value) 2) (barring p d t value) 0
 
 module _ (p : Plan) (r : Running) where

@@ -1,8 +1,9 @@
--- The update count that demand 3 asks for: by how much it grows at each instant, from the plain machine's due ticks alone.
+-- Binding definition: the update count that demand 3 asks for, by how much it grows at each instant, from the plain machine's due ticks
+-- alone.
 use mathlib.Core.Bool.{Bool, true, false, cond}
 use Prim.Native.Nat.{ℕ, zero, suc, _+_}
 use lib.Dec.{eqb}
-use Rattle.bitset.specs.Mask.{countOf}
+use Rattle.bitset.specs.Counts.{countOf}
 use Rattle.plan.specs.Lists.{natAt}
 use Rattle.plan.specs.declared.Plan.{Plan}
 use Rattle.machine.specs.Plain.{Plain, plainAfter, lazyCount}

@@ -1,4 +1,4 @@
--- Node kinds, the values of sources, and "Rate".
+-- Binding definition: node kinds, the values of sources, and "Rate".
 use mathlib.Core.Bool.{cond}
 use mathlib.Core.List.{List}
 use Prim.Native.Nat.{ℕ, zero, suc, _+_, _-_}
@@ -17,7 +17,7 @@ clipped z = limited (negℤ (pos M)) (pos M) z
 
 -- "Node kinds, with a and b the values of A and B: 0 is a−b; 1 is floor(a×b / 65,536); both then clipped to ±M .. 2 is a limited to lo..hi
 -- .. 3 is hi if a ≥ b, else lo."
-unfoldable pub nodeOf : ℕ → ℤ → ℤ → ℤ → ℤ → ℤ
+unfoldable pub nodeOf : (kind : ℕ) (lo hi a b : ℤ) → ℤ
 nodeOf kind lo hi a b =
     cond (eqb kind 0) (clipped (a -ℤ b))
     (cond (eqb kind 1) (clipped (floored (a *ℤ b)))

@@ -1,4 +1,4 @@
--- A table of worked examples: each case is a value that the definitions compute and the value that it is to be.
+-- Worked examples, computed by the checker: a table of cases, each a value that the definitions compute and the value that it is to be.
 use mathlib.Core.Path.{_≡_}
 use mathlib.Core.List.{List, [], _∷_}
 

@@ -1,4 +1,4 @@
--- The file of a plan: "The writer writes the state's plan and returns the length".
+-- Binding definition: the file of a plan, "The writer writes the state's plan and returns the length".
 use mathlib.Core.List.{List, [], _∷_, _++_}
 use Prim.Native.Nat.{ℕ, zero, suc, _+_, _*_}
 use lib.IntN.{ℤ}
@@ -26,17 +26,14 @@ integratorEntry starts quanta i = wordOf (intAt starts i) ∷ wordOf (intAt quan
 abbrev pub inputEntry : List ℤ → ℕ → List ℕ
 inputEntry firsts j = wordOf (intAt firsts j) ∷ []
 
-abbrev pub nodeEntry : List ℕ → List ℕ → List ℕ → List ℤ → List ℤ → ℕ → List ℕ
+abbrev pub nodeEntry : (kinds a b : List ℕ) (lows highs : List ℤ) (j : ℕ) → List ℕ
 nodeEntry kinds a b lows highs j =
     natAt kinds j ∷ natAt a j ∷ natAt b j ∷ wordOf (intAt lows j) ∷ wordOf (intAt highs j) ∷ []
 
-abbrev pub tripleEntry : List ℕ → List ℕ → List ℤ → ℕ → List ℕ
+abbrev pub tripleEntry : (xs ys : List ℕ) (zs : List ℤ) (e : ℕ) → List ℕ
 tripleEntry xs ys zs e = natAt xs e ∷ natAt ys e ∷ wordOf (intAt zs e) ∷ []
 
 module _ (p : Plan) where
-  unfoldable pub lengthOf : ℕ → ℕ
-  lengthOf k = lengthFrom (counts p) k
-
   unfoldable pub offsetOf : ℕ → ℕ
   offsetOf k = offsetFrom (counts p) k
 

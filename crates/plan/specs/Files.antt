@@ -1,4 +1,5 @@
--- Files for worked examples: "A cup in full" as its bytes and as its plan, and files made of a horizon and the words of five sections.
+-- Worked examples, computed by the checker: "A cup in full" as its bytes and as its plan, and files made of a horizon and the words of five
+-- sections.
 use mathlib.Core.List.{List, [], _∷_, _++_}
 use Prim.Native.Nat.{ℕ, _+_, _*_}
 use lib.IntN.{pos, negsuc}
@@ -16,7 +17,7 @@ oneBehindTheOther [] = []
 oneBehindTheOther (s ∷ ss) = s ++ oneBehindTheOther ss
 
 -- the file of a horizon and the words of five sections
-abbrev pub fileOf : ℕ → List ℕ → List ℕ → List ℕ → List ℕ → List ℕ → List ℕ
+abbrev pub fileOf : (horizon : ℕ) (integrators inputs nodes links commands : List ℕ) → List ℕ
 fileOf horizon integrators inputs nodes links commands =
     let parts = integrators ∷ inputs ∷ nodes ∷ links ∷ commands ∷ [] in
     flat (horizon ∷ (pairsFrom 44 parts ++ oneBehindTheOther parts))

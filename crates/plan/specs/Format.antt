@@ -1,4 +1,5 @@
--- "Plan file": where each number stands, and the plan that a file holds. Nothing is tested here; what a file does not have reads as 0.
+-- Binding definition: where each number of a "Plan file" stands, and the plan that a file holds. Nothing is tested here; what a file does
+-- not have reads as 0.
 use mathlib.Core.Path.{_≡_}
 use mathlib.Core.List.{List, [], _∷_}
 use Prim.Native.Nat.{ℕ, zero, suc, _+_, _*_, _/_}
@@ -56,11 +57,11 @@ sectionIn file k = part file (offsetIn file k) (lengthIn file k)
 
 -- one column of a section as an array of `wide` entries: word number `column` of each of `count` entries of `size` bytes by a reading of words,
 -- and a zero in the unused entries
-unfoldable pub columnOf : {A : Type 0} → A → (List ℕ → ℕ → A) → ℕ → ℕ → ℕ → List ℕ → ℕ → List A
+unfoldable pub columnOf : {A : Type 0} (unused : A) (read : List ℕ → ℕ → A) (wide size count : ℕ) (section : List ℕ) (column : ℕ) → List A
 columnOf unused read wide size count section column = row unused wide count (λ i. read section (size * i + 4 * column))
 
 -- of section k of a file
-unfoldable pub columnIn : {A : Type 0} → A → (List ℕ → ℕ → A) → List ℕ → ℕ → ℕ → List A
+unfoldable pub columnIn : {A : Type 0} (unused : A) (read : List ℕ → ℕ → A) (file : List ℕ) (k column : ℕ) → List A
 columnIn unused read file k = columnOf unused read (natAt largestCounts k) (natAt entrySizes k) (countIn file k) (sectionIn file k)
 
 -- a number that is not signed, among the integers

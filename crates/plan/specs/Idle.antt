@@ -1,4 +1,4 @@
--- "idle is the start of one integrator (start 0, quantum 1), nothing else, horizon 1": its plan.
+-- Binding definition: "idle is the start of one integrator (start 0, quantum 1), nothing else, horizon 1", its plan.
 use mathlib.Core.List.{_∷_}
 use lib.IntN.{pos}
 use lib.ListN.{replicate}

@@ -1,4 +1,4 @@
--- Lists by index: what the definitions of the format and of the machine are made of. Assumes nothing.
+-- Binding definition: lists by index, what the definitions of the format and of the machine are made of.
 use mathlib.Core.Bool.{Bool, true, false, cond, _&&_, _||_}
 use mathlib.Core.List.{List, [], _∷_, _++_}
 use Prim.Native.Nat.{ℕ, zero, suc, _+_}
@@ -19,7 +19,7 @@ table zero f = []
 table (suc w) f = f zero ∷ table w (λ i. f (suc i))
 
 -- an array of w entries of which k are used: f 0, .., f (k - 1), and z in the unused ones
-unfoldable pub row {ℓ} : {A : Type ℓ} → A → ℕ → ℕ → (ℕ → A) → List A
+unfoldable pub row {ℓ} : {A : Type ℓ} (z : A) (w k : ℕ) (f : ℕ → A) → List A
 row z w k f = table w (λ i. cond (ltb i k) (f i) z)
 
 -- f 0, f 1, .., f (n - 1), one behind the other

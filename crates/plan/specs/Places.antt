@@ -1,4 +1,5 @@
--- "Plan file" word by word: where each number stands in a file, by literal places. The decoding is that of Format.antt.
+-- The same as a proposition: "Plan file" word by word, where each number stands in a file, by literal places. Format.antt has it as the
+-- plan that a file holds; Laws/Places shows that they agree.
 use mathlib.Core.Path.{_≡_}
 use mathlib.Core.List.{List, [], _∷_}
 use Prim.Native.Nat.{ℕ, _+_, _*_, _/_, _<_}

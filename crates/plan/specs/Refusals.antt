@@ -1,4 +1,5 @@
--- "When a call declines", 1 to 9: what a file is refused for, tried in order, with the lowest faulty entry; and the section view.
+-- Binding definition: "When a call declines", 1 to 9: what a file is refused for, tried in order, with the lowest faulty entry; and the
+-- section view.
 use mathlib.Core.Bool.{Bool, cond, _&&_}
 use mathlib.Core.List.{List, []}
 use Prim.Native.Nat.{ℕ, zero, suc, _+_}

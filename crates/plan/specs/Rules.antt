@@ -1,4 +1,5 @@
--- The rules of "Plan file" as propositions, in document 01's words, and the list of them by refusal number.
+-- The same as a proposition: the rules of "Plan file", which Tests.antt has as tests, in document 01's words, and the list of them by
+-- refusal number. Laws/KeptFile and Laws/Kept show that each test means its rule.
 use mathlib.Core.Path.{_≡_}
 use mathlib.Core.Logic.{_⊎_}
 use mathlib.Core.List.{List, [], _∷_}

@@ -1,5 +1,5 @@
--- The rules of "Plan file" as tests: of the file's directory, of the counts, and of each entry of a plan. The limits of an entry and its
--- order are two tests. Rules.antt has the same rules as propositions.
+-- Binding definition: the rules of "Plan file" as tests, of the file's directory, of the counts, and of each entry of a plan. The limits of
+-- an entry and its order are two tests. Rules.antt has the same rules as propositions.
 use mathlib.Core.Bool.{Bool, not, cond, _&&_, _||_}
 use mathlib.Core.List.{List, [], _∷_}
 use Prim.Native.Nat.{ℕ, _+_, _-_, _%_}
@@ -41,23 +41,23 @@ integratorTest start quantum = within M start && leZ (pos 1) quantum && leZ quan
 
 -- The rule of a node's kind. A node's own source number is `own`, so "integrators, inputs or lower-numbered nodes" are the sources below it.
 -- Kinds 0 and 1: "with lo and hi 0". Kind 2: "lo ≤ hi, B is 0 and names nothing". Kinds 2 and 3: "lo and hi lie within ±M".
-unfoldable pub kindKept : ℕ → ℕ → ℕ → ℕ → ℤ → ℤ → Bool
+unfoldable pub kindKept : (own kind a b : ℕ) (lo hi : ℤ) → Bool
 kindKept own kind a b lo hi =
     ltb a own &&
     cond (leb kind 1) (ltb b own && eqb ∣ lo ∣ 0 && eqb ∣ hi ∣ 0)
     (within M lo && within M hi && cond (eqb kind 2) (eqb b 0 && leZ lo hi) (eqb kind 3 && ltb b own))
 
 -- "target integrator, source, signed coefficient, not 0, within ±16,777,216", with n integrators and `all` sources
-abbrev pub linkTest : ℕ → ℕ → ℕ → ℕ → ℤ → Bool
+abbrev pub linkTest : (n all target source : ℕ) (coefficient : ℤ) → Bool
 linkTest n all target source coefficient =
     ltb target n && ltb source all && not (eqb ∣ coefficient ∣ 0) && within 16777216 coefficient
 
 -- "tick 1 to horizon, input number below m, signed value within ±M"
-abbrev pub commandTest : ℕ → ℕ → ℕ → ℕ → ℤ → Bool
+abbrev pub commandTest : (horizon m tick number : ℕ) (value : ℤ) → Bool
 commandTest horizon m tick number value = leb 1 tick && leb tick horizon && ltb number m && within M value
 
 -- (a, b) stands before (c, d): by the first, then by the second
-unfoldable pub ascends : ℕ → ℕ → ℕ → ℕ → Bool
+unfoldable pub ascends : (a b c d : ℕ) → Bool
 ascends a b c d = ltb a c || (eqb a c && ltb b d)
 
 -- "Strictly ascending by" xs, "then" ys: entry e stands above its predecessor, if it has one

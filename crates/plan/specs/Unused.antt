@@ -1,4 +1,5 @@
--- "unused entries are 0": of an array those from its count on, as propositions and as tests.
+-- Binding definition: "unused entries are 0", of an array those from its count on; as tests, and the same as propositions. Laws/Entries
+-- shows that the tests mean these.
 use mathlib.Core.Path.{_≡_}
 use mathlib.Core.Bool.{Bool, _&&_}
 use mathlib.Core.List.{List}

@@ -6,21 +6,22 @@ use native.Mathlib.Omega.{arith}
 use lib.IntN.{ℤ}
 use lib.ListN.{length, getD, drop}
 use borrow.Author.Tests.{le-leb, lt-leb}
-use Rattle.integers.specs.Parts.{zs}
-use Rattle.words.specs.Word.{written}
-use Rattle.words.specs.Flat.{length-flat}
+use Rattle.integers.specs.Laws.Parts.{zs}
+use Rattle.words.specs.Putting.{written}
+use Rattle.words.specs.Laws.Flat.{length-flat}
 use Rattle.plan.specs.Lists.{natAt, intAt, joined}
 use Rattle.plan.specs.Format.{M, sections, headerLength}
 use Rattle.plan.specs.Tests.{counts}
 use Rattle.plan.specs.Rules.{Within, PlanRules}
-use Rattle.plan.specs.Encoding.{lengthFrom, offsetFrom, pairEntry, lengthOf, offsetOf, fileLength, headerWords, integratorWords}
+use Rattle.plan.specs.Encoding.{lengthFrom, offsetFrom, pairEntry, offsetOf, fileLength, headerWords, integratorWords}
+use Rattle.plan.specs.Laws.Layout.{lengthOf}
 use Rattle.plan.specs.Encoding.{inputWords, nodeWords, linkWords, commandWords, fileWords, encode}
 use Rattle.plan.specs.Laws.Layout.{entryWords, sectionWords, wordsTo, words-to, length-to, length-section, offset-most}
 use Rattle.plan.specs.Laws.Small.{signed-size, coefficient-within, quantum-within, node-limits, small-at, entry-small}
 use Rattle.plan.specs.declared.Plan.{Plan}
 use Rattle.sectionwriters.specs.Entries.{Unsigned32, Signed32}
 use Rattle.planwriter.specs.Plans.{writtenLength, writtenBuffer}
-use Rattle.words.specs.Putting.{behind, back, length-behind}
+use Rattle.words.specs.Laws.Putting.{behind, back, length-behind}
 use Rattle.sectionwriters.specs.Writing.{Begun, begun-of, turn}
 
 -- ---- the numbers

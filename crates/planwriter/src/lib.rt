@@ -3,7 +3,7 @@ ghost use mathlib.Core.Path.{_≡_};
 ghost use mathlib.Core.List.{[], _∷_};
 ghost use Prim.Native.Nat.{_*_, _<_, _≤_, _^_};
 ghost use lib.ListN.{length};
-ghost use Rattle.words.specs.Word.{written};
+ghost use Rattle.words.specs.Putting.{written};
 ghost use Rattle.plan.specs.Lists.{joined};
 ghost use Rattle.plan.specs.Format.{sections, headerLength};
 ghost use Rattle.plan.specs.Rules.{PlanRules};

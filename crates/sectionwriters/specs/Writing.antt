@@ -8,10 +8,10 @@ use native.Mathlib.Omega.{arith}
 use lib.IntN.{ℤ}
 use lib.Signed.{mag}
 use lib.ListN.{length, length-append}
-use Rattle.integers.specs.Signed64.{rd}
-use Rattle.words.specs.Word.{written}
-use Rattle.words.specs.Flat.{written-none, written-part, length-written}
-use Rattle.words.specs.Putting.{rd32, behind, back}
+use Rattle.integers.specs.Laws.Signed64.{rd}
+use Rattle.words.specs.Putting.{written}
+use Rattle.words.specs.Laws.Flat.{written-none, written-part, length-written}
+use Rattle.words.specs.Laws.Putting.{rd32, behind, back}
 use Rattle.plan.specs.Lists.{intAt, joined}
 use Rattle.plan.specs.Laws.Joined.{length-joined}
 use Rattle.sectionwriters.specs.Entries.{Signed32}

@@ -1,9 +1,10 @@
--- Numbers worked out by hand, and what the definitions say of them.
+-- Worked examples, computed by the checker: numbers worked out by hand, and what the definitions say of them.
 use Prim.Native.Nat.{_-_, _^_}
 use mathlib.Core.Path.{_≡_, refl}
 use mathlib.Core.List.{[], _∷_}
 use lib.IntN.{pos, negsuc, negℤ}
-use Rattle.words.specs.Word.{numberAt, bytesOf, put, signedOf, unsignedOf, word, signedWord, wordOf, flat, written}
+use Rattle.words.specs.Word.{numberAt, bytesOf, signedOf, unsignedOf, word, signedWord, wordOf, flat}
+use Rattle.words.specs.Putting.{put, written}
 
 -- the lowest byte comes first
 one : word (1 ∷ 0 ∷ 0 ∷ 0 ∷ []) 0 ≡ 1

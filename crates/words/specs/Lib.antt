@@ -1,7 +1,5 @@
+-- Numbers of 32 bits in lists of bytes. Definitions, worked examples, and what is proved of these.
 pub mod Word
-pub mod Examples
-pub mod Reading
-pub mod Writing
-pub mod Flat
-pub mod Signs
 pub mod Putting
+pub mod Examples
+pub mod Laws

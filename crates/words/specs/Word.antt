@@ -1,8 +1,9 @@
--- Numbers in a list of bytes: little-endian, signed ones in two's complement. The width w is a number of bytes; files and events use 4.
+-- Binding definition: numbers in a list of bytes, little-endian, signed ones in two's complement. The width w is a number of bytes; files and
+-- events use 4.
 use Prim.Native.Nat.{ℕ, zero, suc, _+_, _-_, _*_, _/_, _%_, _^_, _<_}
 use mathlib.Core.List.{List, [], _∷_, _++_}
 use mathlib.Core.Bool.{cond}
-use lib.ListN.{length, getD, take, drop}
+use lib.ListN.{getD}
 use lib.Dec.{ltb}
 use lib.IntN.{ℤ, pos, negsuc, subℕ}
 
@@ -19,10 +20,6 @@ numberAt (suc w) s at = getD s at 0 + 256 * numberAt w s (suc at)
 unfoldable pub bytesOf : ℕ → ℕ → List ℕ
 bytesOf zero v = []
 bytesOf (suc w) v = v % 256 ∷ bytesOf w (v / 256)
-
--- s with the w bytes from byte `at` replaced by those of v, all others kept
-unfoldable pub put : ℕ → List ℕ → ℕ → ℕ → List ℕ
-put w s at v = take at s ++ (bytesOf w v ++ drop (at + w) s)
 
 -- what w bytes of value v stand for in two's complement: v if its highest bit is 0, else v less 2 to the number of bits
 unfoldable pub signedOf : ℕ → ℕ → ℤ
@@ -47,7 +44,3 @@ wordOf z = unsignedOf 4 z
 unfoldable pub flat : List ℕ → List ℕ
 flat [] = []
 flat (v ∷ vs) = bytesOf 4 v ++ flat vs
-
--- a list whose first bytes are replaced by those of 32-bit words
-unfoldable pub written : List ℕ → List ℕ → List ℕ
-written ws old = flat ws ++ drop (4 * length ws) old

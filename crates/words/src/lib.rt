@@ -5,7 +5,8 @@ ghost use mathlib.Core.List.{[], _∷_};
 ghost use Prim.Native.Nat.{_+_, _^_, _≤_, _<_};
 ghost use lib.ListN.{length};
 ghost use lib.Signed.{mag};
-ghost use Rattle.words.specs.Word.{word, signedWord, signedOf, wordOf, put, written};
+ghost use Rattle.words.specs.Word.{word, signedWord, signedOf, wordOf};
+ghost use Rattle.words.specs.Putting.{put, written};
 
 // A byte, wide enough to be added up.
 fn wide(x: u8) -> u64

@@ -4,7 +4,7 @@ use mathlib.Core.Path.{ap, sym, _∙_}
 use Prim.Native.Nat.{_-_}
 use native.Mathlib.Omega.{arith}
 use lib.Pow.{pow-pos, pow-mono}
-use Rattle.bitset.specs.Bits.{one-shl, allOf-is}
+use Rattle.bitset.specs.Laws.Bits.{one-shl, allOf-is}
 use Rattle.bitset.proofs.all.Statement.{statement}
 use Rattle.bitset.proofs.all.Tie as tie
 

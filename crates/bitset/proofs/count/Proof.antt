@@ -2,7 +2,7 @@
 use native.Mathlib.Nat.{lt-of-le-of-lt}
 use native.Mathlib.Omega.{arith}
 use lib.Count.{ones-le}
-use Rattle.bitset.specs.Counts.{ones-count}
+use Rattle.bitset.specs.Laws.Counts.{ones-count}
 use Rattle.bitset.proofs.count.Statement.{statement}
 use Rattle.bitset.proofs.count.Tie as tie
 

@@ -8,7 +8,7 @@ use native.Mathlib.Omega.{arith}
 use lib.Dec.{eqb}
 use lib.ListN.{getD}
 use Rattle.bitset.specs.Mask.{maskOf, withBit}
-use Rattle.bitset.specs.Bits.{maskOf-in, maskOf-out}
+use Rattle.bitset.specs.Laws.Bits.{maskOf-in, maskOf-out}
 use Rattle.bitset.proofs.equal_to.Statement.{statement}
 use Rattle.bitset.proofs.equal_to.Tie as tie
 

@@ -2,7 +2,7 @@
 use borrow.Author.Needs.{needs}
 use mathlib.Core.Path.{ap}
 use Rattle.bitset.specs.Mask.{union, withBit}
-use Rattle.bitset.specs.Bits.{one-shl}
+use Rattle.bitset.specs.Laws.Bits.{one-shl}
 use Rattle.bitset.proofs.with.Statement.{statement}
 use Rattle.bitset.proofs.with.Tie as tie
 

@@ -1,4 +1,4 @@
--- The promises about files: loading, the places of the numbers, the section view, and round trips. Statements; the proofs stand in Proofs.
+-- Promise: of files, loading, the places of the numbers, the section view, and round trips. Statements; the proofs stand in Proofs.
 use mathlib.Core.Path.{_≡_}
 use mathlib.Core.Logic.{_⊎_}
 use mathlib.Core.List.{List, [], _++_}

@@ -1,4 +1,4 @@
--- The promise of the limits: the records of Limits.antt hold. A statement; the proof stands in Proofs.
+-- Promise: the limits, that the records of Limits.antt hold. A statement; the proof stands in Proofs.
 use mathlib.Core.Path.{_≡_}
 use mathlib.Core.List.{List}
 use Prim.Native.Nat.{ℕ, _≤_, _<_}

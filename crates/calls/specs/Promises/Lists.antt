@@ -1,12 +1,12 @@
--- Demand 3, "a single claim about the list": for every accepted file and every list of run calls, lazy and eager in any mix, declined ones
--- included, the outcome is that of the plain machine for the sum of the accepted budgets, and the update count is exact. A statement; the proof
--- stands in Proofs.
+-- Promise: demand 3, "a single claim about the list": for every accepted file and every list of run calls, lazy and eager in any mix,
+-- declined ones included, the outcome is that of the plain machine for the sum of the accepted budgets, and the update count is exact. A
+-- statement; the proof stands in Proofs.
 use mathlib.Core.Path.{_≡_}
 use mathlib.Core.List.{List, _∷_, _++_}
 use Prim.Native.Nat.{ℕ, _+_, _-_, _*_, _≤_, _<_}
 use lib.IntN.{pos}
 use lib.ListN.{length, drop}
-use Rattle.bitset.specs.Mask.{countOf}
+use Rattle.bitset.specs.Counts.{countOf}
 use Rattle.plan.specs.Lists.{intAt}
 use Rattle.plan.specs.Format.{planIn}
 use Rattle.plan.specs.declared.Plan.{Plan}

@@ -1,5 +1,5 @@
--- The promises about the machine, in document 01's order and words: its definitions do what the sentences say. Statements; the proofs stand in
--- Proofs.
+-- Promise: of the machine, in document 01's order and words, that its definitions do what the sentences say. Statements; the proofs stand
+-- in Proofs.
 use mathlib.Core.Path.{_≡_}
 use mathlib.Core.Bool.{true}
 use mathlib.Core.Logic.{_⊎_}
@@ -11,7 +11,7 @@ use lib.ListN.{length}
 use Rattle.integers.specs.Parts.{up, ∣_∣}
 use Rattle.integers.specs.Division.{floored, Ceil}
 use Rattle.integers.specs.Range.{limited}
-use Rattle.bitset.specs.Mask.{countOf}
+use Rattle.bitset.specs.Counts.{countOf}
 use Rattle.words.specs.Word.{word, signedWord}
 use Rattle.plan.specs.Lists.{natAt, intAt}
 use Rattle.plan.specs.Format.{M}

@@ -1,4 +1,4 @@
--- The promises about the numbers that all others speak in: words, signs, M, never, division, limits, counts. Statements; the proofs stand in
+-- Promise: of the numbers that all others speak in, words, signs, M, never, division, limits, counts. Statements; the proofs stand in
 -- Proofs.
 use mathlib.Core.Path.{_≡_}
 use mathlib.Core.Bool.{Bool, true, false}
@@ -8,7 +8,7 @@ use lib.IntN.{ℤ, pos, _+ℤ_, _-ℤ_, _*ℤ_}
 use lib.Signed.{_≤ℤ_, _<ℤ_}
 use Rattle.integers.specs.Division.{floored}
 use Rattle.integers.specs.Range.{limited}
-use Rattle.bitset.specs.Mask.{countOf}
+use Rattle.bitset.specs.Counts.{countOf}
 use Rattle.words.specs.Word.{word, signedWord}
 use Rattle.plan.specs.Lists.{natAt}
 use Rattle.plan.specs.Format.{M}

@@ -1,5 +1,5 @@
--- Demand 3 of the answers that a program has: of what `load` answered for a file that it accepted, of any run calls made from there on, and of position calls
--- behind them, of all of which the contracts hold. A statement; the proof stands in Proofs.
+-- Promise: demand 3 of the answers that a program has: of what `load` answered for a file that it accepted, of any run calls made from
+-- there on, and of position calls behind them, of all of which the contracts hold. A statement; the proof stands in Proofs.
 use mathlib.Core.Path.{_≡_}
 use mathlib.Core.List.{List, _∷_, _++_}
 use Prim.Native.Nat.{ℕ, _+_, _*_, _≤_, _<_}

@@ -1,4 +1,4 @@
--- The promises about sound states: "Loading and runs leave sound states." Statements; the proofs stand in Proofs.
+-- Promise: of sound states, "Loading and runs leave sound states." Statements; the proofs stand in Proofs.
 use mathlib.Core.Path.{_≡_}
 use mathlib.Core.Bool.{true}
 use mathlib.Core.List.{List}

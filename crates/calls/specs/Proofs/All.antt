@@ -1,4 +1,4 @@
--- Every promise holds. Assumes nothing.
+-- Proof: every promise holds. Assumes nothing.
 use Rattle.calls.specs.Promises.{EveryPromise}
 use Rattle.calls.specs.Proofs.Numbers.{numbers-mean}
 use Rattle.calls.specs.Proofs.Machine.{command-means, next-means, status-means, reach-means, frame, due-least, due-between}

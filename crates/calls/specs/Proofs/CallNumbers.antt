@@ -1,4 +1,5 @@
--- The number of a call that takes a state: what 0 says of the state and the arguments, and which number is given where. Assumes nothing.
+-- Proof: the number of a call that takes a state: what 0 says of the state and the arguments, and which number is given where. Assumes
+-- nothing.
 use mathlib.Core.Path.{_≡_, refl}
 use mathlib.Core.Bool.{Bool, true, false, cond}
 use Prim.Native.Nat.{ℕ, _≤_, _<_}

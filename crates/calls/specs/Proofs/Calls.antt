@@ -1,4 +1,5 @@
--- The promises about every call that takes a state: its number, what it answers and writes, and what a declined call leaves. Assumes nothing.
+-- Proof: the promises about every call that takes a state: its number, what it answers and writes, and what a declined call leaves. Assumes
+-- nothing.
 use mathlib.Core.Path.{_≡_, refl}
 use mathlib.Core.Bool.{cond}
 use mathlib.Core.List.{List}
@@ -10,8 +11,8 @@ use lib.ListN.{length, length-append, length-drop}
 use borrow.Author.Tests.{eq-eqb, ne-eqb, le-leb, lt-leb, lt-ltb, le-ltb}
 use Rattle.plan.specs.Encoding.{fileWords, encode}
 use Rattle.words.specs.Word.{Bytes}
-use Rattle.words.specs.Flat.{bytes-flat}
-use Rattle.words.specs.Reading.{bytes-append, bytes-drop}
+use Rattle.words.specs.Laws.Flat.{bytes-flat}
+use Rattle.words.specs.Laws.Reading.{bytes-append, bytes-drop}
 use Rattle.plan.specs.Laws.Layout.{length-encode}
 use Rattle.machine.specs.Instant.{positionAt}
 use Rattle.machine.specs.Runs.{positionOf}

@@ -1,5 +1,5 @@
--- A list of run calls cut behind an instant, the rest of it, the engine of an instant, and lists made by one engine: each by the list of
--- engines of its instants. Assumes nothing.
+-- Proof: a list of run calls cut behind an instant, the rest of it, the engine of an instant, and lists made by one engine: each by the
+-- list of engines of its instants. Assumes nothing.
 use mathlib.Core.Path.{_≡_, refl, sym, ap, _∙_}
 use mathlib.Core.Bool.{Bool, true, false}
 use mathlib.Core.List.{List, [], _∷_, _++_, append-nil}

@@ -1,4 +1,4 @@
--- Demand 3 whole. Assumes nothing.
+-- Proof: demand 3 whole. Assumes nothing.
 use mathlib.Core.Path.{_≡_, sym, ap, _∙_}
 use mathlib.Core.List.{List}
 use Prim.Native.Nat.{ℕ, zero, suc, _+_, _-_, _≤_, _<_}

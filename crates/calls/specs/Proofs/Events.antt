@@ -1,11 +1,11 @@
--- The events of an instant read back: tick, source and signed value of each, behind those of the lower sources. Assumes nothing.
+-- Proof: the events of an instant read back: tick, source and signed value of each, behind those of the lower sources. Assumes nothing.
 use mathlib.Core.Path.{_≡_, refl, _∙_}
 use mathlib.Core.List.{List}
 use Prim.Native.Nat.{ℕ, _+_, _*_, _≤_, _<_}
 use native.Mathlib.Omega.{arith}
 use lib.IntN.{ℤ}
 use Rattle.integers.specs.Parts.{∣_∣}
-use Rattle.bitset.specs.Mask.{countOf}
+use Rattle.bitset.specs.Counts.{countOf}
 use Rattle.plan.specs.Format.{M}
 use Rattle.plan.specs.Lists.{natAt, intAt}
 use Rattle.plan.specs.Laws.Counts.{Counts, counts-of}

@@ -1,4 +1,5 @@
--- Every file is loaded, or refused by number and entry; the section view; a loaded plan is one that a struct can hold. Assumes nothing.
+-- Proof: every file is loaded, or refused by number and entry; the section view; a loaded plan is one that a struct can hold. Assumes
+-- nothing.
 use mathlib.Core.Path.{_≡_, refl}
 use mathlib.Core.Bool.{Bool, true, false, cond}
 use mathlib.Core.List.{List}

@@ -1,10 +1,10 @@
--- What the accepted budgets of a list add up to, the call that an instant belongs to, and how updates grow. Assumes nothing.
+-- Proof: what the accepted budgets of a list add up to, the call that an instant belongs to, and how updates grow. Assumes nothing.
 use mathlib.Core.Path.{_≡_, refl, subst}
 use Prim.Native.Nat.{ℕ, suc, _+_, _-_}
 use native.Mathlib.Nat.{zero-add}
 use native.Mathlib.Omega.{arith}
 use borrow.Author.Tests.{eq-eqb, ne-eqb, le-leb, lt-leb}
-use Rattle.bitset.specs.Mask.{countOf}
+use Rattle.bitset.specs.Counts.{countOf}
 use Rattle.plan.specs.declared.Plan.{Plan}
 use Rattle.machine.specs.Instant.{moves}
 use Rattle.machine.specs.Plain.{plainTick, plainAfter, lazyCount}

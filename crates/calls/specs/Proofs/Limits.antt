@@ -1,4 +1,4 @@
--- The limits of docs/LIMITS.md: of files, of states and of what the calls answer. Assumes nothing.
+-- Proof: the limits of docs/LIMITS.md: of files, of states and of what the calls answer. Assumes nothing.
 use mathlib.Core.Path.{_≡_}
 use mathlib.Core.List.{List}
 use Prim.Native.Nat.{ℕ, _^_, _<_}

@@ -1,4 +1,4 @@
--- What a run call of a list answers in itself, from a sound state. Assumes nothing.
+-- Proof: what a run call of a list answers in itself, from a sound state. Assumes nothing.
 use mathlib.Core.Path.{_≡_, refl}
 use mathlib.Core.Bool.{Bool, true, false, cond}
 use mathlib.Core.List.{List}

@@ -1,4 +1,4 @@
--- The promises about the machine's rules: next instant, status, reach and due ticks. Assumes nothing.
+-- Proof: the promises about the machine's rules: next instant, status, reach and due ticks. Assumes nothing.
 use mathlib.Core.Path.{_≡_}
 use mathlib.Core.List.{List}
 use Prim.Native.Nat.{ℕ, _-_}

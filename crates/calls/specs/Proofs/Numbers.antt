@@ -1,13 +1,13 @@
--- The promises about the numbers that all others speak in. Assumes nothing.
+-- Proof: the promises about the numbers that all others speak in. Assumes nothing.
 use mathlib.Core.Path.{_≡_, refl}
 use Prim.Native.Nat.{suc, _+_}
 use native.Mathlib.Omega.{arith}
-use Rattle.integers.specs.Division.{floor-law}
-use Rattle.integers.specs.Range.{limited-same, limited-low, limited-high}
-use Rattle.bitset.specs.Mask.{countOf}
+use Rattle.integers.specs.Laws.Division.{floor-law}
+use Rattle.integers.specs.Laws.Range.{limited-same, limited-low, limited-high}
+use Rattle.bitset.specs.Counts.{countOf}
 use Rattle.words.specs.Word.{word}
-use Rattle.words.specs.Reading.{word-bytes}
-use Rattle.words.specs.Signs.{signed-low, signed-high}
+use Rattle.words.specs.Laws.Reading.{word-bytes}
+use Rattle.words.specs.Laws.Signs.{signed-low, signed-high}
 use Rattle.calls.specs.Promises.Numbers.{NumbersMean}
 
 pub numbers-mean : NumbersMean

@@ -1,4 +1,4 @@
--- Where each number of a file stands. Assumes nothing.
+-- Proof: where each number of a file stands. Assumes nothing.
 use mathlib.Core.Logic.{inl, inr}
 use native.Mathlib.Omega.{arith}
 use Rattle.plan.specs.Laws.Answers.{accepted-sizes}

@@ -1,4 +1,5 @@
--- A state which agrees with the plain machine is the same as it in everything that is compared, and two such states are alike. Assumes nothing.
+-- Proof: a state which agrees with the plain machine is the same as it in everything that is compared, and two such states are alike.
+-- Assumes nothing.
 use mathlib.Core.Path.{_≡_, refl, sym, _∙_}
 use mathlib.Core.Bool.{Bool, true, false, cond}
 use mathlib.Core.List.{List}

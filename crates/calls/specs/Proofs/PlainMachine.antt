@@ -1,4 +1,5 @@
--- The promises about the plain machine: its start, its instants, what is read from it, and how many instants it takes. Assumes nothing.
+-- Proof: the promises about the plain machine: its start, its instants, what is read from it, and how many instants it takes. Assumes
+-- nothing.
 use mathlib.Core.Path.{refl}
 use Rattle.plan.specs.Laws.Counts.{counts-of}
 use Rattle.machine.specs.Plain.{settled, plainStart, plainTick, plainPosition, plainOutputs, plainInstant, plainEventsOf}

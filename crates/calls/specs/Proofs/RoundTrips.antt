@@ -1,4 +1,4 @@
--- A loaded file is written back byte for byte, and a written plan is loaded back as its start. Assumes nothing.
+-- Proof: a loaded file is written back byte for byte, and a written plan is loaded back as its start. Assumes nothing.
 use mathlib.Core.Path.{_≡_, ap, _∙_}
 use mathlib.Core.List.{List}
 use Prim.Native.Nat.{ℕ, _≤_}

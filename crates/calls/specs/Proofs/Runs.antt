@@ -1,4 +1,4 @@
--- Runs leave sound states, and an accepted run that is paused has moved the clock on. Assumes nothing.
+-- Proof: runs leave sound states, and an accepted run that is paused has moved the clock on. Assumes nothing.
 use mathlib.Core.Path.{_≡_, sym, _∙_}
 use Prim.Native.Nat.{ℕ, zero, suc, _≤_, _<_}
 use native.Mathlib.Omega.{arith}

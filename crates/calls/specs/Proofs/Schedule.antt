@@ -1,4 +1,4 @@
--- A list of run calls from a sound state, instant by instant: which engine takes each. The calls answer what the run by that list of
+-- Proof: a list of run calls from a sound state, instant by instant: which engine takes each. The calls answer what the run by that list of
 -- engines gives. Assumes nothing.
 use mathlib.Core.Path.{_≡_, refl, ap, _∙_}
 use mathlib.Core.Bool.{Bool, true, false, cond}

@@ -1,4 +1,4 @@
--- The answers of calls that keep their contracts are those of the list. Assumes nothing.
+-- Proof: the answers of calls that keep their contracts are those of the list. Assumes nothing.
 use mathlib.Core.Path.{_≡_, refl, sym, ap, _∙_}
 use mathlib.Core.List.{List, [], _∷_, _++_}
 use Rattle.plan.specs.Format.{planIn}

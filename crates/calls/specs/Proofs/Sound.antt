@@ -1,8 +1,10 @@
--- The test that the calls try is the clauses of a sound state; loaded states are sound; the idle state, with its file; the next command. Assumes nothing.
+-- Proof: the test that the calls try is the clauses of a sound state; loaded states are sound; the idle state, with its file; the next
+-- command. Assumes nothing.
 use mathlib.Core.Path.{refl, sym, _∙_}
 use Rattle.plan.specs.Format.{planIn}
 use Rattle.plan.specs.Tests.{counts}
-use Rattle.plan.specs.Encoding.{offsetFrom, lengthOf, offsetOf, fileLength}
+use Rattle.plan.specs.Encoding.{offsetFrom, offsetOf, fileLength}
+use Rattle.plan.specs.Laws.Layout.{lengthOf}
 use Rattle.plan.specs.Idle.{idlePlan}
 use Rattle.plan.specs.Laws.Answers.{accepted-rules}
 use Rattle.plan.specs.Laws.Entries.{file-unused}

@@ -1,4 +1,4 @@
--- The limits of rates, of levels and of sound states. Assumes nothing.
+-- Proof: the limits of rates, of levels and of sound states. Assumes nothing.
 use mathlib.Core.List.{List}
 use Prim.Native.Nat.{ℕ, _+_, _*_, _≤_, _<_}
 use native.Mathlib.Nat.{mul-le-mul}

@@ -1,4 +1,4 @@
--- The promises about values, Start, the steps of one instant, and runs. Assumes nothing.
+-- Proof: the promises about values, Start, the steps of one instant, and runs. Assumes nothing.
 use mathlib.Core.Path.{refl, sym, _∙_}
 use Rattle.plan.specs.Laws.Counts.{counts-of}
 use Rattle.machine.specs.Start.{startOf, startState}

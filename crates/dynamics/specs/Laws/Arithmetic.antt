@@ -8,9 +8,11 @@ use lib.Signed.{ltZ, nonNeg}
 use lib.Dec.{T}
 use mir.Syntax.{w64}
 use mir.Val.{SFits, Fits}
-use Rattle.integers.specs.Parts.{up, ∣_∣, sum, dif, abs, tight, zs}
-use Rattle.integers.specs.Division.{ceilDiv, ceil-one, ceil-most}
-use Rattle.integers.specs.Signed64.{as-u64}
+use Rattle.integers.specs.Parts.{up, ∣_∣}
+use Rattle.integers.specs.Laws.Parts.{sum, dif, abs, tight, zs}
+use Rattle.integers.specs.Division.{ceilDiv}
+use Rattle.integers.specs.Laws.Division.{ceil-one, ceil-most}
+use Rattle.integers.specs.Laws.Signed64.{as-u64}
 use Rattle.machine.specs.Due.{never, distance, ticksTo, dueTick}
 use Rattle.machine.specs.Laws.Due.{due-still, due-moving}
 use Rattle.dynamics.specs.Ticks.{tickAt, TicksReady, DueReady, PositionReady}

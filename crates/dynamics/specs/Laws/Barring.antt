@@ -10,11 +10,12 @@ use lib.Signed.{ltZ}
 use lib.Dec.{eqb, ltb}
 use lib.Pow.{pow-mono}
 use borrow.Author.Tests.{eqb-true, ltb-true, ltb-false}
-use Rattle.integers.specs.Parts.{neg, tight, zs}
-use Rattle.integers.specs.Range.{within, within-true, within-false}
+use Rattle.integers.specs.Laws.Parts.{neg, tight, zs}
+use Rattle.integers.specs.Range.{within}
+use Rattle.integers.specs.Laws.Range.{within-true, within-false}
 use Rattle.bitset.specs.Mask.{has, lowestOf, restOf}
-use Rattle.bitset.specs.Bits.{has-none, has-high}
-use Rattle.bitset.specs.Visiting.{has-lowest, below-lowest, has-rest}
+use Rattle.bitset.specs.Laws.Bits.{has-none, has-high}
+use Rattle.bitset.specs.Laws.Visiting.{has-lowest, below-lowest, has-rest}
 use Rattle.plan.specs.Format.{M}
 use Rattle.plan.specs.Lists.{natAt, intAt, firstFrom}
 use Rattle.plan.specs.Laws.Searches.{first-unique, first-ext}

@@ -6,7 +6,7 @@ use native.Mathlib.Omega.{arith}
 use lib.Dec.{ltb, eqb}
 use borrow.Author.Tests.{ltb-true, ltb-false, eqb-true}
 use Rattle.bitset.specs.Mask.{has, maskOf}
-use Rattle.bitset.specs.Bits.{has-high, has-maskOf, maskOf-lt}
+use Rattle.bitset.specs.Laws.Bits.{has-high, has-maskOf, maskOf-lt}
 use Rattle.plan.specs.Lists.{natAt, intAt, firstFrom}
 use Rattle.plan.specs.Laws.Searches.{first-ext}
 use Rattle.plan.specs.declared.Plan.{Plan}

@@ -12,9 +12,10 @@ use borrow.Author.Tests.{ltb-true, ltb-false}
 use mir.Syntax.{w64}
 use mir.Val.{Fits}
 use Rattle.integers.specs.Parts.{∣_∣}
-use Rattle.bitset.specs.Mask.{has, maskOf, countOf, each, joinedOf}
-use Rattle.bitset.specs.Bits.{maskOf-lt, maskOf-or}
-use Rattle.bitset.specs.Counts.{countOf-mask, countOf-le}
+use Rattle.bitset.specs.Mask.{has, maskOf, each, joinedOf}
+use Rattle.bitset.specs.Counts.{countOf}
+use Rattle.bitset.specs.Laws.Bits.{maskOf-lt, maskOf-or}
+use Rattle.bitset.specs.Laws.Counts.{countOf-mask, countOf-le}
 use Rattle.plan.specs.Format.{M}
 use Rattle.plan.specs.Lists.{intAt}
 use Rattle.plan.specs.Rules.{PlanRules}

@@ -4,7 +4,7 @@ use mathlib.Core.Path.{sym}
 use mir.Facts.{fits-le}
 use native.Mathlib.Omega.{arith}
 use native.Mathlib.Nat.{le-refl, add-le-add, div-le-self}
-use Rattle.integers.specs.Division.{ceil-zero, ceil-less-one}
+use Rattle.integers.specs.Laws.Division.{ceil-zero, ceil-less-one}
 use Rattle.integers.proofs.divide_up.Statement.{statement}
 use Rattle.integers.proofs.divide_up.Tie as tie
 

@@ -1,6 +1,6 @@
 -- `integers::floor_65536` meets its contract: the shift is the definition, and its result fits. Assumes nothing.
 use mir.Facts.{toZ-ofZ}
-use Rattle.integers.specs.Division.{floor-fits}
+use Rattle.integers.specs.Laws.Division.{floor-fits}
 use Rattle.integers.proofs.floor_65536.Statement.{statement}
 use Rattle.integers.proofs.floor_65536.Tie as tie
 

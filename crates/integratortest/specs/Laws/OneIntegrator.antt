@@ -13,8 +13,9 @@ use mir.Syntax.{w64}
 use mir.Val.{SFits, ofZ}
 use mir.Facts.{toZ-ofZ}
 use borrow.Author.Tests.{leb-true}
-use Rattle.integers.specs.Parts.{∣_∣, sum, dif, tight, zs}
-use Rattle.integers.specs.Signed64.{rd, same-bits}
+use Rattle.integers.specs.Parts.{∣_∣}
+use Rattle.integers.specs.Laws.Parts.{sum, dif, tight, zs}
+use Rattle.integers.specs.Laws.Signed64.{rd, same-bits}
 use Rattle.plan.specs.Lists.{every}
 use Rattle.plan.specs.Laws.Means.{Means, zero-means, means-false}
 use Rattle.machine.specs.Due.{dueTick}

@@ -10,7 +10,7 @@ use Rattle.machine.specs.Status.{statusOf}
 use Rattle.machine.specs.Sound.{Sound}
 use Rattle.machine.specs.declared.State.{State}
 use Rattle.machine.specs.declared.Engine.the-variants.{Lazy}
-use Rattle.words.specs.Putting.{behind, back, length-behind}
+use Rattle.words.specs.Laws.Putting.{behind, back, length-behind}
 use Rattle.text.specs.Lines.{linesOf, endLine, refusalLine}
 use Rattle.text.specs.Printed.{Printed}
 use Rattle.text.specs.Laws.Lines.{lines-before}

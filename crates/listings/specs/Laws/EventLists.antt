@@ -9,7 +9,7 @@ use lib.Dec.{ltb}
 use lib.ListN.{length, length-append}
 use borrow.Author.Tests.{ltb-true, ltb-false}
 use Rattle.words.specs.Word.{word}
-use Rattle.words.specs.Reading.{number-before, number-behind}
+use Rattle.words.specs.Laws.Reading.{number-before, number-behind}
 use Rattle.plan.specs.Lists.{joined}
 use Rattle.plan.specs.declared.Plan.{Plan}
 use Rattle.machine.specs.Values.{valueWith}

@@ -1,11 +1,11 @@
--- An instant of either engine and one of the plain machine, from states that agree, lead to states that agree; and what is read from such
--- states is the same. Assumes nothing.
+-- Laws: an instant of either engine and one of the plain machine, from states that agree, lead to states that agree; and what is read from
+-- such states is the same. Assumes nothing.
 use mathlib.Core.Path.{_≡_, refl, sym, _∙_}
 use mathlib.Core.List.{List}
 use Prim.Native.Nat.{ℕ, _+_, _-_, _≤_, _<_}
 use native.Mathlib.Omega.{arith}
 use lib.IntN.{ℤ, pos, _+ℤ_, _*ℤ_}
-use Rattle.integers.specs.Parts.{sum, prod, zs}
+use Rattle.integers.specs.Laws.Parts.{sum, prod, zs}
 use Rattle.plan.specs.Lists.{natAt, intAt, row}
 use Rattle.plan.specs.Laws.Rows.{row-at, row-ext}
 use Rattle.plan.specs.Laws.Counts.{counts-of}

@@ -1,5 +1,5 @@
--- Entries of which each stands above its predecessor, by a first number, then by a second: an earlier one stands before a later one, and
--- no two are alike. Commands ascend so by tick and input, links by target and source. Assumes nothing.
+-- Laws: entries of which each stands above its predecessor, by a first number, then by a second: an earlier one stands before a later one,
+-- and no two are alike. Commands ascend so by tick and input, links by target and source. Assumes nothing.
 use mathlib.Core.Path.{_≡_, refl, sym}
 use mathlib.Core.Bool.{Bool, true, false}
 use mathlib.Core.Logic.{_⊎_, inl, inr}
@@ -13,7 +13,7 @@ use Rattle.plan.specs.Rules.{Ascends}
 use Rattle.plan.specs.Laws.Searches.{below-suc}
 
 -- (a, b) stands before (a′, b′)
-abbrev pub Before : ℕ → ℕ → ℕ → ℕ → Type 0
+abbrev pub Before : (a b a′ b′ : ℕ) → Type 0
 Before a b a′ b′ = (a < a′) ⊎ ((a ≡ a′) × (b < b′))
 
 before-trans : {a b a′ b′ a″ b″ : ℕ} → Before a b a′ b′ → Before a′ b′ a″ b″ → Before a b a″ b″

@@ -1,4 +1,4 @@
--- The start of a plan that keeps the rules is sound, and so is the idle state. Assumes nothing.
+-- Laws: the start of a plan that keeps the rules is sound, and so is the idle state. Assumes nothing.
 use mathlib.Core.Path.{_≡_, refl, _∙_}
 use Prim.Native.Nat.{ℕ, _<_}
 use native.Mathlib.Omega.{arith}

@@ -1,11 +1,12 @@
--- "|x−q| < D" is the same as x strictly between the levels q−D and q+D. Assumes nothing.
+-- Laws: "|x−q| < D" is the same as x strictly between the levels q−D and q+D. Assumes nothing.
 use mathlib.Core.Logic.{_↔_}
 use mathlib.Core.List.{List}
 use Prim.Native.Nat.{ℕ}
 use native.Mathlib.Omega.{arith}
 use lib.IntN.{ℤ, pos, _-ℤ_}
 use lib.Signed.{_≤ℤ_, _<ℤ_}
-use Rattle.integers.specs.Parts.{∣_∣, sum, dif, tight, zs}
+use Rattle.integers.specs.Parts.{∣_∣}
+use Rattle.integers.specs.Laws.Parts.{sum, dif, tight, zs}
 use Rattle.plan.specs.Lists.{intAt}
 use Rattle.plan.specs.declared.Plan.{Plan}
 use Rattle.machine.specs.Due.{upperLevel, lowerLevel}

@@ -1,13 +1,13 @@
--- Blocks of one length, one behind the other, of those numbers that pass a test: where each stands. Assumes nothing.
+-- Laws: blocks of one length, one behind the other, of those numbers that pass a test: where each stands. Assumes nothing.
 use mathlib.Core.Path.{_≡_, ap, _∙_}
 use mathlib.Core.Bool.{Bool, true, false, cond}
 use mathlib.Core.List.{List, []}
 use Prim.Native.Nat.{ℕ, zero, suc, _+_, _*_, _≤_, _<_}
 use native.Mathlib.Omega.{arith}
 use lib.ListN.{length, length-append}
-use Rattle.bitset.specs.Mask.{countOf}
+use Rattle.bitset.specs.Counts.{countOf}
 use Rattle.words.specs.Word.{Bytes, numberAt}
-use Rattle.words.specs.Reading.{bytes-append}
+use Rattle.words.specs.Laws.Reading.{bytes-append}
 use Rattle.plan.specs.Lists.{joined}
 use Rattle.plan.specs.Laws.Joined.{number-joined}
 

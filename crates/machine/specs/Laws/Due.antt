@@ -1,5 +1,5 @@
--- Laws of the due tick over levels given as two numbers: it is the least tick of document 01, it lies ahead, and it stays while an
--- integrator is left alone, which till then stays strictly between its levels. Assumes nothing.
+-- Laws: the due tick over levels given as two numbers: it is the least tick of document 01, it lies ahead, and it stays while an integrator
+-- is left alone, which till then stays strictly between its levels. Assumes nothing.
 use mathlib.Core.Path.{_≡_, refl, sym, ap, _∙_}
 use mathlib.Core.Bool.{Bool, true, false, cond}
 use Prim.Native.Nat.{ℕ, zero, suc, _+_, _-_, _*_, _≤_, _<_, max}
@@ -9,8 +9,10 @@ use lib.IntN.{ℤ, pos, negsuc, _+ℤ_, _-ℤ_, _*ℤ_}
 use lib.Signed.{ltZ, _≤ℤ_, _<ℤ_}
 use lib.Dec.{eqb}
 use borrow.Author.Tests.{eqb-true, eqb-false, ne-eqb}
-use Rattle.integers.specs.Parts.{up, ∣_∣, sum, dif, prod, tight, zs}
-use Rattle.integers.specs.Division.{ceilDiv, Ceil, ceil, ceil-least, ceil-one}
+use Rattle.integers.specs.Parts.{up, ∣_∣}
+use Rattle.integers.specs.Laws.Parts.{sum, dif, prod, tight, zs}
+use Rattle.integers.specs.Division.{ceilDiv, Ceil}
+use Rattle.integers.specs.Laws.Division.{ceil, ceil-least, ceil-one}
 use Rattle.machine.specs.Due.{never, distance, ticksTo, dueTick, AtLevel, LeastTicks}
 
 -- ---- the slope is 0, or it is not

@@ -1,4 +1,4 @@
--- The events of an instant are read as they were written: tick, source and signed value of each. Assumes nothing.
+-- Laws: the events of an instant are read as they were written: tick, source and signed value of each. Assumes nothing.
 use mathlib.Core.Path.{_≡_, ap, _∙_}
 use mathlib.Core.Bool.{true}
 use mathlib.Core.List.{List, [], _∷_}
@@ -9,10 +9,10 @@ use lib.IntN.{ℤ}
 use lib.Signed.{mag}
 use lib.ListN.{length}
 use Rattle.integers.specs.Parts.{∣_∣}
-use Rattle.bitset.specs.Mask.{countOf}
+use Rattle.bitset.specs.Counts.{countOf}
 use Rattle.words.specs.Word.{Bytes, numberAt, signedOf, word, signedWord, wordOf}
-use Rattle.words.specs.Flat.{bytes-flat, length-flat, word-flat}
-use Rattle.words.specs.Signs.{signed-unsigned, unsigned-lt}
+use Rattle.words.specs.Laws.Flat.{bytes-flat, length-flat, word-flat}
+use Rattle.words.specs.Laws.Signs.{signed-unsigned, unsigned-lt}
 use Rattle.plan.specs.Format.{M}
 use Rattle.plan.specs.Laws.Small.{size-mag}
 use Rattle.plan.specs.declared.Plan.{Plan}
@@ -44,7 +44,7 @@ module _ (t source : ℕ) (value : ℤ) where
 
 -- ---- the events of an instant
 -- the bytes of source i's event
-abbrev pub eventOf : Plan → ℕ → List ℤ → List ℤ → ℕ → List ℕ
+abbrev pub eventOf : (p : Plan) (t : ℕ) (q u : List ℤ) (i : ℕ) → List ℕ
 eventOf p t q u i = eventBytes t i (valueWith p q u zero i)
 
 module _ (p : Plan) (t : ℕ) (d : List ℕ) (q u : List ℤ) where

@@ -1,4 +1,4 @@
--- What an instant does not change: an input that no command sets, the value of a source that depends on no change, and the rate of an
+-- Laws: what an instant does not change: an input that no command sets, the value of a source that depends on no change, and the rate of an
 -- integrator that is not reached. Assumes nothing.
 use mathlib.Core.Path.{_≡_, refl, ap, ap₂, _∙_}
 use mathlib.Core.Bool.{Bool, true, false, cond, not, _&&_, _||_}

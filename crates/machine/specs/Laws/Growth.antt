@@ -1,13 +1,13 @@
--- The update count of one instant: how many its engine moves, which is how many have l = c after it, by the plain machine's due ticks.
--- Assumes nothing.
+-- Laws: the update count of one instant: how many its engine moves, which is how many have l = c after it, by the plain machine's due
+-- ticks. Assumes nothing.
 use mathlib.Core.Path.{_≡_, refl, _∙_}
 use mathlib.Core.Bool.{Bool, true, false, cond}
 use Prim.Native.Nat.{ℕ, _+_, _≤_, _<_}
 use native.Mathlib.Omega.{arith}
 use lib.Dec.{eqb}
 use borrow.Author.Tests.{eq-eqb, ne-eqb}
-use Rattle.bitset.specs.Mask.{countOf}
-use Rattle.bitset.specs.Counts.{countOf-ext, countOf-all, countOf-le}
+use Rattle.bitset.specs.Counts.{countOf}
+use Rattle.bitset.specs.Laws.Counts.{countOf-ext, countOf-all, countOf-le}
 use Rattle.plan.specs.Lists.{natAt}
 use Rattle.plan.specs.Laws.Counts.{counts-of}
 use Rattle.plan.specs.declared.Plan.{Plan}

@@ -1,4 +1,4 @@
--- The inputs after the commands of a tick, and the value that an event of the tick tells. Assumes nothing.
+-- Laws: the inputs after the commands of a tick, and the value that an event of the tick tells. Assumes nothing.
 use mathlib.Core.Path.{_≡_, refl, sym, ap, _∙_}
 use mathlib.Core.Bool.{Bool, true, false, cond, false≢true}
 use mathlib.Core.List.{List}

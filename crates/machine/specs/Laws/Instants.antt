@@ -1,5 +1,5 @@
--- Each instant of a run from Start whose instants are taken by the engines of a list: the state after it, its bytes, how many it moves,
--- and the update count. Assumes nothing.
+-- Laws: each instant of a run from Start whose instants are taken by the engines of a list: the state after it, its bytes, how many it
+-- moves, and the update count. Assumes nothing.
 use mathlib.Core.Path.{_≡_, refl, sym, ap, _∙_}
 use mathlib.Core.Bool.{Bool, true, false, cond}
 use mathlib.Core.List.{List, [], _∷_, _++_, append-nil}
@@ -9,7 +9,7 @@ use lib.Dec.{ltb, eqb}
 use lib.ListN.{length, getD, take, drop, take-append-drop}
 use lib.Seq.{length-take-le, take-suc, take-all}
 use borrow.Author.Tests.{ltb-true, ltb-false, eq-eqb}
-use Rattle.bitset.specs.Mask.{countOf}
+use Rattle.bitset.specs.Counts.{countOf}
 use Rattle.plan.specs.declared.Plan.{Plan}
 use Rattle.machine.specs.Start.{startOf}
 use Rattle.machine.specs.Instant.{instant, eventsOf}

@@ -1,12 +1,12 @@
--- The events of a run are bytes, and how many they are at most: 12 for each integrator and input, at each instant. Assumes nothing.
+-- Laws: the events of a run are bytes, and how many they are at most: 12 for each integrator and input, at each instant. Assumes nothing.
 use mathlib.Core.Bool.{Bool, true, false, cond}
 use mathlib.Core.List.{List, [], _++_}
 use Prim.Native.Nat.{ℕ, zero, suc, _+_, _*_, _≤_}
 use native.Mathlib.Omega.{arith}
 use lib.ListN.{length, length-append}
-use Rattle.bitset.specs.Counts.{countOf-le}
+use Rattle.bitset.specs.Laws.Counts.{countOf-le}
 use Rattle.words.specs.Word.{Bytes}
-use Rattle.words.specs.Reading.{bytes-append}
+use Rattle.words.specs.Laws.Reading.{bytes-append}
 use Rattle.plan.specs.declared.Plan.{Plan}
 use Rattle.machine.specs.Reach.{changes}
 use Rattle.machine.specs.Instant.{settings, outputs, tickOf, instant, eventsOf}

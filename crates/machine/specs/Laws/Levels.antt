@@ -1,4 +1,4 @@
--- How large integrator i's levels are, its distance to the level ahead and the ticks to it, with its output within ±M and x strictly
+-- Laws: how large integrator i's levels are, its distance to the level ahead and the ticks to it, with its output within ±M and x strictly
 -- between the levels. Assumes nothing.
 use mathlib.Core.Path.{_≡_, ap}
 use mathlib.Core.Bool.{Bool, true, false, cond}
@@ -8,8 +8,10 @@ use native.Mathlib.Omega.{arith}
 use native.Mathlib.Nat.{div-zero}
 use lib.IntN.{ℤ, pos, _+ℤ_, _-ℤ_}
 use lib.Signed.{ltZ, _≤ℤ_, _<ℤ_}
-use Rattle.integers.specs.Parts.{up, ∣_∣, sum, dif, tight, zs}
-use Rattle.integers.specs.Division.{ceilDiv, ceil-most}
+use Rattle.integers.specs.Parts.{up, ∣_∣}
+use Rattle.integers.specs.Laws.Parts.{sum, dif, tight, zs}
+use Rattle.integers.specs.Division.{ceilDiv}
+use Rattle.integers.specs.Laws.Division.{ceil-most}
 use Rattle.plan.specs.Format.{M}
 use Rattle.plan.specs.Lists.{intAt}
 use Rattle.plan.specs.Rules.{IntegratorRule}

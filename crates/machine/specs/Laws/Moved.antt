@@ -1,5 +1,5 @@
--- One instant, whoever moves besides those due or reached: outputs, slopes, due ticks and positions after it are those by rule, and do not
--- depend on who moved. Assumes nothing.
+-- Laws: one instant, whoever moves besides those due or reached: outputs, slopes, due ticks and positions after it are those by rule, and
+-- do not depend on who moved. Assumes nothing.
 use mathlib.Core.Path.{_≡_, refl, sym, ap, _∙_}
 use mathlib.Core.Bool.{Bool, true, false, cond, _||_}
 use Prim.Native.Nat.{ℕ, _-_, _≤_, _<_}

@@ -1,4 +1,4 @@
--- The next instant's tick is the least of all due ticks and the next command's, and the next command is the first above the clock.
+-- Laws: the next instant's tick is the least of all due ticks and the next command's, and the next command is the first above the clock.
 -- Assumes nothing.
 use mathlib.Core.Path.{_≡_, refl, sym, _∙_}
 use mathlib.Core.Bool.{Bool, true, false, cond}

@@ -1,5 +1,5 @@
--- What is worked out node by node is settled once its node is: later nodes do not change it. Serves the values of sources and what depends on
--- a change, which follow the nodes alike. Assumes nothing.
+-- Laws: what is worked out node by node is settled once its node is: later nodes do not change it. Serves the values of sources and what
+-- depends on a change, which follow the nodes alike. Assumes nothing.
 use mathlib.Core.Path.{_≡_, refl, _∙_}
 use mathlib.Core.Bool.{Bool, true, false, cond}
 use Prim.Native.Nat.{ℕ, zero, suc, _+_, _≤_, _<_}

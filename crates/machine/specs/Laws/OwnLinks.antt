@@ -1,4 +1,4 @@
--- At most 56 links are one integrator's: among them the sources strictly ascend, and there are at most 56 sources. Assumes nothing.
+-- Laws: at most 56 links are one integrator's: among them the sources strictly ascend, and there are at most 56 sources. Assumes nothing.
 use mathlib.Core.Path.{_≡_, refl, _∙_}
 use mathlib.Core.Bool.{Bool, true, false}
 use mathlib.Core.Logic.{_⊎_, inl, inr}
@@ -6,7 +6,7 @@ use Prim.Native.Nat.{ℕ, zero, suc, _+_, _≤_, _<_}
 use native.Mathlib.Omega.{arith}
 use lib.Dec.{eqb}
 use borrow.Author.Tests.{eqb-true, eqb-false, eq-eqb, ne-eqb}
-use Rattle.bitset.specs.Mask.{countOf}
+use Rattle.bitset.specs.Counts.{countOf}
 use Rattle.plan.specs.Lists.{natAt}
 use Rattle.plan.specs.Rules.{Ascends, PlanRules}
 use Rattle.plan.specs.Laws.Counts.{counts-of}

@@ -1,5 +1,5 @@
--- Runs of the plain machine: it takes its budget or fewer instants, all of it where it is still paused, and a run goes on where one ended,
--- with its events behind. Assumes nothing.
+-- Laws: runs of the plain machine: it takes its budget or fewer instants, all of it where it is still paused, and a run goes on where one
+-- ended, with its events behind. Assumes nothing.
 use mathlib.Core.Path.{_≡_, refl, sym, ap, _∙_}
 use mathlib.Core.Bool.{Bool, true, false, cond, false≢true}
 use mathlib.Core.Logic.{_⊎_, inl, inr}

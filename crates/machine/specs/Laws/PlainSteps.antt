@@ -1,4 +1,5 @@
--- The plain machine in document 01's words, entry by entry: its start and one of its instants, for a plan that keeps its rules. Assumes nothing.
+-- Laws: the plain machine in document 01's words, entry by entry: its start and one of its instants, for a plan that keeps its rules.
+-- Assumes nothing.
 use mathlib.Core.Path.{_≡_, _∙_}
 use mathlib.Core.List.{List}
 use Prim.Native.Nat.{ℕ, _<_}

@@ -1,5 +1,5 @@
--- Where an integrator of a sound state can be: strictly between its levels before its due tick, and how far it can be up to that tick.
--- Assumes nothing.
+-- Laws: where an integrator of a sound state can be: strictly between its levels before its due tick, and how far it can be up to that
+-- tick. Assumes nothing.
 use mathlib.Core.Path.{_≡_, _∙_}
 use mathlib.Core.Logic.{_⊎_, inl, inr}
 use Prim.Native.Nat.{ℕ, _+_, _-_, _*_, _^_, _≤_, _<_}
@@ -7,7 +7,8 @@ use native.Mathlib.Omega.{arith}
 use native.Mathlib.Nat.{mul-le-mul-left, zero-mul}
 use lib.IntN.{ℤ, pos, _*ℤ_}
 use lib.Signed.{_<ℤ_}
-use Rattle.integers.specs.Parts.{up, ∣_∣, sum, prod, tight, zs}
+use Rattle.integers.specs.Parts.{up, ∣_∣}
+use Rattle.integers.specs.Laws.Parts.{sum, prod, tight, zs}
 use Rattle.plan.specs.Format.{M}
 use Rattle.plan.specs.Lists.{natAt, intAt}
 use Rattle.plan.specs.Rules.{IntegratorRule}

@@ -1,4 +1,4 @@
--- The tests of which sources change and which integrators are reached are the relations in document 01's words. Assumes nothing.
+-- Laws: the tests of which sources change and which integrators are reached are the relations in document 01's words. Assumes nothing.
 use mathlib.Core.Path.{_≡_, refl, sym, _∙_}
 use mathlib.Core.Bool.{Bool, true, false, cond, not, _&&_, _||_, true≢false, or-true}
 use mathlib.Core.List.{List}

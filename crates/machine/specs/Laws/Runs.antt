@@ -1,5 +1,5 @@
--- Runs, instant by instant: a list names the engine of each. Whatever the list, the run leaves a sound state that agrees with the plain
--- machine run for as many instants, with the same events. Assumes nothing.
+-- Laws: runs, instant by instant: a list names the engine of each. Whatever the list, the run leaves a sound state that agrees with the
+-- plain machine run for as many instants, with the same events. Assumes nothing.
 use mathlib.Core.Path.{_≡_, refl, sym, ap, ap₂, _∙_}
 use mathlib.Core.Bool.{Bool, true, false, cond, true≢false}
 use mathlib.Core.List.{List, [], _∷_, _++_, append-assoc}

@@ -1,4 +1,4 @@
--- The arrays of the running figures have their full width from the start on. Assumes nothing.
+-- Laws: the arrays of the running figures have their full width from the start on. Assumes nothing.
 use mathlib.Core.Bool.{Bool, true, false, cond}
 use Prim.Native.Nat.{ℕ, zero, suc}
 use lib.IntN.{pos}

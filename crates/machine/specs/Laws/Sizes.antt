@@ -1,4 +1,4 @@
--- How large a rate and what it is made of can be, with outputs q and input values u within ±M, for a plan that keeps its rules.
+-- Laws: how large a rate and what it is made of can be, with outputs q and input values u within ±M, for a plan that keeps its rules.
 -- Assumes nothing.
 use mathlib.Core.Path.{_≡_, refl}
 use mathlib.Core.Bool.{Bool, true, false, cond}
@@ -9,11 +9,13 @@ use lib.IntN.{ℤ, pos, negℤ, _+ℤ_, _-ℤ_, _*ℤ_}
 use lib.Signed.{leZ}
 use lib.Dec.{ltb, eqb}
 use borrow.Author.Tests.{ltb-true, ltb-false, eqb-true, eqb-false}
-use Rattle.integers.specs.Parts.{∣_∣, sum}
-use Rattle.integers.specs.Order.{size-sub, size-mul}
-use Rattle.integers.specs.Division.{floored, floor-size}
-use Rattle.integers.specs.Range.{limited-size}
-use Rattle.bitset.specs.Mask.{countOf}
+use Rattle.integers.specs.Parts.{∣_∣}
+use Rattle.integers.specs.Laws.Parts.{sum}
+use Rattle.integers.specs.Laws.Order.{size-sub, size-mul}
+use Rattle.integers.specs.Division.{floored}
+use Rattle.integers.specs.Laws.Division.{floor-size}
+use Rattle.integers.specs.Laws.Range.{limited-size}
+use Rattle.bitset.specs.Counts.{countOf}
 use Rattle.plan.specs.Format.{M}
 use Rattle.plan.specs.Lists.{natAt, intAt}
 use Rattle.plan.specs.Rules.{NodeRule, PlanRules}

@@ -1,4 +1,4 @@
--- An instant leaves a sound state, whoever moves besides those due or reached. Assumes nothing.
+-- Laws: an instant leaves a sound state, whoever moves besides those due or reached. Assumes nothing.
 use mathlib.Core.Path.{_≡_, refl}
 use mathlib.Core.Bool.{Bool, true, false, cond, true≢false, _||_}
 use mathlib.Core.List.{List}
@@ -8,7 +8,7 @@ use lib.IntN.{pos, _-ℤ_}
 use lib.Signed.{_<ℤ_}
 use borrow.Author.Tests.{eqb-true}
 use Rattle.integers.specs.Parts.{∣_∣}
-use Rattle.bitset.specs.Counts.{countOf-le}
+use Rattle.bitset.specs.Laws.Counts.{countOf-le}
 use Rattle.plan.specs.Format.{M}
 use Rattle.plan.specs.Lists.{natAt, intAt}
 use Rattle.plan.specs.Laws.Rows.{row-unused}

@@ -1,4 +1,4 @@
--- What the status and its integrator are, and what a status of 0 says, for any due ticks, tick and values. Assumes nothing.
+-- Laws: what the status and its integrator are, and what a status of 0 says, for any due ticks, tick and values. Assumes nothing.
 use mathlib.Core.Path.{_≡_, refl}
 use mathlib.Core.Bool.{Bool, true, false, cond, not, _&&_, _||_, true≢false, or-true}
 use mathlib.Core.Logic.{_⊎_, inl, inr, _↔_}
@@ -9,7 +9,8 @@ use lib.IntN.{ℤ}
 use lib.Dec.{ltb, eqb}
 use borrow.Author.Tests.{ltb-true, ltb-false, lt-ltb, le-ltb, eqb-true, eq-eqb, ne-eqb}
 use Rattle.integers.specs.Parts.{∣_∣}
-use Rattle.integers.specs.Range.{within, within-true, within-false}
+use Rattle.integers.specs.Range.{within}
+use Rattle.integers.specs.Laws.Range.{within-true, within-false}
 use Rattle.plan.specs.Format.{M}
 use Rattle.plan.specs.Lists.{natAt}
 use Rattle.plan.specs.Laws.Searches.{First, first, first-unique, first-ext}

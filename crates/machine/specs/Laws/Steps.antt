@@ -1,4 +1,4 @@
--- One instant in document 01's words, step by step, for a plan that keeps its rules. Assumes nothing.
+-- Laws: one instant in document 01's words, step by step, for a plan that keeps its rules. Assumes nothing.
 use mathlib.Core.Path.{_≡_, refl, _∙_}
 use mathlib.Core.Bool.{true}
 use mathlib.Core.Logic.{inl}

@@ -1,4 +1,4 @@
--- The figures of each integrator after an instant, entry by entry, whoever moves. Assumes nothing.
+-- Laws: the figures of each integrator after an instant, entry by entry, whoever moves. Assumes nothing.
 use mathlib.Core.Path.{_≡_, refl, _∙_}
 use mathlib.Core.Bool.{Bool, true, false, cond}
 use mathlib.Core.List.{List}

@@ -1,4 +1,4 @@
--- The test of a sound state means that the state is sound. Assumes nothing.
+-- Laws: the test of a sound state means that the state is sound. Assumes nothing.
 use mathlib.Core.Path.{_≡_}
 use mathlib.Core.Bool.{true}
 use mathlib.Core.Logic.{_↔_, Iff·rfl, Iff·trans}
@@ -6,9 +6,10 @@ use Prim.Native.Nat.{ℕ, _*_}
 use native.Mathlib.Omega.{arith}
 use lib.IntN.{ℤ, _-ℤ_}
 use lib.Dec.{eqb}
-use Rattle.integers.specs.Parts.{∣_∣, dif, zs}
-use Rattle.integers.specs.Order.{ltZ-true}
-use Rattle.integers.specs.Range.{within-true}
+use Rattle.integers.specs.Parts.{∣_∣}
+use Rattle.integers.specs.Laws.Parts.{dif, zs}
+use Rattle.integers.specs.Laws.Order.{ltZ-true}
+use Rattle.integers.specs.Laws.Range.{within-true}
 use Rattle.plan.specs.Format.{M}
 use Rattle.plan.specs.Lists.{natAt, intAt}
 use Rattle.plan.specs.Rules.{PlanRules}

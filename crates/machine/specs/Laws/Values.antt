@@ -1,5 +1,5 @@
--- The values of sources: integrators give their outputs, inputs their values, and a node what its kind makes of the values of A and B; and
--- the rate that an integrator's links make of them. Assumes nothing.
+-- Laws: the values of sources: integrators give their outputs, inputs their values, and a node what its kind makes of the values of A and
+-- B; and the rate that an integrator's links make of them. Assumes nothing.
 use mathlib.Core.Path.{_≡_, refl, sym, _∙_}
 use mathlib.Core.List.{List}
 use Prim.Native.Nat.{ℕ, suc, _+_, _≤_, _<_}
@@ -7,8 +7,9 @@ use native.Mathlib.Omega.{arith}
 use lib.IntN.{ℤ, pos, negℤ, _+ℤ_, _-ℤ_, _*ℤ_, +ℤ-idr}
 use lib.Signed.{_≤ℤ_, _<ℤ_}
 use borrow.Author.Tests.{eq-eqb, ne-eqb}
-use Rattle.integers.specs.Division.{floored, floor-law}
-use Rattle.integers.specs.Order.{leZ-true, leZ-false}
+use Rattle.integers.specs.Division.{floored}
+use Rattle.integers.specs.Laws.Division.{floor-law}
+use Rattle.integers.specs.Laws.Order.{leZ-true, leZ-false}
 use Rattle.integers.specs.Range.{limited}
 use Rattle.plan.specs.Format.{M}
 use Rattle.plan.specs.Lists.{natAt, intAt}

@@ -3,7 +3,7 @@ use mathlib.Core.Path.{_≡_, refl}
 use Prim.Native.Nat.{_^_, _<_}
 use native.Mathlib.Omega.{arith}
 use Rattle.bitset.specs.Mask.{has, each}
-use Rattle.bitset.specs.Visiting.{rest-lt, each-turn, each-done}
+use Rattle.bitset.specs.Laws.Visiting.{rest-lt, each-turn, each-done}
 use Rattle.moves.specs.Motion.{moving, moveOne, AllMovable}
 use Rattle.moves.specs.Laws.Moving.{movable-lowest, movable-rest}
 use Rattle.moves.proofs.move_all.Statement.{statement}

@@ -4,7 +4,7 @@ use mathlib.Core.Path.{_≡_, _∙_}
 use mir.Syntax.{w64}
 use mir.Val.{SFits}
 use mir.Facts.{toZ-ofZ}
-use Rattle.integers.specs.Signed64.{rd}
+use Rattle.integers.specs.Laws.Signed64.{rd}
 use Rattle.plan.specs.Lists.{intAt}
 use Rattle.moves.specs.Motion.{moving, placeOf, slopeOf}
 use Rattle.moves.specs.Laws.Moving.{move-stores}

@@ -9,7 +9,7 @@ use lib.Dec.{ltb}
 use borrow.Author.Tests.{ltb-true, ltb-false}
 use Rattle.integers.specs.Parts.{∣_∣}
 use Rattle.bitset.specs.Mask.{has, maskOf, each}
-use Rattle.bitset.specs.Bits.{has-high, maskOf-lt}
+use Rattle.bitset.specs.Laws.Bits.{has-high, maskOf-lt}
 use Rattle.plan.specs.Format.{M}
 use Rattle.plan.specs.Lists.{natAt, intAt, row}
 use Rattle.plan.specs.Laws.Counts.{Counts, counts-of}

@@ -10,7 +10,7 @@ use lib.ListN.{length, set, length-set}
 use lib.Seq.{getD-set-same, getD-set-other}
 use borrow.Author.Tests.{eqb-false}
 use Rattle.bitset.specs.Mask.{has, lowestOf, restOf}
-use Rattle.bitset.specs.Visiting.{has-lowest, has-rest}
+use Rattle.bitset.specs.Laws.Visiting.{has-lowest, has-rest}
 use Rattle.plan.specs.Lists.{natAt, intAt}
 use Rattle.machine.specs.Due.{dueTick}
 use Rattle.moves.specs.Motion.{Motion, moving, placeOf, slopeOf, dueFrom, moveOne, Movable, AllMovable}

@@ -1,4 +1,4 @@
--- The refusals 1 to 9 of a file: what the number and the entry mean, and the rules that an accepted file keeps. Assumes nothing.
+-- Laws: the refusals 1 to 9 of a file: what the number and the entry mean, and the rules that an accepted file keeps. Assumes nothing.
 use mathlib.Core.Path.{_≡_, refl}
 use mathlib.Core.Bool.{Bool, true, false}
 use mathlib.Core.List.{List}

@@ -1,4 +1,4 @@
--- The limits of a plan's counts, each by its name. Assumes nothing.
+-- Laws: the limits of a plan's counts, each by its name. Assumes nothing.
 use Prim.Native.Nat.{_≤_}
 use native.Mathlib.Omega.{arith}
 use Rattle.plan.specs.Tests.{counts}

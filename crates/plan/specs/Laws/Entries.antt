@@ -1,4 +1,5 @@
--- Unused entries: the tests mean their propositions; the plan that a file holds has zeros there, and arrays of full width. Assumes nothing.
+-- Laws: unused entries: the tests mean their propositions; the plan that a file holds has zeros there, and arrays of full width. Assumes
+-- nothing.
 use mathlib.Core.Path.{_≡_, refl}
 use mathlib.Core.List.{List}
 use Prim.Native.Nat.{ℕ, _≤_}

@@ -1,4 +1,4 @@
--- What a stage of the refusals finds: nothing where all its entries keep its rule, else the lowest that breaks it. Assumes nothing.
+-- Laws: what a stage of the refusals finds: nothing where all its entries keep its rule, else the lowest that breaks it. Assumes nothing.
 use mathlib.Core.Path.{_≡_, refl}
 use mathlib.Core.Bool.{Bool, true, false, cond, _&&_, false≢true}
 use Prim.Native.Nat.{ℕ, zero, suc, _+_, _≤_, _<_}

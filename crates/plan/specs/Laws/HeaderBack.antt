@@ -1,4 +1,5 @@
--- The header of the file of a plan that keeps the rules is read as it was written, and the file keeps the rules of a file. Assumes nothing.
+-- Laws: the header of the file of a plan that keeps the rules is read as it was written, and the file keeps the rules of a file. Assumes
+-- nothing.
 use mathlib.Core.Path.{_≡_, refl, sym, _∙_}
 use mathlib.Core.Bool.{Bool, true, _&&_}
 use mathlib.Core.List.{_++_}
@@ -8,13 +9,14 @@ use lib.Dec.{eqb}
 use lib.ListN.{length, getD, length-append, List·getD-append}
 use borrow.Author.Tests.{le-leb, eq-eqb}
 use Rattle.words.specs.Word.{word, flat}
-use Rattle.words.specs.Flat.{word-flat}
+use Rattle.words.specs.Laws.Flat.{word-flat}
 use Rattle.plan.specs.Lists.{natAt, joined}
 use Rattle.plan.specs.Format.{sections, entrySizes, leastCounts, largestCounts, headerLength, horizonIn, offsetIn, lengthIn, startIn}
 use Rattle.plan.specs.Format.{countIn, sectionIn}
 use Rattle.plan.specs.Tests.{longEnough, offsetsKept, countKept, sizesKept, counts}
 use Rattle.plan.specs.Rules.{PlanRules}
-use Rattle.plan.specs.Encoding.{offsetFrom, lengthOf, offsetOf, fileLength, headerWords, fileWords, encode}
+use Rattle.plan.specs.Encoding.{offsetFrom, offsetOf, fileLength, headerWords, fileWords, encode}
+use Rattle.plan.specs.Laws.Layout.{lengthOf}
 use Rattle.plan.specs.Laws.Searches.{every-true}
 use Rattle.plan.specs.Laws.Layout.{each-section, sectionWords, wordsTo, words-to, length-header, length-encode, part-encode}
 use Rattle.plan.specs.Laws.Layout.{header-offset, header-length, file-least}

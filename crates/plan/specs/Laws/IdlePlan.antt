@@ -1,4 +1,4 @@
--- The idle plan keeps the rules, its unused entries are 0, and its arrays have their full width. Assumes nothing.
+-- Laws: the idle plan keeps the rules, its unused entries are 0, and its arrays have their full width. Assumes nothing.
 use mathlib.Core.Path.{refl}
 use Rattle.integers.specs.Range.{within}
 use Rattle.plan.specs.Lists.{every, all}

@@ -1,4 +1,4 @@
--- Laws of lists that stand one behind the other: where the k-th stands, what is read there, and how long all of them are. Assumes nothing.
+-- Laws: lists that stand one behind the other: where the k-th stands, what is read there, and how long all of them are. Assumes nothing.
 use mathlib.Core.Path.{_≡_, refl, sym, _∙_}
 use mathlib.Core.List.{List, [], _++_, append-assoc, append-nil}
 use Prim.Native.Nat.{ℕ, zero, suc, _+_, _*_, _≤_, _<_}
@@ -6,8 +6,8 @@ use native.Mathlib.Omega.{arith}
 use lib.ListN.{length, getD, take, drop, length-append, List·getD-append}
 use lib.Seq.{take-add, getD-append-add}
 use Rattle.words.specs.Word.{numberAt, flat}
-use Rattle.words.specs.Reading.{number-behind, number-before}
-use Rattle.words.specs.Flat.{flat-append}
+use Rattle.words.specs.Laws.Reading.{number-behind, number-before}
+use Rattle.words.specs.Laws.Flat.{flat-append}
 use Rattle.plan.specs.Lists.{joined}
 use Rattle.plan.specs.Laws.Searches.{below-suc}
 

@@ -1,4 +1,4 @@
--- Each test of a plan means its rule: the horizon, the counts, integrators, inputs, nodes, links and commands. Assumes nothing.
+-- Laws: each test of a plan means its rule: the horizon, the counts, integrators, inputs, nodes, links and commands. Assumes nothing.
 use mathlib.Core.Path.{_≡_, refl}
 use mathlib.Core.Bool.{Bool, true, false, cond, _&&_}
 use Prim.Native.Nat.{ℕ, _+_}
@@ -8,7 +8,7 @@ use lib.Signed.{leZ}
 use lib.Dec.{leb, ltb, eqb}
 use borrow.Author.Tests.{leb-true, leb-false, eqb-true, eqb-false}
 use Rattle.integers.specs.Parts.{∣_∣}
-use Rattle.integers.specs.Order.{leZ-true}
+use Rattle.integers.specs.Laws.Order.{leZ-true}
 use Rattle.integers.specs.Range.{within}
 use Rattle.plan.specs.Lists.{natAt, intAt}
 use Rattle.plan.specs.Format.{M, sections}

@@ -1,4 +1,4 @@
--- Each test of a file's directory means its rule: the length of the header, the offsets and the sizes. Assumes nothing.
+-- Laws: each test of a file's directory means its rule: the length of the header, the offsets and the sizes. Assumes nothing.
 use mathlib.Core.Path.{_≡_, refl}
 use mathlib.Core.List.{List}
 use Prim.Native.Nat.{ℕ, zero, suc, _%_, _≤_, _<_}

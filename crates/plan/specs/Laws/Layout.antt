@@ -1,4 +1,4 @@
--- Where each word of a plan's file stands, by section, entry and column, and how long the file is. Assumes nothing.
+-- Laws: where each word of a plan's file stands, by section, entry and column, and how long the file is. Assumes nothing.
 use mathlib.Core.Path.{_≡_, refl, sym, ap, _∙_}
 use mathlib.Core.List.{List, [], _∷_, _++_, append-assoc}
 use Prim.Native.Nat.{ℕ, zero, suc, _+_, _*_, _^_, _≤_, _<_}
@@ -7,12 +7,12 @@ use native.Mathlib.Omega.{arith}
 use lib.ListN.{length, getD, length-append}
 use lib.Seq.{take-at, drop-at}
 use Rattle.words.specs.Word.{word, flat}
-use Rattle.words.specs.Flat.{length-flat, flat-append, word-flat}
+use Rattle.words.specs.Laws.Flat.{length-flat, flat-append, word-flat}
 use Rattle.plan.specs.Lists.{natAt, joined}
 use Rattle.plan.specs.Format.{sections, entrySizes, headerLength, part}
 use Rattle.plan.specs.Tests.{counts}
 use Rattle.plan.specs.Rules.{CountsRule}
-use Rattle.plan.specs.Encoding.{offsetFrom, lengthOf, offsetOf, fileLength, headerWords, integratorWords, inputWords, nodeWords, linkWords}
+use Rattle.plan.specs.Encoding.{lengthFrom, offsetFrom, offsetOf, fileLength, headerWords, integratorWords, inputWords, nodeWords, linkWords}
 use Rattle.plan.specs.Encoding.{commandWords, fileWords, encode}
 use Rattle.plan.specs.Laws.Joined.{joined-split, getD-joined, length-joined}
 use Rattle.plan.specs.declared.Plan.{Plan}
@@ -25,6 +25,10 @@ each-section P a b c d e (suc (suc zero)) h = c
 each-section P a b c d e (suc (suc (suc zero))) h = d
 each-section P a b c d e (suc (suc (suc (suc zero)))) h = e
 each-section P a b c d e (suc (suc (suc (suc (suc k))))) h = absurd (omega arith)
+
+-- the length of section k of a plan's file
+unfoldable pub lengthOf : Plan → ℕ → ℕ
+lengthOf p k = lengthFrom (counts p) k
 
 -- the words of an entry: how many by section, and which
 abbrev pub entryWidths : List ℕ

@@ -1,4 +1,4 @@
--- Tests and the propositions that they mean: of numbers, their connectives, every index, the order of entries. Assumes nothing.
+-- Laws: tests and the propositions that they mean: of numbers, their connectives, every index, the order of entries. Assumes nothing.
 use mathlib.Core.Path.{_≡_, refl}
 use mathlib.Core.Bool.{not-eq-not, Bool, true, false, not, _&&_, _||_, false≢true}
 use mathlib.Core.Logic.{_↔_, Iff·symm, Iff·trans, _⊎_, inl, inr}
@@ -8,9 +8,11 @@ use native.Mathlib.Omega.{arith}
 use lib.IntN.{ℤ, pos}
 use lib.Dec.{leb, ltb, eqb, eqb·suc-zero}
 use borrow.Author.Tests.{leb-true, le-leb, ltb-true, lt-ltb, eqb-true, eq-eqb}
-use Rattle.integers.specs.Parts.{∣_∣, tight, zs}
-use Rattle.integers.specs.Order.{leZ-true}
-use Rattle.integers.specs.Range.{within, within-true}
+use Rattle.integers.specs.Parts.{∣_∣}
+use Rattle.integers.specs.Laws.Parts.{tight, zs}
+use Rattle.integers.specs.Laws.Order.{leZ-true}
+use Rattle.integers.specs.Range.{within}
+use Rattle.integers.specs.Laws.Range.{within-true}
 use Rattle.plan.specs.Lists.{natAt, every}
 use Rattle.plan.specs.Tests.{ascends}
 use Rattle.plan.specs.Rules.{Within, Ascends}

@@ -1,4 +1,4 @@
--- The sections of a file that keeps the rules of a file: where they end, how long they are, and the file's limits. Assumes nothing.
+-- Laws: the sections of a file that keeps the rules of a file: where they end, how long they are, and the file's limits. Assumes nothing.
 use mathlib.Core.Path.{_≡_, refl}
 use mathlib.Core.List.{List}
 use Prim.Native.Nat.{ℕ, _+_, _*_, _%_, _^_, _≤_, _<_}
@@ -6,7 +6,7 @@ use native.Mathlib.Nat.{mul-le-mul-left}
 use native.Mathlib.Omega.{arith}
 use lib.ListN.{length, length-take, length-drop}
 use Rattle.words.specs.Word.{Bytes}
-use Rattle.words.specs.Reading.{number-lt, bytes-take, bytes-drop}
+use Rattle.words.specs.Laws.Reading.{number-lt, bytes-take, bytes-drop}
 use Rattle.plan.specs.Lists.{natAt}
 use Rattle.plan.specs.Format.{sections, entrySizes, leastCounts, largestCounts, headerLength, offsetIn, lengthIn, countIn, part}
 use Rattle.plan.specs.Format.{sectionIn}

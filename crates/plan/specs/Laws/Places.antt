@@ -1,4 +1,4 @@
--- Where each number of a plan stands in a file that keeps the rules of a file. Assumes nothing.
+-- Laws: where each number of a plan stands in a file that keeps the rules of a file. Assumes nothing.
 use mathlib.Core.Path.{_≡_, refl, sym, ap, _∙_}
 use mathlib.Core.List.{List}
 use Prim.Native.Nat.{ℕ, _+_, _*_, _<_}
@@ -7,7 +7,7 @@ use native.Mathlib.Omega.{arith}
 use lib.IntN.{pos}
 use lib.ListN.{getD}
 use Rattle.words.specs.Word.{signedOf, word}
-use Rattle.words.specs.Reading.{number-part}
+use Rattle.words.specs.Laws.Reading.{number-part}
 use Rattle.plan.specs.Lists.{natAt}
 use Rattle.plan.specs.Format.{sections, entrySizes, largestCounts, horizonIn, offsetIn, lengthIn, countIn, part}
 use Rattle.plan.specs.Format.{sectionIn, columnOf, columnIn, planIn}

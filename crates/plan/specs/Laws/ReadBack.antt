@@ -1,4 +1,4 @@
--- A plan that keeps the rules is what its file is read as, and nothing is found wrong with that file. Assumes nothing.
+-- Laws: a plan that keeps the rules is what its file is read as, and nothing is found wrong with that file. Assumes nothing.
 use mathlib.Core.Path.{_≡_, refl, ap, _∙_}
 use mathlib.Core.Bool.{true, false≢true}
 use mathlib.Core.List.{List}
@@ -7,9 +7,9 @@ use native.Mathlib.Omega.{arith}
 use lib.IntN.{ℤ, pos, negsuc}
 use lib.Signed.{_≤ℤ_}
 use lib.ListN.{length, getD}
-use Rattle.integers.specs.Parts.{zs}
+use Rattle.integers.specs.Laws.Parts.{zs}
 use Rattle.words.specs.Word.{unsignedOf, signedOf, word, wordOf, flat}
-use Rattle.words.specs.Signs.{signed-unsigned}
+use Rattle.words.specs.Laws.Signs.{signed-unsigned}
 use Rattle.plan.specs.Lists.{natAt, intAt}
 use Rattle.plan.specs.Format.{M, sections, entrySizes, largestCounts, columnOf, columnIn, planIn, Shaped}
 use Rattle.plan.specs.Tests.{counts}

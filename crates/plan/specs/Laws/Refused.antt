@@ -1,4 +1,4 @@
--- The refusals 4 to 9 of a plan: what each stage finds, and that all are clean just where the plan keeps its rules. Assumes nothing.
+-- Laws: the refusals 4 to 9 of a plan: what each stage finds, and that all are clean just where the plan keeps its rules. Assumes nothing.
 use mathlib.Core.Path.{_≡_, refl}
 use mathlib.Core.Bool.{true}
 use mathlib.Core.Logic.{_↔_}

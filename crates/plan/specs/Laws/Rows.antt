@@ -1,4 +1,4 @@
--- Laws of tables and rows: each entry, the length, that equal entries make equal rows, and one more entry stored. Assumes nothing.
+-- Laws: tables and rows: each entry, the length, that equal entries make equal rows, and one more entry stored. Assumes nothing.
 use mathlib.Core.Path.{_≡_, refl, sym, ap, ap₂, _∙_}
 use mathlib.Core.Bool.{Bool, true, false, cond}
 use mathlib.Core.List.{List, [], _∷_}

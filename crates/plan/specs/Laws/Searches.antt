@@ -1,4 +1,4 @@
--- Laws of the tests over indexes and lists, and of the first index that passes. Assumes nothing.
+-- Laws: the tests over indexes and lists, and the first index that passes. Assumes nothing.
 use mathlib.Core.Path.{_≡_, refl, sym, _∙_, subst}
 use mathlib.Core.Bool.{Bool, true, false, cond, _||_, true≢false, false≢true, and-eq-true-iff}
 use mathlib.Core.Logic.{_↔_}

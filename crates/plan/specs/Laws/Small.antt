@@ -1,4 +1,4 @@
--- Every word of the file of a plan that keeps the rules is below 2 ^ 32. Assumes nothing.
+-- Laws: every word of the file of a plan that keeps the rules is below 2 ^ 32. Assumes nothing.
 use mathlib.Core.Bool.{Bool, true, false}
 use mathlib.Core.List.{List, [], _∷_, _++_}
 use mathlib.Core.Path.{_≡_, refl}
@@ -9,14 +9,16 @@ use lib.Signed.{mag, _≤ℤ_}
 use lib.Dec.{leb, eqb}
 use lib.ListN.{getD}
 use borrow.Author.Tests.{leb-true, leb-false, eqb-true, eqb-false}
-use Rattle.integers.specs.Parts.{∣_∣, neg, tight, zs}
+use Rattle.integers.specs.Parts.{∣_∣}
+use Rattle.integers.specs.Laws.Parts.{neg, tight, zs}
 use Rattle.words.specs.Word.{wordOf}
-use Rattle.words.specs.Signs.{unsigned-lt}
+use Rattle.words.specs.Laws.Signs.{unsigned-lt}
 use Rattle.plan.specs.Lists.{natAt, intAt, joined}
 use Rattle.plan.specs.Format.{M, sections}
 use Rattle.plan.specs.Tests.{counts}
 use Rattle.plan.specs.Rules.{Within, NodeRule, PlanRules}
-use Rattle.plan.specs.Encoding.{pairEntry, lengthOf, offsetOf, headerWords, integratorWords, inputWords, nodeWords, linkWords, commandWords}
+use Rattle.plan.specs.Encoding.{pairEntry, offsetOf, headerWords, integratorWords, inputWords, nodeWords, linkWords, commandWords}
+use Rattle.plan.specs.Laws.Layout.{lengthOf}
 use Rattle.plan.specs.Encoding.{fileWords}
 use Rattle.plan.specs.Laws.Layout.{each-section, entryWords, sectionWords, wordsTo, words-to, file-most, offset-most}
 use Rattle.plan.specs.declared.Plan.{Plan}

@@ -1,4 +1,4 @@
--- The section view: the part of the file by its directory, or an empty part. Assumes nothing.
+-- Laws: the section view: the part of the file by its directory, or an empty part. Assumes nothing.
 use mathlib.Core.Path.{_≡_}
 use mathlib.Core.Bool.{true, false, and-false}
 use mathlib.Core.List.{List, []}

@@ -1,4 +1,4 @@
--- The plan that is read from a file that keeps the rules of a file is written as that file, byte for byte. Assumes nothing.
+-- Laws: the plan that is read from a file that keeps the rules of a file is written as that file, byte for byte. Assumes nothing.
 use mathlib.Core.Path.{_≡_, refl, sym, ap, _∙_}
 use mathlib.Core.List.{List, [], _∷_, _++_}
 use Prim.Native.Nat.{ℕ, zero, suc, _+_, _*_, _≤_, _<_}
@@ -8,14 +8,15 @@ use lib.IntN.{pos}
 use lib.ListN.{length, getD, take, drop}
 use lib.Seq.{take-all}
 use Rattle.words.specs.Word.{Bytes, unsignedOf, word, signedWord, wordOf, flat}
-use Rattle.words.specs.Reading.{number-lt, bytes-number}
-use Rattle.words.specs.Flat.{length-flat, flat-append, flat-read}
-use Rattle.words.specs.Signs.{unsigned-signed}
+use Rattle.words.specs.Laws.Reading.{number-lt, bytes-number}
+use Rattle.words.specs.Laws.Flat.{length-flat, flat-append, flat-read}
+use Rattle.words.specs.Laws.Signs.{unsigned-signed}
 use Rattle.plan.specs.Lists.{natAt, intAt, joined}
 use Rattle.plan.specs.Format.{sections, entrySizes, headerLength, horizonIn, offsetIn, lengthIn, countIn, part}
 use Rattle.plan.specs.Format.{sectionIn, signedsIn, planIn}
 use Rattle.plan.specs.Rules.{OffsetRule, SizeRule}
-use Rattle.plan.specs.Encoding.{lengthOf, offsetOf, headerWords, integratorWords, inputWords, nodeWords, linkWords}
+use Rattle.plan.specs.Laws.Layout.{lengthOf}
+use Rattle.plan.specs.Encoding.{offsetOf, headerWords, integratorWords, inputWords, nodeWords, linkWords}
 use Rattle.plan.specs.Encoding.{commandWords, encode}
 use Rattle.plan.specs.Laws.Answers.{counts-at}
 use Rattle.plan.specs.Laws.Joined.{joined-parts, flat-joined}
@@ -24,7 +25,7 @@ use Rattle.plan.specs.Laws.Places.{column-at}
 use Rattle.plan.specs.Laws.Parts.{bytes-section, offsets, length-section-in, length-entries}
 
 -- the words of a list, from its c-th on, are those that stand in s from byte `at` on
-abbrev Reads : List ℕ → ℕ → ℕ → List ℕ → Type 0
+abbrev Reads : (s : List ℕ) (at c : ℕ) (ws : List ℕ) → Type 0
 Reads s at c [] = Unit {0}
 Reads s at c (v ∷ ws) = (v ≡ word s (at + 4 * c)) × Reads s at (suc c) ws
 
@@ -34,7 +35,7 @@ reads-at s at c (v ∷ ws) r zero h = rw add-zero (r .0)
 reads-at s at c (v ∷ ws) r (suc i) h = rw (add-suc c i, ← suc-add c i) (reads-at s at (suc c) ws (r .1) i (omega arith))
 
 -- the k-th list of words is read from byte at k on, inside s, and the next stands behind it
-abbrev Follows : List ℕ → (ℕ → List ℕ) → (ℕ → ℕ) → ℕ → Type 0
+abbrev Follows : (s : List ℕ) (ws : ℕ → List ℕ) (at : ℕ → ℕ) (k : ℕ) → Type 0
 Follows s ws at k = (at (suc k) ≡ at k + 4 * length (ws k)) × (at (suc k) ≤ length s) × Reads s (at k) 0 (ws k)
 
 -- such lists of words are the bytes that stand there

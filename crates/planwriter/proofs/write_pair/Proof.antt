@@ -1,7 +1,7 @@
 -- The words of the entry are put one behind the other.
 use denote.Ref.{now}
 use borrow.Author.Needs.{needs}
-use Rattle.words.specs.Putting.{begin, more}
+use Rattle.words.specs.Laws.Putting.{begin, more}
 use Rattle.planwriter.proofs.write_pair.Statement.{statement}
 use Rattle.planwriter.proofs.write_pair.Tie as tie
 

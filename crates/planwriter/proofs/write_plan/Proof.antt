@@ -11,7 +11,7 @@ use Rattle.plan.specs.Laws.Counts.{counts-of}
 use Rattle.plan.specs.Laws.Layout.{entryWords, sectionWords}
 use Rattle.planwriter.specs.Header.{Limited, limited}
 use Rattle.planwriter.specs.Stages.{fitting, Stage, inside, section-room, next, header-room, headed, filed, short}
-use Rattle.words.specs.Putting.{back}
+use Rattle.words.specs.Laws.Putting.{back}
 use Rattle.planwriter.proofs.write_plan.Statement.{statement}
 use Rattle.planwriter.proofs.write_plan.Tie as tie
 

@@ -7,7 +7,7 @@ use mir.Syntax.{w64}
 use mir.Val.{SFits, toZ, ofZ}
 use mir.Facts.{toZ-ofZ}
 use Rattle.integers.specs.Division.{floored}
-use Rattle.integers.specs.Signed64.{reads}
+use Rattle.integers.specs.Laws.Signed64.{reads}
 use Rattle.plan.specs.Lists.{natAt}
 use Rattle.rates.specs.Links.{term, sumFrom, rangeRate}
 use Rattle.rates.specs.Laws.Sums.{sum-more, coefficient-fits, value-fits, term-fits, sum-fits}

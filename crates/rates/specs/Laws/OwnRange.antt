@@ -10,7 +10,8 @@ use native.Mathlib.Nat.{add-suc, add-zero}
 use lib.IntN.{ℤ, pos, _+ℤ_}
 use lib.Dec.{eqb}
 use borrow.Author.Tests.{leb-true, leb-false, eqb-true, eqb-false, eq-eqb, ne-eqb}
-use Rattle.integers.specs.Parts.{∣_∣, sum, zs}
+use Rattle.integers.specs.Parts.{∣_∣}
+use Rattle.integers.specs.Laws.Parts.{sum, zs}
 use Rattle.integers.specs.Division.{floored}
 use Rattle.plan.specs.Format.{M}
 use Rattle.plan.specs.Lists.{natAt, intAt, row}

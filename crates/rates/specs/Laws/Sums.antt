@@ -7,8 +7,9 @@ use native.Mathlib.Omega.{arith}
 use lib.IntN.{ℤ, _+ℤ_}
 use mir.Syntax.{w64}
 use mir.Val.{SFits}
-use Rattle.integers.specs.Parts.{∣_∣, sum, zs}
-use Rattle.integers.specs.Order.{size-mul}
+use Rattle.integers.specs.Parts.{∣_∣}
+use Rattle.integers.specs.Laws.Parts.{sum, zs}
+use Rattle.integers.specs.Laws.Order.{size-mul}
 use Rattle.plan.specs.Format.{M}
 use Rattle.plan.specs.Lists.{natAt, intAt}
 use Rattle.rates.specs.Links.{term, sumFrom, Rated}

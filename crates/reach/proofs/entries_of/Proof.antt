@@ -5,7 +5,7 @@ use mathlib.Core.List.{List}
 use Prim.Native.Nat.{ℕ, _<_, _^_}
 use native.Mathlib.Omega.{arith}
 use Rattle.bitset.specs.Mask.{has, each, union}
-use Rattle.bitset.specs.Visiting.{rest-lt, lowest-lt, each-turn, each-done}
+use Rattle.bitset.specs.Laws.Visiting.{rest-lt, lowest-lt, each-turn, each-done}
 use Rattle.plan.specs.Lists.{natAt}
 use Rattle.reach.specs.Table.{entriesOf}
 use Rattle.reach.proofs.entries_of.Statement.{statement}

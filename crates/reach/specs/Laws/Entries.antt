@@ -10,7 +10,7 @@ use lib.ListN.{length, set, replicate, length-set, getD-replicate}
 use lib.Seq.{getD-set-same, getD-set-other}
 use borrow.Author.Tests.{eq-eqb, ne-eqb}
 use Rattle.bitset.specs.Mask.{has, each, union}
-use Rattle.bitset.specs.Bits.{has-none, has-or, has-with}
+use Rattle.bitset.specs.Laws.Bits.{has-none, has-or, has-with}
 use Rattle.plan.specs.Lists.{natAt, some}
 use Rattle.reach.specs.Table.{marked, added, handedDown, entriesOf, Wired}
 use Rattle.reach.specs.Laws.Some.{some-ext, some-none, some-also}

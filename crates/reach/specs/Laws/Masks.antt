@@ -7,7 +7,7 @@ use native.Mathlib.Omega.{arith}
 use lib.Dec.{ltb}
 use borrow.Author.Tests.{ltb-true, ltb-false}
 use Rattle.bitset.specs.Mask.{has, maskOf, joinedOf}
-use Rattle.bitset.specs.Bits.{has-high, has-joined-low, has-joined-high, mask-ext, mask-below, maskOf-lt, has-maskOf}
+use Rattle.bitset.specs.Laws.Bits.{has-high, has-joined-low, has-joined-high, mask-ext, mask-below, maskOf-lt, has-maskOf}
 
 below-power : (m : ℕ) → m < 2 ^ m
 below-power zero = omega arith

@@ -11,7 +11,7 @@ use lib.ListN.{length, replicate, length-replicate}
 use lib.Pow.{pow-pos}
 use borrow.Author.Tests.{eqb-true, eqb-false, eq-eqb, ne-eqb, ltb-true, ltb-false, lt-ltb, le-ltb}
 use Rattle.bitset.specs.Mask.{has, maskOf, joinedOf}
-use Rattle.bitset.specs.Bits.{has-high, has-shr, has-maskOf, maskOf-lt, maskOf-ext}
+use Rattle.bitset.specs.Laws.Bits.{has-high, has-shr, has-maskOf, maskOf-lt, maskOf-ext}
 use Rattle.plan.specs.Lists.{natAt, some}
 use Rattle.plan.specs.Rules.{PlanRules}
 use Rattle.plan.specs.Laws.Counts.{counts-of}

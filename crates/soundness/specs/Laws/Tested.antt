@@ -11,7 +11,8 @@ use mir.Syntax.{w64}
 use mir.Val.{Fits}
 use borrow.Author.Tests.{leb-true}
 use Rattle.integers.specs.Parts.{∣_∣}
-use Rattle.integers.specs.Range.{within, within-true}
+use Rattle.integers.specs.Range.{within}
+use Rattle.integers.specs.Laws.Range.{within-true}
 use Rattle.plan.specs.Format.{M}
 use Rattle.plan.specs.Lists.{natAt, intAt, row, every}
 use Rattle.plan.specs.Rules.{PlanRules}

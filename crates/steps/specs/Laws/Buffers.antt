@@ -7,9 +7,10 @@ use native.Mathlib.Nat.{add-assoc, add-zero}
 use native.Mathlib.Omega.{arith}
 use lib.ListN.{length, take, drop, length-append, length-drop, take-append-drop, drop-of-length-le}
 use lib.Seq.{length-take-le, take-all, take-at, drop-at, drop-drop}
-use Rattle.words.specs.Word.{flat, written}
-use Rattle.words.specs.Flat.{length-flat}
-use Rattle.words.specs.Putting.{behind, back}
+use Rattle.words.specs.Word.{flat}
+use Rattle.words.specs.Putting.{written}
+use Rattle.words.specs.Laws.Flat.{length-flat}
+use Rattle.words.specs.Laws.Putting.{behind, back}
 use Rattle.steps.specs.Events.{putAt}
 
 pub put-none : (b : List ℕ) (at : ℕ) → putAt b at [] ≡ b

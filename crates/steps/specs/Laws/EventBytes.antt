@@ -11,8 +11,8 @@ use lib.ListN.{length}
 use borrow.Author.Tests.{ltb-true, ltb-false}
 use Rattle.integers.specs.Parts.{∣_∣}
 use Rattle.bitset.specs.Mask.{has, maskOf}
-use Rattle.bitset.specs.Bits.{has-high, maskOf-lt, has-maskOf}
-use Rattle.bitset.specs.Counts.{countOf-le}
+use Rattle.bitset.specs.Laws.Bits.{has-high, maskOf-lt, has-maskOf}
+use Rattle.bitset.specs.Laws.Counts.{countOf-le}
 use Rattle.plan.specs.Format.{M}
 use Rattle.plan.specs.Lists.{intAt, joined}
 use Rattle.plan.specs.Rules.{PlanRules}

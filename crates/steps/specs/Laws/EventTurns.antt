@@ -8,7 +8,7 @@ use lib.IntN.{ℤ}
 use lib.Signed.{mag}
 use lib.ListN.{length, length-append}
 use Rattle.bitset.specs.Mask.{has, each, lowestOf, restOf}
-use Rattle.bitset.specs.Visiting.{rest-lt, lowest-lt, has-lowest, has-rest, each-step, each-done}
+use Rattle.bitset.specs.Laws.Visiting.{rest-lt, lowest-lt, has-lowest, has-rest, each-step, each-done}
 use Rattle.plan.specs.Lists.{intAt, joined}
 use Rattle.plan.specs.Laws.Small.{size-mag}
 use Rattle.machine.specs.Instant.{eventBytes}

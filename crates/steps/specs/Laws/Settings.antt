@@ -15,7 +15,7 @@ use lib.Seq.{getD-set-same, getD-set-other}
 use lib.Pow.{pow-pos}
 use borrow.Author.Tests.{eqb-true, eqb-false, eq-eqb, ne-eqb}
 use Rattle.bitset.specs.Mask.{has, maskOf}
-use Rattle.bitset.specs.Bits.{has-none, has-with, with-lt, mask-ext, maskOf-lt, has-maskOf}
+use Rattle.bitset.specs.Laws.Bits.{has-none, has-with, with-lt, mask-ext, maskOf-lt, has-maskOf}
 use Rattle.plan.specs.Lists.{natAt, intAt, some}
 use Rattle.plan.specs.Rules.{PlanRules}
 use Rattle.plan.specs.Unused.{UnusedInt}

@@ -9,7 +9,7 @@ use native.Mathlib.Nat.{eq-or-lt-of-le, le-of-suc-le-suc}
 use native.Mathlib.Omega.{arith}
 use lib.ListN.{length, getD}
 use Rattle.bitset.specs.Mask.{has, maskOf, each}
-use Rattle.bitset.specs.Visiting.{each-ind, each-mask}
+use Rattle.bitset.specs.Laws.Visiting.{each-ind, each-mask}
 use Rattle.plan.specs.Lists.{row}
 use Rattle.plan.specs.Laws.Rows.{row-ext, row-all}
 

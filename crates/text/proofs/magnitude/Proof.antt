@@ -7,7 +7,7 @@ use lib.IntN.{ℤ, pos, negsuc, natAbs, _-ℤ_}
 use lib.Signed.{mag, ltZ}
 use mir.Syntax.{w64}
 use mir.Facts.{toZ-ofZ}
-use Rattle.integers.specs.Signed64.{rd}
+use Rattle.integers.specs.Laws.Signed64.{rd}
 use Rattle.text.specs.Laws.Signs.{below-zero, size-below, from-zero}
 use Rattle.text.proofs.magnitude.Statement.{statement}
 use Rattle.text.proofs.magnitude.Tie as tie

@@ -3,7 +3,7 @@ use mathlib.Core.List.{[], _∷_}
 use Prim.Native.Nat.{_+_, _≤_, _<_}
 use native.Mathlib.Omega.{arith}
 use lib.ListN.{length, length-append}
-use Rattle.words.specs.Putting.{back, length-behind}
+use Rattle.words.specs.Laws.Putting.{back, length-behind}
 use Rattle.text.specs.Decimal.{decimal}
 use Rattle.text.specs.Printed.{PrintedAt}
 use Rattle.text.specs.Laws.Printing.{in-part, then-byte-at, length-at}

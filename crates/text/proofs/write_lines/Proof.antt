@@ -6,8 +6,8 @@ use native.Mathlib.Omega.{arith}
 use lib.ListN.{length}
 use mir.Facts.{toZ-ofZ}
 use borrow.Author.Needs.{needs, sfits-of}
-use Rattle.integers.specs.Signed64.{rd}
-use Rattle.words.specs.Putting.{back, length-behind}
+use Rattle.integers.specs.Laws.Signed64.{rd}
+use Rattle.words.specs.Laws.Putting.{back, length-behind}
 use Rattle.text.specs.Lines.{eventLine, lineAt, linesOf}
 use Rattle.text.specs.Printed.{Printed, PrintedAt}
 use Rattle.text.specs.Laws.Lines.{begun, lines-more, lines-fit, lines-fit-to, line-read}

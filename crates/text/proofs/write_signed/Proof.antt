@@ -6,8 +6,8 @@ use native.Mathlib.Omega.{arith}
 use lib.IntN.{natAbs}
 use lib.ListN.{length, set, length-set}
 use mir.Facts.{toZ-ofZ}
-use Rattle.integers.specs.Signed64.{rd}
-use Rattle.words.specs.Putting.{back, length-behind}
+use Rattle.integers.specs.Laws.Signed64.{rd}
+use Rattle.words.specs.Laws.Putting.{back, length-behind}
 use Rattle.text.specs.Decimal.{minus, decimal, signedDecimal}
 use Rattle.text.specs.Printed.{Printed}
 use Rattle.text.specs.Laws.Signs.{signed-below, signed-from}

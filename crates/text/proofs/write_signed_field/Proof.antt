@@ -5,8 +5,8 @@ use Prim.Native.Nat.{_+_, _≤_, _<_}
 use native.Mathlib.Omega.{arith}
 use lib.ListN.{length, length-append}
 use mir.Facts.{toZ-ofZ}
-use Rattle.integers.specs.Signed64.{rd}
-use Rattle.words.specs.Putting.{back, length-behind}
+use Rattle.integers.specs.Laws.Signed64.{rd}
+use Rattle.words.specs.Laws.Putting.{back, length-behind}
 use Rattle.text.specs.Decimal.{signedDecimal}
 use Rattle.text.specs.Printed.{PrintedAt}
 use Rattle.text.specs.Laws.Printing.{in-part, then-byte-at, length-at}

@@ -11,7 +11,7 @@ use lib.Dec.{ltb}
 use lib.ListN.{length, length-append}
 use borrow.Author.Tests.{ltb-true, ltb-false}
 use Rattle.words.specs.Word.{numberAt, word, signedWord}
-use Rattle.words.specs.Reading.{number-before, number-behind}
+use Rattle.words.specs.Laws.Reading.{number-before, number-behind}
 use Rattle.plan.specs.Lists.{joined}
 use Rattle.plan.specs.Laws.Joined.{joined-split}
 use Rattle.text.specs.Lines.{eventLine, lineAt, linesOf}

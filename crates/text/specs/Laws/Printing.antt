@@ -6,7 +6,7 @@ use native.Mathlib.Numerals.{add-one}
 use native.Mathlib.Omega.{arith}
 use lib.ListN.{length, getD, take, drop, set, length-append, length-drop, drop-of-length-le}
 use lib.Seq.{length-take-le, take-all, take-at, drop-at, drop-drop, drop-cons, set-at, take-suc}
-use Rattle.words.specs.Putting.{behind, back}
+use Rattle.words.specs.Laws.Putting.{behind, back}
 use Rattle.text.specs.Printed.{Printed, PrintedAt}
 
 -- nothing yet

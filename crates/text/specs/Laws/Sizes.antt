@@ -6,8 +6,8 @@ use lib.IntN.{ℤ, pos, negsuc, natAbs}
 use lib.Signed.{mag}
 use lib.ListN.{length, length-append}
 use Rattle.words.specs.Word.{Bytes, word, signedWord}
-use Rattle.words.specs.Reading.{number-lt}
-use Rattle.words.specs.Signs.{signed-mag}
+use Rattle.words.specs.Laws.Reading.{number-lt}
+use Rattle.words.specs.Laws.Signs.{signed-mag}
 use Rattle.plan.specs.Lists.{joined}
 use Rattle.text.specs.Decimal.{decimal, signedDecimal}
 use Rattle.text.specs.Lines.{space, newline, field, endWord, refusedWord, eventLine, endLine, refusalLine, lineAt, linesOf}

@@ -10,8 +10,8 @@ use mir.Syntax.{w64}
 use mir.Val.{SFits}
 use lib.IntN.{_-ℤ_, _*ℤ_}
 use lib.Signed.{leZ}
-use Rattle.integers.specs.Parts.{zs}
-use Rattle.integers.specs.Signed64.{fits-sub, fits-mul, sized}
+use Rattle.integers.specs.Laws.Parts.{zs}
+use Rattle.integers.specs.Laws.Signed64.{fits-sub, fits-mul, sized}
 use Rattle.plan.specs.Format.{M}
 use Rattle.machine.specs.Values.{nodeOf}
 use Rattle.values.proofs.node_value.Statement.{statement}

@@ -3,8 +3,8 @@ use borrow.Author.Needs.{needs}
 use mathlib.Core.Path.{_∙_}
 use mathlib.Core.Bool.{true}
 use native.Mathlib.Omega.{arith}
-use Rattle.bitset.specs.Bits.{maskOf-lt}
-use Rattle.bitset.specs.Visiting.{each-mask}
+use Rattle.bitset.specs.Laws.Bits.{maskOf-lt}
+use Rattle.bitset.specs.Laws.Visiting.{each-mask}
 use Rattle.values.proofs.source_values.Statement.{statement}
 use Rattle.values.proofs.source_values.Tie as tie
 

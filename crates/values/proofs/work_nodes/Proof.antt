@@ -5,7 +5,7 @@ use native.Mathlib.Nat.{lt-of-lt-of-le}
 use native.Mathlib.Omega.{arith}
 use lib.Pow.{pow-mono}
 use Rattle.bitset.specs.Mask.{has, each, lowestOf}
-use Rattle.bitset.specs.Visiting.{rest-lt, lowest-below, each-turn, each-done}
+use Rattle.bitset.specs.Laws.Visiting.{rest-lt, lowest-below, each-turn, each-done}
 use Rattle.values.specs.Sources.{nodeStep, NodesReady}
 use Rattle.values.specs.Laws.NodeSteps.{step-ready}
 use Rattle.values.proofs.work_nodes.Statement.{statement}

@@ -8,7 +8,7 @@ use native.Mathlib.Omega.{arith}
 use lib.IntN.{ℤ}
 use lib.ListN.{length}
 use Rattle.bitset.specs.Mask.{has, maskOf, each}
-use Rattle.bitset.specs.Visiting.{each-mask}
+use Rattle.bitset.specs.Laws.Visiting.{each-mask}
 use Rattle.plan.specs.Lists.{intAt}
 use Rattle.plan.specs.Rules.{PlanRules}
 use Rattle.plan.specs.Laws.Counts.{counts-of}

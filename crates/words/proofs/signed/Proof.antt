@@ -6,7 +6,7 @@ use lib.IntN.{subℕ}
 use mir.Syntax.{w64}
 use mir.Val.{SFits}
 use mir.ValLaws.{toZ-pos, toZ-ofZ}
-use Rattle.words.specs.Signs.{signed-low, signed-high, signed-mag}
+use Rattle.words.specs.Laws.Signs.{signed-low, signed-high, signed-mag}
 use borrow.Author.Needs.{needs}
 use Rattle.words.proofs.signed.Statement.{statement}
 use Rattle.words.proofs.signed.Tie as tie

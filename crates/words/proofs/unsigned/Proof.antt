@@ -7,7 +7,7 @@ use mir.Syntax.{w64}
 use mir.Val.{SFits, toZ, ofZ}
 use mir.ValLaws.{toZ-ofZ}
 use Rattle.words.specs.Word.{wordOf}
-use Rattle.words.specs.Signs.{unsigned-low, unsigned-high, unsigned-lt}
+use Rattle.words.specs.Laws.Signs.{unsigned-low, unsigned-high, unsigned-lt}
 use Rattle.words.proofs.unsigned.Statement.{statement}
 use Rattle.words.proofs.unsigned.Tie as tie
 

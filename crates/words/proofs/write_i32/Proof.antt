@@ -3,7 +3,8 @@ use mathlib.Core.Path.{ap, _∙_}
 use mir.Syntax.{w64}
 use mir.ValLaws.{toZ-ofZ}
 use denote.Ref.{now}
-use Rattle.words.specs.Word.{put, wordOf}
+use Rattle.words.specs.Putting.{put}
+use Rattle.words.specs.Word.{wordOf}
 use borrow.Author.Needs.{needs}
 use Rattle.words.proofs.write_i32.Statement.{statement}
 use Rattle.words.proofs.write_i32.Tie as tie

@@ -1,7 +1,7 @@
 -- The words of the entry are put one behind the other.
 use denote.Ref.{now}
 use borrow.Author.Needs.{needs}
-use Rattle.words.specs.Putting.{begin, more, more-signed}
+use Rattle.words.specs.Laws.Putting.{begin, more, more-signed}
 use Rattle.words.proofs.write_triple.Statement.{statement}
 use Rattle.words.proofs.write_triple.Tie as tie
 

@@ -4,7 +4,7 @@ use native.Mathlib.Omega.{arith}
 use lib.ListN.{length-set}
 use denote.Ref.{now}
 use Rattle.words.specs.Word.{bytesOf}
-use Rattle.words.specs.Writing.{sets-put}
+use Rattle.words.specs.Laws.Writing.{sets-put}
 use borrow.Author.Needs.{needs}
 use Rattle.words.proofs.write_u32.Statement.{statement}
 use Rattle.words.proofs.write_u32.Tie as tie

@@ -14,9 +14,9 @@ use mir.Syntax.{w64}
 use mir.Val.{hbits}
 use mir.Facts.{toZ-ofZ}
 use Rattle.integers.specs.Range.{within}
-use Rattle.integers.specs.Signed64.{rd}
+use Rattle.integers.specs.Laws.Signed64.{rd}
 use Rattle.bitset.specs.Mask.{lowestOf}
-use Rattle.bitset.specs.Visiting.{rest-lt}
+use Rattle.bitset.specs.Laws.Visiting.{rest-lt}
 use Rattle.plan.specs.Format.{M}
 use Rattle.plan.specs.Lists.{intAt, firstFrom}
 use Rattle.dynamics.specs.Standing.{barsIn, DueReach}

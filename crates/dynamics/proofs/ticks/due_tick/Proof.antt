@@ -7,7 +7,7 @@ use lib.Signed.{ltZ}
 use mir.Syntax.{w64}
 use mir.Val.{SFits}
 use mir.Facts.{toZ-ofZ}
-use Rattle.integers.specs.Signed64.{rd}
+use Rattle.integers.specs.Laws.Signed64.{rd}
 use Rattle.dynamics.specs.Laws.Arithmetic.{upper-fits, lower-fits, rise-fits, fall-fits, speed-fits, rise-ready, fall-ready}
 use Rattle.dynamics.specs.Laws.Arithmetic.{due-rise, due-fall, due-never}
 use Rattle.dynamics.proofs.ticks.due_tick.Statement.{statement}

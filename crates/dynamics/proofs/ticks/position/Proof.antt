@@ -7,7 +7,7 @@ use lib.IntN.{pos, _+ℤ_, _*ℤ_}
 use mir.Syntax.{w64}
 use mir.Val.{SFits, toZ}
 use mir.Facts.{toZ-ofZ, toZ-pos}
-use Rattle.integers.specs.Signed64.{rd}
+use Rattle.integers.specs.Laws.Signed64.{rd}
 use Rattle.dynamics.specs.Laws.Arithmetic.{move-fits, position-fits}
 use Rattle.dynamics.proofs.ticks.position.Statement.{statement}
 use Rattle.dynamics.proofs.ticks.position.Tie as tie

@@ -1,6 +1,6 @@
 -- Tick and mask are the definition's, so the status is asked and told of them.
 use borrow.Author.Needs.{needs}
-use Rattle.bitset.specs.Bits.{maskOf-lt}
+use Rattle.bitset.specs.Laws.Bits.{maskOf-lt}
 use Rattle.machine.specs.Reach.{isDue}
 use Rattle.engine.specs.Ahead.{tickAhead, dueAhead, aheadOf}
 use Rattle.engine.proofs.ahead.look_ahead.Statement.{statement}

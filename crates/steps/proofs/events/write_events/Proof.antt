@@ -4,9 +4,9 @@ use mathlib.Core.List.{[], _∷_}
 use Prim.Native.Nat.{_<_}
 use native.Mathlib.Omega.{arith}
 use borrow.Author.Needs.{needs}
-use Rattle.bitset.specs.Visiting.{rest-lt}
+use Rattle.bitset.specs.Laws.Visiting.{rest-lt}
 use Rattle.words.specs.Word.{wordOf}
-use Rattle.words.specs.Putting.{rd32, length-behind}
+use Rattle.words.specs.Laws.Putting.{rd32, length-behind}
 use Rattle.plan.specs.Lists.{intAt}
 use Rattle.machine.specs.Instant.{eventBytes}
 use Rattle.steps.specs.Laws.Buffers.{put-back}

@@ -7,9 +7,9 @@ use denote.Ref.{now}
 use mir.Syntax.{w64}
 use mir.Val.{SFits}
 use mir.Facts.{toZ-ofZ}
-use Rattle.integers.specs.Signed64.{rd}
+use Rattle.integers.specs.Laws.Signed64.{rd}
 use Rattle.bitset.specs.Mask.{has, each}
-use Rattle.bitset.specs.Visiting.{rest-lt, lowest-lt, each-turn, each-done}
+use Rattle.bitset.specs.Laws.Visiting.{rest-lt, lowest-lt, each-turn, each-done}
 use Rattle.plan.specs.Lists.{intAt}
 use Rattle.dynamics.specs.Standing.{DueReach}
 use Rattle.dynamics.specs.Laws.Barring.{valueAt, reach-lowest, reach-rest}

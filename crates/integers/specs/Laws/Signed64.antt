@@ -1,4 +1,4 @@
--- Signed 64-bit locals. A local holds an integer's bits, so a need shows an operand as the bits read back, `rd z`, which is z where z fits.
+-- Laws: signed 64-bit locals. A local holds an integer's bits, so a need shows an operand as the bits read back, `rd z`, which is z where z fits.
 use lib.IntN.{ℤ, pos, negsuc, natAbs, _+ℤ_, _-ℤ_, _*ℤ_}
 use lib.Signed.{nonNeg}
 use lib.Dec.{T, ltb, ltb→lt, nltb→le}
@@ -9,8 +9,9 @@ use native.Mathlib.Omega.{arith}
 use mir.Syntax.{w64}
 use mir.Val.{SFits, Fits, toZ, ofZ, sel}
 use mir.Facts.{toZ-ofZ, fits-natAbs}
-use Rattle.integers.specs.Parts.{up, dn, ∣_∣, nonNeg-g, zs}
-use Rattle.integers.specs.Order.{size-add, size-sub, size-mul}
+use Rattle.integers.specs.Parts.{up, dn, ∣_∣}
+use Rattle.integers.specs.Laws.Parts.{nonNeg-g, zs}
+use Rattle.integers.specs.Laws.Order.{size-add, size-sub, size-mul}
 
 -- ---- reading a local
 abbrev pub rd : ℤ → ℤ

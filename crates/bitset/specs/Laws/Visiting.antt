@@ -1,4 +1,4 @@
--- Visiting by lowest and rest: the lowest of a mask is in it and none below it is, the rest has all but the lowest, and so a loop that
+-- Laws: visiting by lowest and rest. The lowest of a mask is in it and none below it is, the rest has all but the lowest, and so a loop that
 -- takes the lowest each time is the loop with a test over all numbers below the width. Assumes nothing.
 use mathlib.Core.Path.{_≡_, refl, sym, ap, _∙_}
 use mathlib.Core.Bool.{Bool, true, false, cond, _&&_, not, and-true, and-false, true≢false}
@@ -13,7 +13,7 @@ use lib.Bits.{and-step, and-self, and-le-r}
 use lib.Count.{trailingZeros, trailing-le}
 use borrow.Author.Tests.{ltb-true, ltb-false, eq-eqb, ne-eqb}
 use Rattle.bitset.specs.Mask.{has, maskOf, each, lowestOf, restOf}
-use Rattle.bitset.specs.Bits.{parity, has-none, has-zero, has-suc, has-high, has-maskOf, maskOf-lt}
+use Rattle.bitset.specs.Laws.Bits.{parity, has-none, has-zero, has-suc, has-high, has-maskOf, maskOf-lt}
 
 -- ---- by the lowest digit
 

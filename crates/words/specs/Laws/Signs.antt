@@ -1,4 +1,4 @@
--- Laws of two's complement, for every width of w bytes, or for every width from 1 on.
+-- Laws: two's complement, for every width of w bytes, or for every width from 1 on.
 use Prim.Native.Nat.{ℕ, zero, suc, _+_, _-_, _*_, _^_, _≤_, _<_}
 use native.Mathlib.Nat.{pow-suc}
 use native.Mathlib.Omega.{arith}

@@ -1,5 +1,5 @@
--- Laws of single bits: of no bit, one bit, `|`, `&`, an added bit, shifts, two masks as one, and of the mask that a test makes. Two masks
--- of one width with the same bits are equal. Assumes nothing.
+-- Laws: no bit, one bit, `|`, `&`, an added bit, shifts, two masks as one, and the mask that a test makes, bit by bit. Two masks of one
+-- width with the same bits are equal. Assumes nothing.
 use mathlib.Core.Path.{_≡_, refl, sym, ap, _∙_}
 use mathlib.Core.Bool.{Bool, true, false, cond, _&&_, _||_, or-true, or-false, true≢false, false≢true}
 use mathlib.Core.Logic.{_⊎_, inl, inr, ⊎-elim}

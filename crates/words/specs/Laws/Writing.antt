@@ -1,4 +1,4 @@
--- Laws of numbers that are put into a list of bytes, for every width w.
+-- Laws: numbers that are put into a list of bytes, for every width w.
 use Prim.Native.Nat.{ℕ, _+_, _-_, _^_, _≤_, _<_}
 use native.Mathlib.Omega.{arith}
 use mathlib.Core.Path.{_≡_, sym, ap, _∙_}
@@ -6,9 +6,10 @@ use mathlib.Core.Logic.{_⊎_, inl, inr, ⊎-elim}
 use mathlib.Core.List.{List, _++_, append-assoc}
 use lib.ListN.{length, getD, take, drop, length-append, length-drop, take-append-drop}
 use lib.Seq.{sets, sets-eq, length-take-le, getD-take, getD-drop, drop-drop, take-at, drop-at}
-use Rattle.words.specs.Word.{Bytes, numberAt, bytesOf, put}
-use Rattle.words.specs.Reading.{number-ext, number-behind, number-bytes, length-bytes, bytes-number}
-use Rattle.words.specs.Reading.{bytes-append, bytes-take, bytes-drop, bytes-bytes}
+use Rattle.words.specs.Word.{Bytes, numberAt, bytesOf}
+use Rattle.words.specs.Putting.{put}
+use Rattle.words.specs.Laws.Reading.{number-ext, number-behind, number-bytes, length-bytes, bytes-number}
+use Rattle.words.specs.Laws.Reading.{bytes-append, bytes-take, bytes-drop, bytes-bytes}
 
 -- ---- two lists that agree up to a place, or from a place on
 module _ (s t : List ℕ) (n : ℕ) where

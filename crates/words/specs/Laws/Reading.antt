@@ -1,4 +1,4 @@
--- Laws of numbers that are read, and of the bytes of a number, for every width w.
+-- Laws: numbers that are read, and the bytes of a number, for every width w.
 use Prim.Native.Nat.{ℕ, zero, suc, _+_, _*_, _/_, _%_, _^_, _≤_, _<_}
 use native.Mathlib.Nat.{add-suc, suc-add, add-zero, add-assoc, pow-suc}
 use native.Mathlib.Omega.{arith}

@@ -1,4 +1,4 @@
--- The order and the ring of the integers, as far as the library leaves them out. `lib.Signed` has ≤ℤ-refl, <ℤ-≤ℤ-trans, <ℤ-irrefl and
+-- Laws: the order and the ring of the integers, as far as the library leaves them out. `lib.Signed` has ≤ℤ-refl, <ℤ-≤ℤ-trans, <ℤ-irrefl and
 -- clashℤ; `lib.IntN` has +ℤ-assoc, +ℤ-comm, *ℤ-comm, the units, the inverses and the cancellations.
 use lib.IntN.{ℤ, pos, _+ℤ_, _-ℤ_, _*ℤ_}
 use lib.Signed.{ltZ, leZ, _≤ℤ_, _<ℤ_}
@@ -8,7 +8,8 @@ use mathlib.Core.Path.{_≡_, refl}
 use Prim.Native.Nat.{ℕ, _+_, _*_, _≤_, _<_}
 use native.Mathlib.Omega.{arith}
 use native.Mathlib.Nat.{mul-le-mul, mul-le-mul-left, mul-lt-mul-of-pos-left}
-use Rattle.integers.specs.Parts.{∣_∣, sum, dif, prod, mult, times, self, le-h, lt-h, zs}
+use Rattle.integers.specs.Parts.{∣_∣}
+use Rattle.integers.specs.Laws.Parts.{sum, dif, prod, mult, times, self, le-h, lt-h, zs}
 
 -- ---- the order
 pub ≤ℤ-trans : {x y z : ℤ} → x ≤ℤ y → y ≤ℤ z → x ≤ℤ z

@@ -1,4 +1,4 @@
--- Laws of 32-bit words that stand one behind the other, and of a list whose first bytes are replaced by those of words.
+-- Laws: 32-bit words that stand one behind the other, and a list whose first bytes are replaced by those of words.
 use Prim.Native.Nat.{ℕ, zero, suc, _+_, _-_, _*_, _^_, _≤_, _<_}
 use native.Mathlib.Nat.{add-zero}
 use native.Mathlib.Omega.{arith}
@@ -6,10 +6,11 @@ use mathlib.Core.Path.{_≡_, refl, sym, _∙_}
 use mathlib.Core.List.{List, [], _∷_, _++_, append-assoc, append-nil}
 use lib.ListN.{length, getD, take, drop, length-append, length-drop, drop-of-length-le}
 use lib.Seq.{take-all, take-add, take-at, drop-at, drop-drop}
-use Rattle.words.specs.Word.{Bytes, numberAt, bytesOf, put, word, flat, written}
-use Rattle.words.specs.Reading.{number-ext, number-behind, number-before, number-bytes, length-bytes, bytes-number}
-use Rattle.words.specs.Reading.{bytes-append, bytes-drop, bytes-bytes}
-use Rattle.words.specs.Writing.{getD-rest}
+use Rattle.words.specs.Word.{Bytes, numberAt, bytesOf, word, flat}
+use Rattle.words.specs.Putting.{put, written}
+use Rattle.words.specs.Laws.Reading.{number-ext, number-behind, number-before, number-bytes, length-bytes, bytes-number}
+use Rattle.words.specs.Laws.Reading.{bytes-append, bytes-drop, bytes-bytes}
+use Rattle.words.specs.Laws.Writing.{getD-rest}
 
 -- ---- words one behind the other
 pub length-flat : (ws : List ℕ) → length (flat ws) ≡ 4 * length ws
