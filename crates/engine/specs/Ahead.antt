@@ -9,7 +9,7 @@ use Rattle.plan.specs.Lists.{natAt, firstFrom}
 use Rattle.machine.specs.Due.{never}
 use Rattle.machine.specs.Next.{leastDue}
 use Rattle.machine.specs.Reach.{isDue}
-use Rattle.dynamics.specs.Standing.{barsIn, standingOf, DueReach}
+use Rattle.timing.specs.Standing.{barsIn, standingOf, DueReach}
 use Rattle.engine.specs.declared.ahead.Ahead.{Ahead}
 
 module _ (n commands next : ℕ) (ticks : List ℕ) (x s : List ℤ) (l d : List ℕ) where

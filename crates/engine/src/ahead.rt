@@ -2,10 +2,10 @@
 ghost use mathlib.Core.Path.{_≡_};
 ghost use Rattle.engine.specs.Ahead.{aheadOf, AheadReady};
 use bitset::equal_to;
-use dynamics::next_tick;
-use dynamics::standing_at;
 use plan::COMMANDS;
 use plan::INTEGRATORS;
+use timing::next_tick;
+use timing::standing_at;
 
 pub struct Ahead {
     pub tick: u32,

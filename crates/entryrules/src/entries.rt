@@ -156,7 +156,11 @@ pub fn link_ordered<'a>(targets: &'a [usize; LINKS], sources: &'a [usize; LINKS]
 }
 
 // "Strictly ascending by tick, then input": command e stands above its predecessor.
-pub fn command_ordered<'a>(ticks: &'a [u32; COMMANDS], inputs: &'a [usize; COMMANDS], e: usize) -> bool
+pub fn command_ordered<'a>(
+    ticks: &'a [u32; COMMANDS],
+    inputs: &'a [usize; COMMANDS],
+    e: usize,
+) -> bool
     requires { ⌜ e < 64 ⌝ }
     ensures { λ r. ⌜ r ≡ follows (now (ticks .entry)) (now (inputs .entry)) e ⌝ }
 {

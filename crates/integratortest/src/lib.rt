@@ -3,8 +3,8 @@ ghost use mathlib.Core.Path.{_≡_};
 ghost use Prim.Native.Nat.{_≤_};
 ghost use Rattle.plan.specs.Lists.{natAt, intAt, every};
 ghost use Rattle.integratortest.specs.Figures.{figuresSound, FiguresReady, AllReady};
-use dynamics::due_tick;
 use plan::INTEGRATORS;
+use timing::due_tick;
 
 // "l ≤ c < d; .. |x−q| < D; s and d keep Rate and Due", of one integrator whose links make `rate`. x may be any number of 64 bits, so it is compared with
 // the levels and nothing is taken from it.

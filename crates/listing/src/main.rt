@@ -1,10 +1,10 @@
-// "The listing program reads at most 4,493 bytes of standard input": what is read goes to `listings`, and the text of each turn to standard output.
+// "The listing program reads at most 4,493 bytes of standard input": what is read goes to `listingturns`, and the text of each turn to standard output.
 ghost use mathlib.Core.Path.{_≡_};
 ghost use lib.ListN.{length};
 use libc::STDIN_FILENO;
 use libc::STDOUT_FILENO;
-use listings::begin;
-use listings::take_turn;
+use listingturns::begin;
+use listingturns::take_turn;
 
 // The bytes that are read: one more than the longest file that is accepted.
 fn file_space() -> [u8; 4493]

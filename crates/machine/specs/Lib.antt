@@ -1,4 +1,4 @@
--- "The machine" of document 01, step by step; the plain machine; sound states; and what is proved of them. Its worked examples are in the crate `examples`.
+-- "The machine" of document 01, step by step; the plain machine; sound states; and what is proved of them. Its worked examples are in the crate `workedexamples`.
 pub mod Values
 pub mod Due
 pub mod Next

@@ -9,7 +9,7 @@ use Rattle.bitset.specs.Mask.{has}
 use Rattle.plan.specs.Lists.{natAt, intAt}
 use Rattle.machine.specs.Due.{dueTick}
 use Rattle.rates.specs.Links.{rangeRate, Rated}
-use Rattle.dynamics.specs.Ticks.{DueReady, PositionReady}
+use Rattle.timing.specs.Ticks.{DueReady, PositionReady}
 
 -- positions, slopes, last-moved ticks and due ticks
 pub record Motion : Type 0 where

@@ -4,13 +4,13 @@ ghost use Rattle.bitset.specs.Mask.{has, each};
 ghost use Rattle.moves.specs.Motion.{moving, moveOne, Movable, AllMovable};
 use bitset::lowest;
 use bitset::rest;
-use dynamics::due_tick;
-use dynamics::position;
 use plan::INTEGRATORS;
 use plan::LINKS;
 use plan::SOURCES;
 use rates::RANGES;
 use rates::rate;
+use timing::due_tick;
+use timing::position;
 
 // `values` holds the outputs and inputs as they are after all commands and simultaneous outputs, and the nodes worked out from them. An integrator that was
 // reached but not due keeps its output: it stands in `values`, and q is not lent here.

@@ -1,5 +1,5 @@
 -- The plan file of document 01: its format, its rules as tests and as propositions, the refusals 1 to 9, the section view, the encoding,
--- where each number stands, and what is proved of these. Their worked examples stand in the crate `examples`.
+-- where each number stands, and what is proved of these. Their worked examples stand in the crate `workedexamples`.
 pub mod Lists
 pub mod Format
 pub mod Tests

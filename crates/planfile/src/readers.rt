@@ -14,7 +14,12 @@ use words::read_i32;
 use words::read_u32;
 
 // "8 bytes: signed start ..; quantum"
-pub fn read_integrators(part: &[u8], n: usize, starts: &mut [i64; INTEGRATORS], quanta: &mut [i64; INTEGRATORS])
+pub fn read_integrators(
+    part: &[u8],
+    n: usize,
+    starts: &mut [i64; INTEGRATORS],
+    quanta: &mut [i64; INTEGRATORS],
+)
     requires { ⌜ (n ≤ 32) × (8 * n ≤ length (now part)) ⌝ }
     requires { ⌜ (now starts ≡ replicate 32 (pos 0)) × (now quanta ≡ replicate 32 (pos 0)) ⌝ }
     ensures { λ _. ⌜ now (starts .exit) ≡ signedsOf 32 8 n (now (part .entry)) 0 ⌝ }

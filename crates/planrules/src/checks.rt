@@ -35,7 +35,11 @@ fn check_horizon(horizon: u32) -> Finding
     }
 }
 
-fn check_integrators<'a>(n: usize, starts: &'a [i64; INTEGRATORS], quanta: &'a [i64; INTEGRATORS]) -> Finding
+fn check_integrators<'a>(
+    n: usize,
+    starts: &'a [i64; INTEGRATORS],
+    quanta: &'a [i64; INTEGRATORS],
+) -> Finding
     requires { ⌜ n ≤ 32 ⌝ }
     ensures { λ r. ⌜ r ≡ integratorsCheck n (now (starts .entry)) (now (quanta .entry)) ⌝ }
 {
@@ -200,14 +204,27 @@ pub fn check_plan(p: Plan) -> Finding
     let Finding::Clean = found else {
         return found;
     };
-    check_commands(p.horizon, m, p.counts.commands, &p.commands.ticks, &p.commands.inputs, &p.commands.values)
+    check_commands(
+        p.horizon,
+        m,
+        p.counts.commands,
+        &p.commands.ticks,
+        &p.commands.inputs,
+        &p.commands.values,
+    )
 }
 
 // Whether a plan that comes in no file keeps the counts' limits and the rules 4 to 9. It asks nothing of the plan: the counts are tested first.
 pub fn plan_kept(p: Plan) -> bool
     ensures { λ r. ⌜ r ≡ (countsKept p && isClean (planFinding p)) ⌝ }
 {
-    let counts = [p.counts.n, p.counts.m, p.counts.k, p.counts.links, p.counts.commands];
+    let counts = [
+        p.counts.n,
+        p.counts.m,
+        p.counts.k,
+        p.counts.links,
+        p.counts.commands,
+    ];
     if !counts_kept(&counts) {
         return false;
     }

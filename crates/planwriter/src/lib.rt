@@ -81,14 +81,25 @@ pub fn write_plan(p: Plan, buf: &mut [u8]) -> usize
     requires { ⌜ PlanRules p ⌝ }
     ensures { λ r. ⌜ (r ≡ writtenLength p (length (now (buf .entry)))) × (now (buf .exit) ≡ writtenBuffer p (now (buf .entry))) ⌝ }
 {
-    let counts = [p.counts.n, p.counts.m, p.counts.k, p.counts.links, p.counts.commands];
+    let counts = [
+        p.counts.n,
+        p.counts.m,
+        p.counts.k,
+        p.counts.links,
+        p.counts.commands,
+    ];
     let length = section_offset(&counts, SECTIONS);
     if buf.len() < length {
         return 0;
     }
     write_header(buf, p.horizon, &counts);
     let integrators = section_offset(&counts, 0);
-    write_integrators(&mut buf[integrators..], p.counts.n, &p.integrators.starts, &p.integrators.quanta);
+    write_integrators(
+        &mut buf[integrators..],
+        p.counts.n,
+        &p.integrators.starts,
+        &p.integrators.quanta,
+    );
     let inputs = section_offset(&counts, 1);
     write_inputs(&mut buf[inputs..], p.counts.m, &p.inputs.firsts);
     let nodes = section_offset(&counts, 2);

@@ -12,7 +12,11 @@ use plan::NODES;
 use plan::SOURCES;
 
 // "a link of its own names" a source: each link's target goes into the entry of its source.
-fn link_entries<'a>(links: usize, targets: &'a [usize; LINKS], sources: &'a [usize; LINKS]) -> [u64; SOURCES]
+fn link_entries<'a>(
+    links: usize,
+    targets: &'a [usize; LINKS],
+    sources: &'a [usize; LINKS],
+) -> [u64; SOURCES]
     requires { ⌜ Linked (now targets) (now sources) links ⌝ }
     ensures { λ r. ⌜ r ≡ linked (now (targets .entry)) (now (sources .entry)) links ⌝ }
 {

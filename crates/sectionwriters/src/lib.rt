@@ -48,7 +48,12 @@ fn write_node(buf: &mut [u8], kind: usize, a: usize, b: usize, lo: i64, hi: i64)
 }
 
 // The section of the integrators.
-pub fn write_integrators<'a>(buf: &mut [u8], n: usize, starts: &'a [i64; INTEGRATORS], quanta: &'a [i64; INTEGRATORS])
+pub fn write_integrators<'a>(
+    buf: &mut [u8],
+    n: usize,
+    starts: &'a [i64; INTEGRATORS],
+    quanta: &'a [i64; INTEGRATORS],
+)
     requires { ⌜ (8 * n ≤ length (now buf)) × (n ≤ 32) × Signed32 n (now starts) × Signed32 n (now quanta) ⌝ }
     ensures { λ _. ⌜ now (buf .exit) ≡ written (joined (integratorEntry (now (starts .entry)) (now (quanta .entry))) n) (now (buf .entry)) ⌝ }
 {
@@ -88,14 +93,7 @@ pub fn write_nodes<'a>(
 {
     let mut j = 0;
     while j < k {
-        write_node(
-            &mut buf[20 * j..],
-            kinds[j],
-            a[j],
-            b[j],
-            lows[j],
-            highs[j],
-        );
+        write_node(&mut buf[20 * j..], kinds[j], a[j], b[j], lows[j], highs[j]);
         j += 1;
     }
 }

@@ -22,8 +22,8 @@ use Rattle.machine.specs.declared.State.{State}
 use Rattle.machine.specs.Instant.{positionAt}
 use Rattle.machine.specs.Runs.{events, positionOf}
 use Rattle.machine.specs.declared.Engine.{Engine}
-use Rattle.dynamics.specs.Ticks.{PositionReady}
-use Rattle.dynamics.specs.Laws.Standings.{ready-at}
+use Rattle.timing.specs.Ticks.{PositionReady}
+use Rattle.timing.specs.Laws.Standings.{ready-at}
 use Rattle.steps.specs.Events.{putAt}
 use Rattle.engine.specs.Running.{endedOf, RunReady}
 use Rattle.engine.specs.declared.runs.Ended.{Ended}

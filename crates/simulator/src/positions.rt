@@ -24,7 +24,12 @@ pub fn position(state: State, integrator: usize) -> Positioned
         };
     }
     let r = state.run;
-    let value = dynamics::position(r.x[integrator], r.s[integrator], r.l[integrator], r.clocks.clock);
+    let value = timing::position(
+        r.x[integrator],
+        r.s[integrator],
+        r.l[integrator],
+        r.clocks.clock,
+    );
     Positioned {
         number: 0,
         value,

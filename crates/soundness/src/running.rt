@@ -7,13 +7,13 @@ ghost use Rattle.plan.specs.Format.{M};
 ghost use Rattle.plan.specs.Lists.{intAt, every};
 ghost use Rattle.plan.specs.Rules.{PlanRules};
 ghost use Rattle.machine.specs.SoundTest.{runningSound};
-use dynamics::next_command;
 use entryrules::value_kept;
 use integratortest::integrators_sound;
 use machine::Running;
 use plan::Plan;
 use rates::link_ranges;
 use rates::rates;
+use timing::next_command;
 use unused::figures_unused;
 use values::source_values;
 
@@ -63,7 +63,17 @@ pub fn running_sound(p: Plan, r: Running) -> bool
     );
     let ranges = link_ranges(n, p.counts.links, &p.links.targets);
     let slopes = rates(n, &ranges, &p.links.sources, &p.links.coefficients, &values);
-    if !integrators_sound(n, clock, &p.integrators.quanta, &slopes, &r.x, &r.q, &r.s, &r.l, &r.d) {
+    if !integrators_sound(
+        n,
+        clock,
+        &p.integrators.quanta,
+        &slopes,
+        &r.x,
+        &r.q,
+        &r.s,
+        &r.l,
+        &r.d,
+    ) {
         return false;
     }
     if r.clocks.next != next_command(p.counts.commands, &p.commands.ticks, clock) {

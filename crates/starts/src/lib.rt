@@ -1,4 +1,4 @@
-// "Start: x = q = start, l = c = 0, slopes and dues by rule, counts 0." The parts come from `values`, `rates` and `dynamics`.
+// "Start: x = q = start, l = c = 0, slopes and dues by rule, counts 0." The parts come from `values`, `rates` and `timing`.
 ghost use mathlib.Core.Path.{_≡_};
 ghost use Prim.Native.Nat.{_≤_};
 ghost use lib.IntN.{_+ℤ_, _-ℤ_};
@@ -7,14 +7,14 @@ ghost use Rattle.plan.specs.Lists.{intAt, row};
 ghost use Rattle.machine.specs.Due.{dueTick};
 ghost use Rattle.machine.specs.Start.{startOf};
 ghost use Rattle.starts.specs.Starting.{StartsReady};
-use dynamics::due_tick;
-use dynamics::next_command;
 use machine::Clocks;
 use machine::Running;
 use plan::INTEGRATORS;
 use plan::Plan;
 use rates::link_ranges;
 use rates::rates;
+use timing::due_tick;
+use timing::next_command;
 use values::source_values;
 
 // The due tick of each integrator at its start.
@@ -58,7 +58,13 @@ pub fn start(plan: Plan) -> Running
         &plan.nodes.highs,
     );
     let ranges = link_ranges(n, plan.counts.links, &plan.links.targets);
-    let s = rates(n, &ranges, &plan.links.sources, &plan.links.coefficients, &values);
+    let s = rates(
+        n,
+        &ranges,
+        &plan.links.sources,
+        &plan.links.coefficients,
+        &values,
+    );
     let d = first_dues(n, &plan.integrators.starts, &plan.integrators.quanta, &s);
     let next = next_command(plan.counts.commands, &plan.commands.ticks, 0);
     let x = plan.integrators.starts;

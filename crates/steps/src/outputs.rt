@@ -1,13 +1,13 @@
 // 1. "The due integrators (d = t) take q = x+s×(t−l)."
 ghost use mathlib.Core.Path.{_≡_};
 ghost use Rattle.bitset.specs.Mask.{has, each};
-ghost use Rattle.dynamics.specs.Standing.{DueReach};
+ghost use Rattle.timing.specs.Standing.{DueReach};
 ghost use Rattle.steps.specs.Outputs.{outputting, outputOne};
 use bitset::lowest;
 use bitset::rest;
-use dynamics::position;
 use plan::INTEGRATORS;
 use plan::SOURCES;
+use timing::position;
 
 // An output stands in q, and in `values` at its source number, which is the integrator's.
 pub fn set_outputs<'a>(

@@ -90,7 +90,12 @@ pub fn work_nodes<'a>(
 }
 
 // The outputs at 0 to n−1 and the input values at n to n+m−1, and 0 from there on.
-fn first_values<'a>(n: usize, m: usize, q: &'a [i64; INTEGRATORS], inputs: &'a [i64; INPUTS]) -> [i64; SOURCES]
+fn first_values<'a>(
+    n: usize,
+    m: usize,
+    q: &'a [i64; INTEGRATORS],
+    inputs: &'a [i64; INPUTS],
+) -> [i64; SOURCES]
     requires { ⌜ (n ≤ 32) × (m ≤ 8) ⌝ }
     ensures { λ r. ⌜ r ≡ firstValues n m (now (q .entry)) (now (inputs .entry)) ⌝ }
 {
@@ -127,16 +132,6 @@ pub fn source_values<'a>(
         (now (highs .entry)) (n + m)) (λ _. true) k (firstValues n m (now (q .entry)) (now (inputs .entry))) ⌝ }
 {
     let mut values = first_values(n, m, q, inputs);
-    work_nodes(
-        all(k),
-        k,
-        n + m,
-        kinds,
-        a,
-        b,
-        lows,
-        highs,
-        &mut values,
-    );
+    work_nodes(all(k), k, n + m, kinds, a, b, lows, highs, &mut values);
     values
 }

@@ -9,7 +9,7 @@ use Rattle.machine.specs.Instant.{tickOf}
 use Rattle.machine.specs.Status.{statusOf, integratorOf}
 use Rattle.machine.specs.Sound.{SoundRunning}
 use Rattle.machine.specs.declared.Running.{Running}
-use Rattle.dynamics.specs.Laws.Standings.{due-reach, standing-by-mask}
+use Rattle.timing.specs.Laws.Standings.{due-reach, standing-by-mask}
 use Rattle.engine.specs.Ahead.{tickAhead, dueAhead, aheadOf, AheadReady}
 
 module _ (p : Plan) (r : Running) where

@@ -39,8 +39,8 @@ use Rattle.machine.specs.declared.Engine.the-variants.{Lazy, Eager}
 use Rattle.values.specs.Sources.{valuesOf, nodeStep, NodesReady}
 use Rattle.values.specs.Laws.SourceValues.{nodes-ready, values-length, values-at, values-sized}
 use Rattle.values.specs.Laws.Touched as touched
-use Rattle.dynamics.specs.Standing.{DueReach}
-use Rattle.dynamics.specs.Laws.Standings.{due-reach}
+use Rattle.timing.specs.Standing.{DueReach}
+use Rattle.timing.specs.Laws.Standings.{due-reach}
 use Rattle.reach.specs.Table.{entriesOf}
 use Rattle.reach.specs.Laws.Reached as reaching
 use Rattle.steps.specs.Commands.{obeying, obeyFrom, CommandsReady}

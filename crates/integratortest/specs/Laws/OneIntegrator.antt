@@ -19,7 +19,7 @@ use Rattle.integers.specs.Laws.Signed64.{rd, same-bits}
 use Rattle.plan.specs.Lists.{every}
 use Rattle.plan.specs.Laws.Means.{Means, zero-means, means-false}
 use Rattle.machine.specs.Due.{dueTick}
-use Rattle.dynamics.specs.Ticks.{DueReady}
+use Rattle.timing.specs.Ticks.{DueReady}
 use Rattle.integratortest.specs.Figures.{figuresSound, FiguresReady}
 use Rattle.unused.specs.Laws.Chain.{passes}
 

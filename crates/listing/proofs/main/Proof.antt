@@ -6,7 +6,7 @@ use lib.ListN.{length}
 use lib.Seq.{length-take-le}
 use borrow.Author.Needs.{needs}
 use borrow.Author.Tests.{not-false}
-use Rattle.listings.specs.Laws.Loop.{Ready, first-ready, turn-ready, ticksLeft, ticks-fall}
+use Rattle.listingturns.specs.Laws.Loop.{Ready, first-ready, turn-ready, ticksLeft, ticks-fall}
 use Rattle.listing.proofs.main.Statement.{statement}
 use Rattle.listing.proofs.main.Tie as tie
 

@@ -23,7 +23,7 @@ use Rattle.values.specs.Sources.{valuesOf, firstValues, nodeStep, NodesReady}
 use Rattle.values.specs.Laws.SourceValues.{nodes-ready, first-sized, values-at, values-sized, all-nodes}
 use Rattle.rates.specs.Links.{firstLink, rangesOf, rangeRate, AllRated}
 use Rattle.rates.specs.Laws.OwnRange.{own-rated, own-rates}
-use Rattle.dynamics.specs.Laws.Dues.{due-ready-start, due-is-start}
+use Rattle.timing.specs.Laws.Dues.{due-ready-start, due-is-start}
 use Rattle.starts.specs.Starting.{StartsReady}
 
 -- an array of zeros, however many entries are used

@@ -11,8 +11,8 @@ use Rattle.integers.specs.Laws.Signed64.{rd}
 use Rattle.bitset.specs.Mask.{has, each}
 use Rattle.bitset.specs.Laws.Visiting.{rest-lt, lowest-lt, each-turn, each-done}
 use Rattle.plan.specs.Lists.{intAt}
-use Rattle.dynamics.specs.Standing.{DueReach}
-use Rattle.dynamics.specs.Laws.Barring.{valueAt, reach-lowest, reach-rest}
+use Rattle.timing.specs.Standing.{DueReach}
+use Rattle.timing.specs.Laws.Barring.{valueAt, reach-lowest, reach-rest}
 use Rattle.steps.specs.Outputs.{outputting, outputOne}
 use Rattle.steps.proofs.outputs.set_outputs.Statement.{statement}
 use Rattle.steps.proofs.outputs.set_outputs.Tie as tie

@@ -1,0 +1,73 @@
+-- A refused file leaves the buffer; an accepted one has a plan that keeps the rules, and 0 bytes written mean a short buffer.
+use mathlib.Core.Path.{_≡_, ap, _∙_}
+use mathlib.Core.Bool.{true}
+use denote.Ref.{now}
+use Rattle.plan.specs.Refusals.{numberOf, accepted}
+use Rattle.plan.specs.Format.{planIn}
+use Rattle.plan.specs.Laws.Answers.{accepted-rules}
+use Rattle.entryrules.specs.Trying.{not-clean}
+use Rattle.planfile.specs.Reading.{reading-finding, reading-plan, reading-accepts, reading-refuses}
+use Rattle.cup.specs.Rewriting.{rewrite-refused, rewrite-short, rewrite-done}
+use borrow.Author.Needs.{needs}
+use Rattle.cup.proofs.cup_rewrite.Statement.{statement}
+use Rattle.cup.proofs.cup_rewrite.Tie as tie
+
+read-plan-requires : tie.Need-read-plan-requires
+read-plan-requires c κs = search needs
+
+enum-told : tie.Need-enum-told
+enum-told c = search needs
+
+number-of-requires : tie.Need-number-of-requires
+number-of-requires c κs = search needs
+
+-- what is known where the file is accepted
+accepts : (c : tie.After-enum-told) → accepted (now (c .before .before .before .before .before .args .file)) ≡ true
+accepts c = reading-accepts _ (c .before .before .read-plan .ensures) (c .enum-told .given .1)
+
+plan-is : (c : tie.After-enum-told) → c .before .before .read-plan .result .plan ≡ planIn (now (c .before .before .before .before .before .args .file))
+plan-is c = reading-plan _ (c .before .before .read-plan .ensures) (c .enum-told .given .1)
+
+returns : tie.Need-returns
+returns c =
+    let a = c .before .before .before .before .before .args in
+    let reading = c .before .before .read-plan .ensures in
+    let number = c .number-of .ensures ∙ ap numberOf (reading-finding (now (a .file)) reading) in
+    let refused = rewrite-refused (now (a .file)) (now (a .buffer)) (reading-refuses (now (a .file)) reading (not-clean _ (c .before .match .keys2))) in
+    (number ∙ refused .0, refused .1)
+
+write-plan-requires : tie.Need-write-plan-requires
+write-plan-requires c κs =
+    let told = c .before .before in rw (plan-is told) (accepted-rules _ (accepts told))
+
+same-length : tie.Need-same-length
+same-length c = search needs
+
+returns-2 : tie.Need-returns-2
+returns-2 c =
+    let told = c .before .before .before .before .before .before in
+    let written = rw (plan-is told) at (c .before .before .before .write-plan .ensures) in
+    rewrite-short _ _ (accepts told) (written .0) (written .1) (c .if1 .taken)
+
+same-length-2 : tie.Need-same-length-2
+same-length-2 c = search needs
+
+returns-3 : tie.Need-returns-3
+returns-3 c =
+    let told = c .before .before .before .before .before .before in
+    let written = rw (plan-is told) at (c .before .before .before .write-plan .ensures) in
+    rewrite-done _ _ (accepts told) (written .0) (written .1) (c .if1 .left)
+
+pub cup-rewrite-spec : {M : Type 1} → statement M
+cup-rewrite-spec =
+    tie.close
+    (tie.spec
+    read-plan-requires
+    enum-told
+    number-of-requires
+    returns
+    write-plan-requires
+    same-length
+    returns-2
+    same-length-2
+    returns-3)

@@ -1,0 +1,202 @@
+// The calls for C and Rust, as a static library; `include/cup.h` declares them. A `&[u8]` is a pointer and a length, and a state goes in and out by value.
+// No call keeps anything, and none asks anything of the bytes or of the state.
+ghost use mathlib.Core.Path.{_≡_};
+ghost use lib.ListN.{length};
+ghost use Rattle.plan.specs.Format.{part};
+ghost use Rattle.plan.specs.Refusals.{numberOf, entryOf, findingOf, sectionOf, sectionStart};
+ghost use Rattle.machine.specs.SoundTest.{isSound};
+ghost use Rattle.machine.specs.declared.Engine.the-variants.{Lazy, Eager};
+ghost use Rattle.calls.specs.Calls.{loadOf, writeOf, bufferOfWrite, runOf, bufferOfRun, positionedOf};
+ghost use Rattle.cup.specs.Tables.{tablesOf};
+ghost use Rattle.cup.specs.Rewriting.{rewriteNumber, rewriteLength, rewriteBuffer};
+use directory::offset_in;
+use directory::section_in;
+use entryrules::SECTIONS;
+use machine::State;
+use plan::Finding;
+use plan::SOURCES;
+use planfile::read_plan;
+use planrules::entry_of;
+use planrules::number_of;
+use planwriter::write_plan;
+use rates::RANGES;
+use rates::link_ranges;
+use reach::reach_table;
+use simulator::Loaded;
+use simulator::Positioned;
+use simulator::Ran;
+use simulator::Written;
+use simulator::load;
+use simulator::position;
+use simulator::run_eager;
+use simulator::run_lazy;
+use simulator::section;
+use simulator::write;
+use soundness::is_sound;
+use values::source_values;
+
+// Reads a plan file: the number, 0 where it is accepted, and the lowest faulty entry.
+#[no_mangle]
+pub extern "C" fn cup_read(file: &[u8], faulty: &mut usize) -> usize
+    ensures { λ r. ⌜ r ≡ numberOf (findingOf (now (file .entry))) ⌝ }
+    ensures { λ _. ⌜ now (faulty .exit) ≡ entryOf (findingOf (now (file .entry))) ⌝ }
+{
+    let reading = read_plan(file);
+    let found = reading.finding;
+    *faulty = entry_of(found);
+    number_of(found)
+}
+
+// The section view: the length of the part, and where in the file it starts, an empty section too. Both are 0 if the file would be refused or the number
+// is above 4.
+#[no_mangle]
+pub extern "C" fn cup_section(file: &[u8], number: usize, offset: &mut usize) -> usize
+    ensures { λ r. ⌜ r ≡ length (sectionOf (now (file .entry)) number) ⌝ }
+    ensures { λ _. ⌜ now (offset .exit) ≡ sectionStart (now (file .entry)) number ⌝ }
+    ensures { λ r. ⌜ part (now (file .entry)) (now (offset .exit)) r ≡ sectionOf (now (file .entry)) number ⌝ }
+{
+    // An accepted file has an integrator, so its first section is not empty.
+    let integrators = section(file, 0).len();
+    if integrators == 0 || SECTIONS <= number {
+        *offset = 0;
+        return 0;
+    }
+    *offset = offset_in(file, number) as usize;
+    section_in(file, number).len()
+}
+
+// Reads a plan file and writes its plan into the buffer: the number, and the length of what is written. Where the number is not 0 the length is 0,
+// and the buffer keeps every byte.
+#[no_mangle]
+pub extern "C" fn cup_rewrite(file: &[u8], buffer: &mut [u8], written: &mut usize) -> usize
+    ensures { λ r. ⌜ r ≡ rewriteNumber (now (file .entry)) (length (now (buffer .entry))) ⌝ }
+    ensures { λ _. ⌜ now (written .exit) ≡ rewriteLength (now (file .entry)) (length (now (buffer .entry))) ⌝ }
+    ensures { λ _. ⌜ now (buffer .exit) ≡ rewriteBuffer (now (file .entry)) (now (buffer .entry)) ⌝ }
+{
+    let reading = read_plan(file);
+    let found = reading.finding;
+    let Finding::Clean = found else {
+        *written = 0;
+        return number_of(found);
+    };
+    let plan = reading.plan;
+    let length = write_plan(plan, buffer);
+    *written = length;
+    if length == 0 {
+        return 13;
+    }
+    0
+}
+
+// The public call `load`.
+#[no_mangle]
+pub extern "C" fn cup_load(file: &[u8]) -> Loaded
+    ensures { λ r. ⌜ r ≡ loadOf (now (file .entry)) ⌝ }
+{
+    load(file)
+}
+
+// The public call `write`.
+#[no_mangle]
+pub extern "C" fn cup_write(state: State, buffer: &mut [u8]) -> Written
+    ensures { λ r. ⌜ r ≡ writeOf state (now (buffer .entry)) ⌝ }
+    ensures { λ _. ⌜ now (buffer .exit) ≡ bufferOfWrite state (now (buffer .entry)) ⌝ }
+{
+    write(state, buffer)
+}
+
+// "A sound state": whether the state is one, so that no call declines it by 10.
+#[no_mangle]
+pub extern "C" fn cup_sound(state: State) -> bool
+    ensures { λ r. ⌜ r ≡ isSound state ⌝ }
+{
+    is_sound(state)
+}
+
+// The state that was handed in, so that a caller can see that both sides lay out its fields alike.
+#[no_mangle]
+pub extern "C" fn cup_echo(state: State) -> State
+    ensures { λ r. ⌜ r ≡ state ⌝ }
+{
+    state
+}
+
+// The tables that a run works out once: where each integrator's links begin, what a change of each source reaches, and the value of each source.
+#[repr(C)]
+pub struct Tables {
+    pub ranges: [usize; RANGES],
+    pub reach: [u64; SOURCES],
+    pub values: [i64; SOURCES],
+}
+
+// The tables of a sound state, else all 0. For tests.
+#[no_mangle]
+pub extern "C" fn cup_tables(state: State) -> Tables
+    ensures { λ r. ⌜ r ≡ tablesOf state ⌝ }
+{
+    if !is_sound(state) {
+        return Tables {
+            ranges: [0; RANGES],
+            reach: [0; SOURCES],
+            values: [0; SOURCES],
+        };
+    }
+    let n = state.plan.counts.n;
+    let m = state.plan.counts.m;
+    let k = state.plan.counts.k;
+    let links = state.plan.counts.links;
+    let ranges = link_ranges(n, links, &state.plan.links.targets);
+    let reach = reach_table(
+        n + m,
+        k,
+        links,
+        &state.plan.nodes.kinds,
+        &state.plan.nodes.a,
+        &state.plan.nodes.b,
+        &state.plan.links.targets,
+        &state.plan.links.sources,
+    );
+    let values = source_values(
+        n,
+        m,
+        k,
+        &state.run.q,
+        &state.run.inputs,
+        &state.plan.nodes.kinds,
+        &state.plan.nodes.a,
+        &state.plan.nodes.b,
+        &state.plan.nodes.lows,
+        &state.plan.nodes.highs,
+    );
+    Tables {
+        ranges,
+        reach,
+        values,
+    }
+}
+
+// The public call `run_lazy`.
+#[no_mangle]
+pub extern "C" fn cup_run_lazy(state: State, budget: u64, buffer: &mut [u8]) -> Ran
+    ensures { λ r. ⌜ r ≡ runOf Lazy state budget (now (buffer .entry)) ⌝ }
+    ensures { λ _. ⌜ now (buffer .exit) ≡ bufferOfRun Lazy state budget (now (buffer .entry)) ⌝ }
+{
+    run_lazy(state, budget, buffer)
+}
+
+// The public call `run_eager`.
+#[no_mangle]
+pub extern "C" fn cup_run_eager(state: State, budget: u64, buffer: &mut [u8]) -> Ran
+    ensures { λ r. ⌜ r ≡ runOf Eager state budget (now (buffer .entry)) ⌝ }
+    ensures { λ _. ⌜ now (buffer .exit) ≡ bufferOfRun Eager state budget (now (buffer .entry)) ⌝ }
+{
+    run_eager(state, budget, buffer)
+}
+
+// The public call `position`.
+#[no_mangle]
+pub extern "C" fn cup_position(state: State, integrator: usize) -> Positioned
+    ensures { λ r. ⌜ r ≡ positionedOf state integrator ⌝ }
+{
+    position(state, integrator)
+}

@@ -1,0 +1,130 @@
+// The text of the listing program, as ASCII bytes at the start of a lent buffer: numbers, and the lines that they make up. Each function answers the
+// length of its text, and the bytes behind the text keep their value.
+ghost use mathlib.Core.Path.{_≡_};
+ghost use Prim.Native.Nat.{_+_, _*_, _≤_};
+ghost use lib.IntN.{natAbs};
+ghost use lib.ListN.{length};
+ghost use Rattle.listingtext.specs.Decimal.{decimal, signedDecimal};
+ghost use Rattle.listingtext.specs.Lines.{field, eventLine, linesOf, endLine, refusalLine};
+ghost use Rattle.listingtext.specs.Printed.{Printed, PrintedAt};
+use words::read_i32;
+use words::read_u32;
+
+// The ASCII code of a digit.
+const DIGIT: u8 = 48;
+
+// The digits of n: those of n / 10 first.
+pub fn write_number(buf: &mut [u8], n: u64) -> usize
+    requires { ⌜ length (decimal n) ≤ length (now buf) ⌝ }
+    ensures { λ r. ⌜ Printed (decimal n) (now (buf .entry)) r (now (buf .exit)) ⌝ }
+{
+    if n < 10 {
+        buf[0] = DIGIT + n as u8;
+        return 1;
+    }
+    let front = write_number(buf, n / 10);
+    buf[front] = DIGIT + (n % 10) as u8;
+    front + 1
+}
+
+// The size of a number that may be below 0.
+fn magnitude(z: i64) -> u64
+    ensures { λ r. ⌜ r ≡ natAbs z ⌝ }
+{
+    if z < 0 { (-1 - z) as u64 + 1 } else { z as u64 }
+}
+
+// A number that may be below 0.
+pub fn write_signed(buf: &mut [u8], z: i64) -> usize
+    requires { ⌜ length (signedDecimal z) ≤ length (now buf) ⌝ }
+    ensures { λ r. ⌜ Printed (signedDecimal z) (now (buf .entry)) r (now (buf .exit)) ⌝ }
+{
+    let size = magnitude(z);
+    if z < 0 {
+        buf[0] = b'-';
+        return 1 + write_number(&mut buf[1..], size);
+    }
+    write_number(buf, size)
+}
+
+// From byte `at` on, a number and what ends it: a space or the line's end. What is answered is the place behind it.
+fn write_field(buf: &mut [u8], at: usize, n: u64, end: u8) -> usize
+    requires { ⌜ at + length (field (decimal n) end) ≤ length (now buf) ⌝ }
+    ensures { λ r. ⌜ PrintedAt at (field (decimal n) end) (now (buf .entry)) r (now (buf .exit)) ⌝ }
+{
+    let last = at + write_number(&mut buf[at..], n);
+    buf[last] = end;
+    last + 1
+}
+
+// The same of a number that may be below 0.
+fn write_signed_field(buf: &mut [u8], at: usize, z: i64, end: u8) -> usize
+    requires { ⌜ at + length (field (signedDecimal z) end) ≤ length (now buf) ⌝ }
+    ensures { λ r. ⌜ PrintedAt at (field (signedDecimal z) end) (now (buf .entry)) r (now (buf .exit)) ⌝ }
+{
+    let last = at + write_signed(&mut buf[at..], z);
+    buf[last] = end;
+    last + 1
+}
+
+// "each event as tick, source, value"
+pub fn write_event(buf: &mut [u8], tick: u64, source: u64, value: i64) -> usize
+    requires { ⌜ length (eventLine tick source value) ≤ length (now buf) ⌝ }
+    ensures { λ r. ⌜ Printed (eventLine tick source value) (now (buf .entry)) r (now (buf .exit)) ⌝ }
+{
+    let second = write_field(buf, 0, tick, b' ');
+    let third = write_field(buf, second, source, b' ');
+    write_signed_field(buf, third, value, b'\n')
+}
+
+// The lines of the first `count` events of 12 bytes.
+pub fn write_lines(buf: &mut [u8], events: &[u8], count: usize) -> usize
+    requires { ⌜ (12 * count ≤ length (now events)) × (length (linesOf (now events) count) ≤ length (now buf)) ⌝ }
+    ensures { λ r. ⌜ Printed (linesOf (now (events .entry)) count) (now (buf .entry)) r (now (buf .exit)) ⌝ }
+{
+    let mut at = 0;
+    let mut i = 0;
+    while i < count {
+        let tick = read_u32(events, 12 * i);
+        let source = read_u32(events, 12 * i + 4);
+        let value = read_i32(events, 12 * i + 8);
+        at += write_event(&mut buf[at..], tick, source, value);
+        i += 1;
+    }
+    at
+}
+
+// The bytes of a word.
+fn write_word(buf: &mut [u8], word: &[u8]) -> usize
+    requires { ⌜ length (now word) ≤ length (now buf) ⌝ }
+    ensures { λ r. ⌜ Printed (now (word .entry)) (now (buf .entry)) r (now (buf .exit)) ⌝ }
+{
+    let mut i = 0;
+    while i < word.len() {
+        buf[i] = word[i];
+        i += 1;
+    }
+    i
+}
+
+// "then "end", status, clock, instants, updates"
+pub fn write_end(buf: &mut [u8], status: u64, clock: u64, instants: u64, updates: u64) -> usize
+    requires { ⌜ length (endLine status clock instants updates) ≤ length (now buf) ⌝ }
+    ensures { λ r. ⌜ Printed (endLine status clock instants updates) (now (buf .entry)) r (now (buf .exit)) ⌝ }
+{
+    let first = write_word(buf, b"end ");
+    let second = write_field(buf, first, status, b' ');
+    let third = write_field(buf, second, clock, b' ');
+    let fourth = write_field(buf, third, instants, b' ');
+    write_field(buf, fourth, updates, b'\n')
+}
+
+// "a declined plan prints "refused", number, entry"
+pub fn write_refusal(buf: &mut [u8], number: u64, entry: u64) -> usize
+    requires { ⌜ length (refusalLine number entry) ≤ length (now buf) ⌝ }
+    ensures { λ r. ⌜ Printed (refusalLine number entry) (now (buf .entry)) r (now (buf .exit)) ⌝ }
+{
+    let first = write_word(buf, b"refused ");
+    let second = write_field(buf, first, number, b' ');
+    write_field(buf, second, entry, b'\n')
+}

@@ -1,0 +1,69 @@
+-- Worked examples of the listing, with one theorem over their table, which guards the definitions of this crate: document 01's cup, a plan that is
+-- barred at its first tick, and a file that is refused. The table of P1 to P9 stands in the crate `workedexamples`.
+use mathlib.Core.Path.{refl}
+use mathlib.Core.List.{List, [], _∷_}
+use Prim.Native.Nat.{ℕ}
+use Rattle.integers.specs.Division.{ceilDiv}
+use Rattle.integers.specs.Range.{limited, within}
+use Rattle.bitset.specs.Counts.{countOf}
+use Rattle.words.specs.Word.{numberAt, bytesOf, signedOf, unsignedOf, flat}
+use Rattle.plan.specs.Lists.{table, row, joined, every, some, firstFrom}
+use Rattle.plan.specs.Format.{horizonIn, offsetIn, lengthIn, startIn, countIn, part, sectionIn, columnOf, columnIn, planIn}
+use Rattle.plan.specs.Tests.{longEnough, offsetsKept, countKept, sizesKept, horizonKept, integratorKept, inputKept}
+use Rattle.plan.specs.Tests.{kindKept, ascends, nodeKept, linkLimits, linkOrdered, commandLimits, commandOrdered}
+use Rattle.plan.specs.Refusals.{numberOf, entryOf, isClean, orElse, firstFinding, horizonFinding, integratorsFinding, inputsFinding}
+use Rattle.plan.specs.Refusals.{nodesFinding, linksFinding, commandsFinding, planFinding, findingOf, accepted}
+use Rattle.plan.specs.Cases.{Case, case, AllRight, end, _&_}
+use Rattle.plan.specs.Files.{fileOf, cupFile}
+use Rattle.machine.specs.Values.{nodeOf, valueWith, valueOf, sumOver, rateOf}
+use Rattle.machine.specs.Due.{upperLevel, lowerLevel, distance, ticksTo, dueTick, dueOf}
+use Rattle.machine.specs.Next.{nextCommand, commandTick, leastDue, nextTick}
+use Rattle.machine.specs.Start.{startSlope, startDue, startOf, startState, idleState}
+use Rattle.machine.specs.Reach.{isDue, setsInput, isCommanded, changes, dependsWith, linkReaches, reached}
+use Rattle.machine.specs.Instant.{positionAt, settingOf, settings, moves, eventBytes, eventsAt, outputs, slopeThen, xThen, dueThen}
+use Rattle.machine.specs.Instant.{takenAt, tickOf, instant, eventsOf}
+use Rattle.machine.specs.Status.{bars, barring, statusAt, statusOf, isPaused}
+use Rattle.machine.specs.Runs.{after, events}
+use Rattle.listingtext.specs.Decimal.{digitsIn, decimal, signedDecimal}
+use Rattle.listingtext.specs.Lines.{eventLine, endLine, refusalLine, lineAt, linesOf}
+use Rattle.calls.specs.Calls.{loadOf, ranState, ranEvents}
+use Rattle.listingturns.specs.Listing.{eventLines, closing, listedBy, listingOf}
+use Rattle.listingturns.specs.Turns.{turnState, turnMore, turnText, firstText, turnsFrom, printedIn}
+
+-- "4 0 12", "6 2 -3", "end 1 6 2 3"
+abbrev cupText : List ℕ
+cupText =
+    52 ∷ 32 ∷ 48 ∷ 32 ∷ 49 ∷ 50 ∷ 10 ∷ 54 ∷ 32 ∷ 50 ∷ 32 ∷ 45 ∷ 51 ∷ 10
+    ∷ 101 ∷ 110 ∷ 100 ∷ 32 ∷ 49 ∷ 32 ∷ 54 ∷ 32 ∷ 50 ∷ 32 ∷ 51 ∷ 10 ∷ []
+
+-- a cup that is barred at its first tick
+abbrev barredFile : List ℕ
+barredFile = fileOf 10 (1073741823 ∷ 5 ∷ []) (5 ∷ []) [] (0 ∷ 1 ∷ 65536 ∷ []) []
+
+-- integrator 1 has a quantum of 0
+abbrev refusedFile : List ℕ
+refusedFile = fileOf 10 (0 ∷ 1 ∷ 0 ∷ 0 ∷ []) [] [] [] []
+
+pub examples : List Case
+examples =
+    case (List ℕ) (listingOf cupFile) cupText
+    ∷ case (List ℕ) (printedIn 2 cupFile) cupText
+    -- "end 2 0 0 0"
+    ∷ case (List ℕ) (listingOf barredFile) (101 ∷ 110 ∷ 100 ∷ 32 ∷ 50 ∷ 32 ∷ 48 ∷ 32 ∷ 48 ∷ 32 ∷ 48 ∷ 10 ∷ [])
+    -- "refused 5 1"
+    ∷ case (List ℕ) (listingOf refusedFile) (114 ∷ 101 ∷ 102 ∷ 117 ∷ 115 ∷ 101 ∷ 100 ∷ 32 ∷ 53 ∷ 32 ∷ 49 ∷ 10 ∷ [])
+    ∷ case (List ℕ) (printedIn 0 refusedFile) (114 ∷ 101 ∷ 102 ∷ 117 ∷ 115 ∷ 101 ∷ 100 ∷ 32 ∷ 53 ∷ 32 ∷ 49 ∷ 10 ∷ [])
+    ∷ []
+
+pub examples-right : AllRight examples
+unfolding examples ceilDiv limited within countOf numberAt bytesOf signedOf unsignedOf flat table row joined every some firstFrom
+    horizonIn offsetIn lengthIn startIn countIn part sectionIn columnOf columnIn planIn longEnough offsetsKept countKept sizesKept
+    horizonKept integratorKept inputKept kindKept ascends nodeKept linkLimits linkOrdered commandLimits
+    commandOrdered numberOf entryOf isClean orElse firstFinding horizonFinding integratorsFinding inputsFinding nodesFinding
+    linksFinding commandsFinding planFinding findingOf accepted nodeOf valueWith valueOf sumOver rateOf upperLevel lowerLevel distance ticksTo
+    dueTick dueOf nextCommand commandTick leastDue nextTick startSlope startDue startOf startState idleState isDue setsInput
+    isCommanded changes dependsWith linkReaches reached positionAt settingOf settings moves eventBytes eventsAt outputs slopeThen xThen
+    dueThen takenAt tickOf instant eventsOf bars barring statusAt statusOf isPaused after events
+    digitsIn decimal signedDecimal eventLine endLine refusalLine lineAt linesOf loadOf ranState ranEvents eventLines closing listedBy listingOf
+    turnState turnMore turnText firstText turnsFrom printedIn
+examples-right = refl & refl & refl & refl & refl & end

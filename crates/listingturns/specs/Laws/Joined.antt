@@ -1,0 +1,126 @@
+-- The texts of the turns, joined, are the listing. Assumes nothing.
+use mathlib.Core.Path.{_≡_, refl, sym, ap}
+use mathlib.Core.Bool.{Bool, true, false, cond}
+use mathlib.Core.List.{List, [], _++_, append-assoc, append-nil}
+use Prim.Native.Nat.{ℕ, zero, suc, _+_, _/_, _≤_, _<_}
+use native.Mathlib.Nat.{add-comm}
+use native.Mathlib.Omega.{arith}
+use lib.Dec.{eqb}
+use lib.ListN.{length, replicate, length-append}
+use borrow.Author.Tests.{eqb-true, eqb-false}
+use Rattle.plan.specs.Lists.{joined}
+use Rattle.plan.specs.Laws.Counts.{counts-of}
+use Rattle.plan.specs.declared.Plan.{Plan}
+use Rattle.machine.specs.Status.{statusOf}
+use Rattle.machine.specs.Runs.{after, events}
+use Rattle.machine.specs.Sound.{Sound, SoundRunning}
+use Rattle.machine.specs.Laws.Runs.{afterBy, after-by, run-stopped, run-sound, clock-moves}
+use Rattle.machine.specs.Laws.Status.{is-paused}
+use Rattle.machine.specs.declared.Running.{Running}
+use Rattle.machine.specs.declared.State.{State}
+use Rattle.machine.specs.declared.Engine.the-variants.{Lazy}
+use Rattle.listingtext.specs.Lines.{linesOf, refusalLine}
+use Rattle.listingtext.specs.Laws.Lines.{lines-append}
+use Rattle.calls.specs.Calls.{loadOf, ranState, ranEvents}
+use Rattle.calls.specs.Proofs.Sound.{load-sound}
+use Rattle.listingturns.specs.Listing.{eventLines, closing, listedBy, listingOf}
+use Rattle.listingturns.specs.Turns.{turnState, turnMore, turnText, firstText, turnsFrom, printedIn}
+use Rattle.listingturns.specs.Promises.{ListingStops, TurnsEnd, TurnsPrint}
+use Rattle.listingturns.specs.Laws.EventLists.{EventList, run-list}
+use Rattle.listingturns.specs.Laws.Ends.{after-parts, events-parts, stops, after-enough, events-enough}
+
+pub listing-stops : ListingStops
+listing-stops st ok = stops (st .plan) Lazy (st .plan .horizon) (st .run) ok (omega arith)
+
+-- ---- lines of events behind events
+pub lines-both : (front rest : List ℕ) → EventList front → EventList rest → eventLines (front ++ rest) ≡ eventLines front ++ eventLines rest
+unfolding eventLines
+lines-both front rest a b =
+    let one : length front / 12 ≡ a .count = omega (arith, a .size) in
+    let two : length rest / 12 ≡ b .count = omega (arith, b .size) in
+    let both : length (front ++ rest) / 12 ≡ a .count + b .count = omega (arith, length-append front rest, a .size, b .size) in
+    rw (one, two, both) (lines-append front rest (a .count) (a .size) (b .count))
+
+-- ---- the listing from a sound state on
+module _ (p : Plan) (r : Running) (ok : SoundRunning p r) where
+  pub event-list : (b : ℕ) → EventList (events p Lazy b r)
+  event-list b = run-list p (omega (arith, counts-of p (ok .plan .counts))) Lazy b r
+
+  abbrev then : Running
+  then = after p Lazy 64 r
+
+  -- 64 instants, and the listing from there on
+  pub listed-turn : SoundRunning p then → (b : ℕ) → p .horizon ≤ b + r .clocks .clock → listedBy p b r ≡ eventLines (events p Lazy 64 r) ++ listedBy p b then
+  unfolding listedBy
+  listed-turn next b h =
+      let lists = run-list p (omega (arith, counts-of p (ok .plan .counts))) Lazy in
+      rw (
+        ← after-enough p Lazy b 64 r ok h,
+        ← events-enough p Lazy b 64 r ok h,
+        add-comm b 64,
+        after-parts p Lazy 64 b r,
+        events-parts p Lazy 64 b r,
+        lines-both (events p Lazy 64 r) (events p Lazy b then) (lists 64 r) (lists b then),
+      )
+      (append-assoc (eventLines (events p Lazy 64 r)) (eventLines (events p Lazy b then)) (closing p (after p Lazy b then)))
+
+  -- where the status is 1 or 2 already: the end line
+  pub listed-stopped : (b : ℕ) → (statusOf p r ≡ 0 → ⊥) → listedBy p b r ≡ closing p r
+  unfolding listedBy eventLines linesOf joined
+  listed-stopped b s = let run = run-stopped p Lazy b r s in rw (run .0, run .1)
+
+-- ---- a turn
+pub turns-end : TurnsEnd
+unfolding turnState ranState turnMore
+turns-end st ok =
+    let p = st .plan in
+    let r = st .run in
+    let sound : SoundRunning p (after p Lazy 64 r) = rw (after-by p Lazy 64 r) (run-sound p (replicate 64 Lazy) r ok) in
+    record {
+      sound = sound;
+      plan = refl;
+      moves = λ e. (moved p r ok (eqb-true (statusOf p (after p Lazy 64 r)) 0 e), sound .clock);
+    }
+  where
+    moved : (p : Plan) (r : Running) → SoundRunning p r → statusOf p (after p Lazy 64 r) ≡ 0 → r .clocks .clock < after p Lazy 64 r .clocks .clock
+    moved p r ok = rw (after-by p Lazy 64 r) (λ e. clock-moves p Lazy (replicate 63 Lazy) r ok (is-paused p (afterBy p (replicate 64 Lazy) r) e))
+
+-- ---- the turns from a sound state on are the listing from there on, in every budget that is enough
+print-from : (turns : ℕ) (st : State) → Sound st → st .plan .horizon < turns + st .run .clocks .clock → (b : ℕ) → st .plan .horizon ≤ b + st .run .clocks .clock
+    → turnsFrom turns st ≡ listedBy (st .plan) b (st .run)
+unfolding turnsFrom turnText turnMore turnState ranState ranEvents
+print-from zero st ok h b l = absurd (omega (arith, ok .clock))
+print-from (suc turns) st ok h b l =
+    go (turnMore st) refl
+    (λ e. print-from turns (turnState st) next (omega (arith, turns-end st ok .moves e)) b (omega (arith, turns-end st ok .moves e)))
+  where
+    p : Plan
+    p = st .plan
+
+    next : Sound (turnState st)
+    next = turns-end st ok .sound
+
+    lines : List ℕ
+    lines = eventLines (events p Lazy 64 (st .run))
+
+    go : (more : Bool) → turnMore st ≡ more → (turnMore st ≡ true → turnsFrom turns (turnState st) ≡ listedBy p b (turnState st .run))
+        → (lines ++ cond more [] (closing p (turnState st .run))) ++ cond more (turnsFrom turns (turnState st)) [] ≡ listedBy p b (st .run)
+    go true e ih = rw (append-nil lines, ih e) (sym (listed-turn p (st .run) ok next b l))
+    go false e ih =
+        rw (append-nil (lines ++ closing p (turnState st .run)), listed-turn p (st .run) ok next b l)
+        (ap (λ end. lines ++ end) (sym (listed-stopped p (turnState st .run) next b (eqb-false (statusOf p (turnState st .run)) 0 e))))
+
+pub turns-print : TurnsPrint
+unfolding printedIn firstText listingOf
+turns-print file turns h = go (eqb (loadOf file .number) 0)
+  where
+    st : State
+    st = loadOf file .state
+
+    refusal : List ℕ
+    refusal = refusalLine (loadOf file .number) (loadOf file .entry)
+
+    go : (accepts : Bool) → cond accepts [] refusal ++ cond accepts (turnsFrom turns st) []
+        ≡ cond accepts (listedBy (st .plan) (st .plan .horizon) (st .run)) refusal
+    go true = print-from turns st (load-sound file) (omega arith) (st .plan .horizon) (omega arith)
+    go false = append-nil refusal

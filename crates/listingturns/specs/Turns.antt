@@ -1,0 +1,46 @@
+-- The turns of the program's loop: a run with budget 64 and its text each, "until status 1 or 2".
+use mathlib.Core.Bool.{Bool, cond}
+use mathlib.Core.List.{List, [], _++_}
+use Prim.Native.Nat.{ℕ, zero, suc}
+use lib.Dec.{eqb}
+use lib.ListN.{length}
+use Rattle.machine.specs.Status.{statusOf}
+use Rattle.machine.specs.declared.State.{State}
+use Rattle.machine.specs.declared.Engine.the-variants.{Lazy}
+use Rattle.listingtext.specs.Lines.{refusalLine}
+use Rattle.calls.specs.Calls.{loadOf, ranState, ranEvents}
+use Rattle.listingturns.specs.Listing.{eventLines, closing}
+use Rattle.listingturns.specs.declared.Turn.{Turn}
+
+module _ (st : State) where
+  -- "runs lazily with budget 64": the state after it
+  unfoldable pub turnState : State
+  turnState = ranState Lazy st 64
+
+  -- "until status 1 or 2": another turn follows
+  unfoldable pub turnMore : Bool
+  turnMore = eqb (statusOf (turnState .plan) (turnState .run)) 0
+
+  -- the lines of its events, and behind the last turn's the end line
+  unfoldable pub turnText : List ℕ
+  turnText = eventLines (ranEvents Lazy st 64) ++ cond turnMore [] (closing (turnState .plan) (turnState .run))
+
+  -- what the code answers for it
+  unfoldable pub turnOf : Turn
+  turnOf = record { length = length turnText; more = turnMore; state = turnState }
+
+-- Before the first turn: nothing is printed for an accepted file, and the refusal for another, with no turn behind it.
+unfoldable pub firstText : List ℕ → List ℕ
+firstText file = cond (eqb (loadOf file .number) 0) [] (refusalLine (loadOf file .number) (loadOf file .entry))
+
+unfoldable pub firstOf : List ℕ → Turn
+firstOf file = record { length = length (firstText file); more = eqb (loadOf file .number) 0; state = loadOf file .state }
+
+-- the texts of at most so many turns, joined
+unfoldable pub turnsFrom : ℕ → State → List ℕ
+turnsFrom zero st = []
+turnsFrom (suc turns) st = turnText st ++ cond (turnMore st) (turnsFrom turns (turnState st)) []
+
+-- and with what stands before them: all that the program's loop prints for a file, in at most so many turns
+unfoldable pub printedIn : ℕ → List ℕ → List ℕ
+printedIn turns file = firstText file ++ cond (eqb (loadOf file .number) 0) (turnsFrom turns (loadOf file .state)) []

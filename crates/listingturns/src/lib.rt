@@ -1,0 +1,83 @@
+// The listing program's work: "loads them, runs lazily with budget 64 until status 1 or 2", a turn for each run, whose text the program writes.
+ghost use mathlib.Core.Path.{_≡_};
+ghost use Prim.Native.Nat.{_≤_};
+ghost use lib.ListN.{length};
+ghost use Rattle.machine.specs.Sound.{Sound};
+ghost use Rattle.machine.specs.declared.Engine.the-variants.{Lazy};
+ghost use Rattle.calls.specs.Calls.{over, ranEvents};
+ghost use Rattle.listingturns.specs.Turns.{turnText, turnOf, firstText, firstOf};
+use listingtext::write_end;
+use listingtext::write_lines;
+use listingtext::write_refusal;
+use machine::State;
+use simulator::load;
+use simulator::run_lazy;
+
+// "runs lazily with budget 64"
+const BUDGET: u64 = 64;
+
+// Bytes of an event.
+const EVENT_BYTES: usize = 12;
+
+// How many bytes of text stand at the start of the buffer, whether a turn follows, and the state for it.
+pub struct Turn {
+    pub length: usize,
+    pub more: bool,
+    pub state: State,
+}
+
+// Before the first turn: "a declined plan prints "refused", number, entry", and no turn follows.
+pub fn begin(file: &[u8], text: &mut [u8]) -> Turn
+    requires { ⌜ 14 ≤ length (now text) ⌝ }
+    ensures { λ r. ⌜ r ≡ firstOf (now (file .entry)) ⌝ }
+    ensures { λ _. ⌜ now (text .exit) ≡ over (firstText (now (file .entry))) (now (text .entry)) ⌝ }
+{
+    let loaded = load(file);
+    let state = loaded.state;
+    if loaded.number == 0 {
+        return Turn {
+            length: 0,
+            more: true,
+            state,
+        };
+    }
+    let length = write_refusal(text, loaded.number as u64, loaded.entry as u64);
+    Turn {
+        length,
+        more: false,
+        state,
+    }
+}
+
+// One run: "prints each event as tick, source, value", and where the status is 1 or 2 "then "end", status, clock, instants, updates". A
+// sound state and these lengths suffice for the run to be accepted and for the text to fit.
+pub fn take_turn(state: State, events: &mut [u8], text: &mut [u8]) -> Turn
+    requires { ⌜ Sound state × (30720 ≤ length (now events)) × (66600 ≤ length (now text)) ⌝ }
+    ensures { λ r. ⌜ r ≡ turnOf state ⌝ }
+    ensures { λ _. ⌜ now (events .exit) ≡ over (ranEvents Lazy state 64) (now (events .entry)) ⌝ }
+    ensures { λ _. ⌜ now (text .exit) ≡ over (turnText state) (now (text .entry)) ⌝ }
+{
+    let ran = run_lazy(state, BUDGET, events);
+    let lines = write_lines(text, events, ran.written / EVENT_BYTES);
+    let reached = ran.state;
+    if ran.status == 0 {
+        return Turn {
+            length: lines,
+            more: true,
+            state: reached,
+        };
+    }
+    let clock = reached.run.clocks.clock as u64;
+    let end = write_end(
+        &mut text[lines..],
+        ran.status as u64,
+        clock,
+        reached.run.clocks.instants,
+        reached.run.clocks.updates,
+    );
+    Turn {
+        length: lines + end,
+        more: false,
+        state: reached,
+    }
+}

@@ -1,0 +1,45 @@
+-- `dynamics::standing_at` meets its contract: each return is its case of the definition. Assumes nothing.
+use borrow.Author.Tests.{eq-eqb, ne-eqb, lt-ltb, le-ltb}
+use Rattle.machine.specs.Due.{never}
+use Rattle.timing.specs.Standing.{standingOf}
+use Rattle.timing.proofs.status.standing_at.Statement.{statement}
+use Rattle.timing.proofs.status.standing_at.Tie as tie
+
+returns : tie.Need-returns
+unfolding standingOf
+returns c = rw (eq-eqb (c .before .args .t) never (c .if1 .taken))
+
+returns-2 : tie.Need-returns-2
+unfolding standingOf
+returns-2 c =
+    let a = c .before .before .args in
+    rw (ne-eqb (a .t) never (c .before .if1 .left), lt-ltb (a .horizon) (a .t) (c .if2 .taken))
+
+lowest-barring-requires : tie.Need-lowest-barring-requires
+lowest-barring-requires c κs = let p = c .before .before .pre in (p .0, p .1, p .2 (c .if2 .left))
+
+returns-3 : tie.Need-returns-3
+unfolding standingOf
+returns-3 c =
+    let found = c .before in let past = found .before in let a = past .before .before .args in
+    rw (
+      ne-eqb (a .t) never (past .before .if1 .left),
+      le-ltb (a .horizon) (a .t) (past .if2 .left),
+      ← found .lowest-barring .ensures,
+      lt-ltb _ (a .n) (c .if3 .taken),
+    )
+
+returns-4 : tie.Need-returns-4
+unfolding standingOf
+returns-4 c =
+    let found = c .before in let past = found .before in let a = past .before .before .args in
+    rw (
+      ne-eqb (a .t) never (past .before .if1 .left),
+      le-ltb (a .horizon) (a .t) (past .if2 .left),
+      ← found .lowest-barring .ensures,
+      le-ltb _ (a .n) (c .if3 .left),
+    )
+
+pub standing-at-spec : {M : Type 1} → statement M
+standing-at-spec =
+    tie.close (tie.spec returns returns-2 lowest-barring-requires returns-3 returns-4)

@@ -1,0 +1,80 @@
+-- What `due_tick` asks holds wherever a due tick is worked out: at a start, of a sound state, and of each integrator at an instant; and its
+-- answer there is document 01's due tick. Assumes nothing.
+use mathlib.Core.Path.{_≡_, refl}
+use mathlib.Core.List.{List}
+use Prim.Native.Nat.{ℕ, _≤_, _<_}
+use native.Mathlib.Omega.{arith}
+use lib.IntN.{ℤ, _+ℤ_, _-ℤ_}
+use Rattle.integers.specs.Parts.{∣_∣}
+use Rattle.plan.specs.Format.{M}
+use Rattle.plan.specs.Lists.{natAt, intAt}
+use Rattle.plan.specs.Rules.{PlanRules}
+use Rattle.plan.specs.Laws.Counts.{Counts}
+use Rattle.plan.specs.Laws.Means.{within-size}
+use Rattle.plan.specs.declared.Plan.{Plan}
+use Rattle.machine.specs.Values.{rateOf}
+use Rattle.machine.specs.Due.{upperLevel, lowerLevel, dueTick, dueOf}
+use Rattle.machine.specs.Start.{startSlope, startDue}
+use Rattle.machine.specs.Instant.{positionAt, settings, outputs, slopeThen, dueThen}
+use Rattle.machine.specs.Sound.{SoundRunning}
+use Rattle.machine.specs.Laws.Between.{Between, near-between, near-itself}
+use Rattle.machine.specs.Laws.Sizes.{rate-most}
+use Rattle.machine.specs.Laws.Taken.{x-then}
+use Rattle.machine.specs.Laws.Soundness.{Takes, output-size, setting-size, near-output}
+use Rattle.machine.specs.declared.Running.{Running}
+use Rattle.timing.specs.Ticks.{DueReady}
+
+-- with outputs q and input values u within ±M, from a tick up to the horizon, for x strictly between the levels
+pub due-ready : (p : Plan) → PlanRules p → (q u : List ℤ) → ((i : ℕ) → i < p .counts .n → ∣ intAt q i ∣ ≤ M) → ((j : ℕ) → j < p .counts .m → ∣ intAt u j ∣ ≤ M)
+    → (from : ℕ) → from ≤ p .horizon → (i : ℕ) → i < p .counts .n → (x : ℤ) → Between p q i x
+    → DueReady from x (intAt q i) (intAt (p .integrators .quanta) i) (rateOf p q u i)
+unfolding upperLevel lowerLevel
+due-ready p rules q u outputs inputs from early i used x inside =
+    record {
+      early = omega (arith, rules .horizon .1);
+      output = outputs i used;
+      least = rules .integrators i used .least;
+      most = rules .integrators i used .most;
+      above = inside .above;
+      below = inside .below;
+      slow = rate-most p q u rules outputs inputs i;
+    }
+
+-- ---- at the start
+module _ (p : Plan) (i : ℕ) where
+  pub due-ready-start : PlanRules p → i < p .counts .n → DueReady 0 (intAt (p .integrators .starts) i) (intAt (p .integrators .starts) i) (intAt (p .integrators .quanta) i) (startSlope p i)
+  unfolding startSlope
+  due-ready-start rules used =
+      due-ready p rules (p .integrators .starts) (p .inputs .firsts) (λ k h. within-size M _ .0 (rules .integrators k h .start))
+      (λ j h. within-size M _ .0 (rules .inputs j h)) 0 (omega arith) i used (intAt (p .integrators .starts) i)
+      (near-between p (p .integrators .starts) i (intAt (p .integrators .starts) i) .0
+      (near-itself (intAt (p .integrators .starts) i) (intAt (p .integrators .quanta) i) (rules .integrators i used .least)))
+
+  pub due-is-start : dueTick 0 (intAt (p .integrators .starts) i) (intAt (p .integrators .starts) i +ℤ intAt (p .integrators .quanta) i) (intAt (p .integrators .starts) i -ℤ intAt (p .integrators .quanta) i) (startSlope p i)
+      ≡ startDue p i
+  unfolding startDue dueOf upperLevel lowerLevel
+  due-is-start = refl
+
+-- ---- of a sound state
+module _ (p : Plan) (r : Running) (ok : SoundRunning p r) where
+  pub due-ready-sound : (i : ℕ) → i < p .counts .n → DueReady (natAt (r .l) i) (intAt (r .x) i) (intAt (r .q) i) (intAt (p .integrators .quanta) i) (intAt (r .s) i)
+  due-ready-sound i used =
+      let own = ok .integrators i used in
+      rw (own .rate)
+      (due-ready p (ok .plan) (r .q) (r .inputs) (λ k h. ok .integrators k h .output) (λ j h. within-size M _ .0 (ok .inputs j h))
+      (natAt (r .l) i) (omega (arith, own .moved, ok .clock)) i used (intAt (r .x) i) (near-between p (r .q) i (intAt (r .x) i) .0 (own .near)))
+
+  -- ---- at an instant, whether it is due or not
+  pub due-ready-then : (t : ℕ) → Takes p r t → (i : ℕ) → i < p .counts .n
+      → DueReady t (positionAt r t i) (intAt (outputs p r t) i) (intAt (p .integrators .quanta) i) (slopeThen p r t i)
+  unfolding slopeThen
+  due-ready-then t takes i used =
+      due-ready p (ok .plan) (outputs p r t) (settings p (r .inputs) t) (output-size p r ok t takes) (setting-size p r ok t takes)
+      t (takes .until) i used (positionAt r t i)
+      (near-between p (outputs p r t) i (positionAt r t i) .0 (near-output p r ok t takes i used))
+
+pub due-is-then : (p : Plan) → Counts p → (r : Running) (t i : ℕ) → i < p .counts .n
+    → dueTick t (positionAt r t i) (intAt (outputs p r t) i +ℤ intAt (p .integrators .quanta) i) (intAt (outputs p r t) i -ℤ intAt (p .integrators .quanta) i) (slopeThen p r t i)
+    ≡ dueThen p r t i
+unfolding dueThen dueOf upperLevel lowerLevel
+due-is-then p limits r t i used = rw (x-then p limits r t i used)

@@ -1,0 +1,96 @@
+// Due ticks, positions, and the next instant's tick.
+ghost use mathlib.Core.Path.{_≡_};
+ghost use mathlib.Core.Bool.{cond};
+ghost use Prim.Native.Nat.{_+_, _-_, _≤_, _<_, min};
+ghost use lib.IntN.{pos, _+ℤ_, _-ℤ_, _*ℤ_};
+ghost use lib.Dec.{ltb};
+ghost use Rattle.plan.specs.Lists.{natAt, firstFrom};
+ghost use Rattle.machine.specs.Due.{never, dueTick};
+ghost use Rattle.machine.specs.Next.{leastDue};
+ghost use Rattle.timing.specs.Ticks.{tickAt, TicksReady, DueReady, PositionReady};
+use integers::divide_up;
+use machine::State;
+use plan::COMMANDS;
+use plan::INTEGRATORS;
+
+// The tick at which a move of `speed` a tick, begun at `from`, has gone `distance`: the distance is worked out first, then divided, as in source document 002 (M5).
+fn tick_at(from: u32, distance: i64, speed: i64) -> u32
+    requires { ⌜ TicksReady from distance speed ⌝ }
+    ensures { λ r. ⌜ r ≡ tickAt from distance speed ⌝ }
+{
+    let ticks = divide_up(distance as u64, speed as u64);
+    (from as u64 + ticks) as u32
+}
+
+// "For s > 0, d−l is the least T ≥ 1 with x+s×T ≥ q+D; for s < 0 the least T ≥ 1 with x+s×T ≤ q−D; for s = 0 d is never."
+pub fn due_tick(from: u32, x: i64, q: i64, quantum: i64, s: i64) -> u32
+    requires { ⌜ DueReady from x q quantum s ⌝ }
+    ensures { λ r. ⌜ r ≡ dueTick from x (q +ℤ quantum) (q -ℤ quantum) s ⌝ }
+{
+    let upper = q + quantum;
+    let lower = q - quantum;
+    if s > 0 {
+        return tick_at(from, upper - x, s);
+    }
+    if s < 0 {
+        return tick_at(from, x - lower, -s);
+    }
+    State::NEVER
+}
+
+// "x+s×(t−l)"
+pub fn position(x: i64, s: i64, l: u32, t: u32) -> i64
+    requires { ⌜ PositionReady x s l t ⌝ }
+    ensures { λ r. ⌜ r ≡ x +ℤ s *ℤ pos (t - l) ⌝ }
+{
+    x + s * ((t - l) as i64)
+}
+
+// The least of the first n due ticks, or never.
+pub fn least_due(n: usize, d: &[u32; INTEGRATORS]) -> u32
+    requires { ⌜ n ≤ 32 ⌝ }
+    ensures { λ r. ⌜ r ≡ leastDue (now (d .entry)) n ⌝ }
+{
+    let mut least: u32 = State::NEVER;
+    let mut i: usize = 0;
+    while i < n {
+        if d[i] < least {
+            least = d[i];
+        }
+        i += 1;
+    }
+    least
+}
+
+// "the next command is the first with tick above c, or the command count if none"
+pub fn next_command(commands: usize, ticks: &[u32; COMMANDS], clock: u32) -> usize
+    requires { ⌜ commands ≤ 64 ⌝ }
+    ensures { λ r. ⌜ r ≡ firstFrom (λ e. ltb clock (natAt (now (ticks .entry)) e)) 0 commands ⌝ }
+{
+    let mut e: usize = 0;
+    while e < commands && ticks[e] <= clock {
+        e += 1;
+    }
+    e
+}
+
+// "Next instant t: the least of all d and the next command's tick."
+pub fn next_tick<'a>(
+    n: usize,
+    d: &'a [u32; INTEGRATORS],
+    commands: usize,
+    ticks: &'a [u32; COMMANDS],
+    next: usize,
+) -> u32
+    requires { ⌜ (n ≤ 32) × (commands ≤ 64) ⌝ }
+    ensures { λ r. ⌜ r ≡ min (leastDue (now (d .entry)) n) (cond (ltb next commands) (natAt (now (ticks .entry)) next) never) ⌝ }
+{
+    let least = least_due(n, d);
+    if next < commands {
+        let tick = ticks[next];
+        if tick < least {
+            return tick;
+        }
+    }
+    least
+}
