@@ -76,7 +76,12 @@ module _ (p : Plan) (r : Running) (t : ℕ) where
         l = row 0 32 (p .counts .n) (λ i. cond (moved i) t (natAt (r .l) i));
         d = row 0 32 (p .counts .n) (λ i. cond (moved i) (dueThen i) (natAt (r .d) i));
         inputs = settings p (r .inputs) t;
-        clocks = record { clock = t; next = nextCommand p t; instants = r .clocks .instants + 1; updates = r .clocks .updates + countOf moved (p .counts .n) };
+        clocks = record {
+          clock = t;
+          next = nextCommand p t;
+          instants = r .clocks .instants + 1;
+          updates = r .clocks .updates + countOf moved (p .counts .n);
+        };
       }
 
 module _ (p : Plan) where

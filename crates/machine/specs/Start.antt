@@ -26,7 +26,12 @@ module _ (p : Plan) where
         l = row 0 32 (p .counts .n) (λ i. 0);
         d = row 0 32 (p .counts .n) startDue;
         inputs = p .inputs .firsts;
-        clocks = record { clock = 0; next = nextCommand p 0; instants = 0; updates = 0 };
+        clocks = record {
+          clock = 0;
+          next = nextCommand p 0;
+          instants = 0;
+          updates = 0;
+        };
       }
 
   -- the state that a plan is loaded as

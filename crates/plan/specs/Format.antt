@@ -83,17 +83,42 @@ unfoldable pub planIn : List ℕ → Plan
 planIn file =
     record {
       horizon = horizonIn file;
-      counts = record { n = countIn file 0; m = countIn file 1; k = countIn file 2; links = countIn file 3; commands = countIn file 4 };
+      counts = record {
+        n = countIn file 0;
+        m = countIn file 1;
+        k = countIn file 2;
+        links = countIn file 3;
+        commands = countIn file 4;
+      };
       -- "Integrators, .. 8 bytes: signed start ..; quantum"
-      integrators = record { starts = signedsIn file 0 0; quanta = unsignedsIn file 0 1 };
+      integrators = record {
+        starts = signedsIn file 0 0;
+        quanta = unsignedsIn file 0 1;
+      };
       -- "Inputs, .. 4 bytes: signed first value"
-      inputs = record { firsts = signedsIn file 1 0 };
+      inputs = record {
+        firsts = signedsIn file 1 0;
+      };
       -- "Nodes, .. 20 bytes: kind, A, B, signed lo, signed hi"
-      nodes = record { kinds = wordsIn file 2 0; a = wordsIn file 2 1; b = wordsIn file 2 2; lows = signedsIn file 2 3; highs = signedsIn file 2 4 };
+      nodes = record {
+        kinds = wordsIn file 2 0;
+        a = wordsIn file 2 1;
+        b = wordsIn file 2 2;
+        lows = signedsIn file 2 3;
+        highs = signedsIn file 2 4;
+      };
       -- "Links, .. 12 bytes: target integrator, source, signed coefficient"
-      links = record { targets = wordsIn file 3 0; sources = wordsIn file 3 1; coefficients = signedsIn file 3 2 };
+      links = record {
+        targets = wordsIn file 3 0;
+        sources = wordsIn file 3 1;
+        coefficients = signedsIn file 3 2;
+      };
       -- "Commands, .. 12 bytes: tick .., input number .., signed value"
-      commands = record { ticks = wordsIn file 4 0; inputs = wordsIn file 4 1; values = signedsIn file 4 2 };
+      commands = record {
+        ticks = wordsIn file 4 0;
+        inputs = wordsIn file 4 1;
+        values = signedsIn file 4 2;
+      };
     }
 
 -- the arrays of a plan have their full width, as those of a struct have
