@@ -10,7 +10,8 @@ use Rattle.plan.specs.Refusals.{numberOf, isClean, findingOf, accepted}
 use Rattle.plan.specs.Rules.{CountsRule}
 use Rattle.plan.specs.Encoding.{fileLength, encode}
 use Rattle.plan.specs.Laws.Answers.{counts-in, accepted-sizes}
-use Rattle.planwriter.specs.Plans.{writtenLength, writtenBuffer, written-short, written-whole}
+use Rattle.planwriter.specs.Plans.{writtenLength, writtenBuffer}
+use Rattle.planwriter.specs.Laws.Plans.{written-short, written-whole}
 use Rattle.calls.specs.Calls.{over}
 
 -- 1 to 9 by the reader, then 13: "The plan writer's buffer is shorter than the file."

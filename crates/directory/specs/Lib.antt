@@ -1,2 +1,3 @@
 pub mod Directory
 pub mod Pointers
+pub mod Laws

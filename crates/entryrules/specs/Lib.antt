@@ -1,4 +1,1 @@
-pub mod Comparing
-pub mod Layout
-pub mod Testing
-pub mod Trying
+pub mod Laws

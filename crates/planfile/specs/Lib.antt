@@ -1,4 +1,3 @@
 pub mod Columns
-pub mod Filling
 pub mod Reading
-pub mod Sections
+pub mod Laws

@@ -1,5 +1,6 @@
--- What each section check finds, on the arrays that it is lent: the findings of `plan/Refusals`, of which each sees its own section and the
--- sizes that it goes by. The test of entry e stands before each.
+-- Model of the code: what each section check finds, on the arrays that it is lent. These are the findings of `plan/Refusals`, of which each
+-- sees its own section and the sizes that it goes by, and the contract of `check_plan` joins them to `planFinding`. The test of entry e
+-- stands before each.
 use mathlib.Core.Bool.{Bool, _&&_}
 use mathlib.Core.List.{List}
 use Prim.Native.Nat.{ℕ, _+_}
@@ -29,28 +30,28 @@ abbrev pub inputsCheck : ℕ → List ℤ → Finding
 inputsCheck m firsts = checked (inputAt firsts) Input m
 
 -- `base` is n + m, the source number of node 0
-abbrev pub nodeAt : ℕ → List ℕ → List ℕ → List ℕ → List ℤ → List ℤ → ℕ → Bool
+abbrev pub nodeAt : (base : ℕ) (kinds a b : List ℕ) (lows highs : List ℤ) (e : ℕ) → Bool
 nodeAt base kinds a b lows highs e =
     kindKept (base + e) (natAt kinds e) (natAt a e) (natAt b e) (intAt lows e) (intAt highs e)
 
-abbrev pub nodesCheck : ℕ → ℕ → List ℕ → List ℕ → List ℕ → List ℤ → List ℤ → Finding
+abbrev pub nodesCheck : (base k : ℕ) (kinds a b : List ℕ) (lows highs : List ℤ) → Finding
 nodesCheck base k kinds a b lows highs = checked (nodeAt base kinds a b lows highs) Node k
 
 -- `all` is n + m + k, the number of sources
-abbrev pub linkLimitsAt : ℕ → ℕ → List ℕ → List ℕ → List ℤ → ℕ → Bool
+abbrev pub linkLimitsAt : (n all : ℕ) (targets sources : List ℕ) (coefficients : List ℤ) (e : ℕ) → Bool
 linkLimitsAt n all targets sources coefficients e = linkTest n all (natAt targets e) (natAt sources e) (intAt coefficients e)
 
-abbrev pub linkAt : ℕ → ℕ → List ℕ → List ℕ → List ℤ → ℕ → Bool
+abbrev pub linkAt : (n all : ℕ) (targets sources : List ℕ) (coefficients : List ℤ) (e : ℕ) → Bool
 linkAt n all targets sources coefficients e = linkLimitsAt n all targets sources coefficients e && follows targets sources e
 
-abbrev pub linksCheck : ℕ → ℕ → ℕ → List ℕ → List ℕ → List ℤ → Finding
+abbrev pub linksCheck : (n all links : ℕ) (targets sources : List ℕ) (coefficients : List ℤ) → Finding
 linksCheck n all links targets sources coefficients = checked (linkAt n all targets sources coefficients) Link links
 
-abbrev pub commandLimitsAt : ℕ → ℕ → List ℕ → List ℕ → List ℤ → ℕ → Bool
+abbrev pub commandLimitsAt : (horizon m : ℕ) (ticks inputs : List ℕ) (values : List ℤ) (e : ℕ) → Bool
 commandLimitsAt horizon m ticks inputs values e = commandTest horizon m (natAt ticks e) (natAt inputs e) (intAt values e)
 
-abbrev pub commandAt : ℕ → ℕ → List ℕ → List ℕ → List ℤ → ℕ → Bool
+abbrev pub commandAt : (horizon m : ℕ) (ticks inputs : List ℕ) (values : List ℤ) (e : ℕ) → Bool
 commandAt horizon m ticks inputs values e = commandLimitsAt horizon m ticks inputs values e && follows ticks inputs e
 
-abbrev pub commandsCheck : ℕ → ℕ → ℕ → List ℕ → List ℕ → List ℤ → Finding
+abbrev pub commandsCheck : (horizon m commands : ℕ) (ticks inputs : List ℕ) (values : List ℤ) → Finding
 commandsCheck horizon m commands ticks inputs values = checked (commandAt horizon m ticks inputs values) Command commands

@@ -1,3 +1,3 @@
 pub mod Header
 pub mod Plans
-pub mod Stages
+pub mod Laws

@@ -14,7 +14,8 @@ use Rattle.plan.specs.Format.{planIn}
 use Rattle.plan.specs.Rules.{CountsRule}
 use Rattle.plan.specs.Refusals.{numberOf, entryOf, isClean, findingOf, accepted}
 use Rattle.plan.specs.declared.Finding.the-variants.{Clean}
-use Rattle.planwriter.specs.Plans.{writtenLength, writtenBuffer, written-short, written-whole}
+use Rattle.planwriter.specs.Plans.{writtenLength, writtenBuffer}
+use Rattle.planwriter.specs.Laws.Plans.{written-short, written-whole}
 use Rattle.machine.specs.Start.{startState, idleState}
 use Rattle.machine.specs.SoundTest.{isSound}
 use Rattle.machine.specs.Laws.Tested.{sound-means}

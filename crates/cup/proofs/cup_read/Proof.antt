@@ -3,7 +3,7 @@
 use mathlib.Core.Path.{ap, _∙_}
 use denote.Ref.{now}
 use Rattle.plan.specs.Refusals.{numberOf, entryOf}
-use Rattle.planfile.specs.Reading.{reading-finding}
+use Rattle.planfile.specs.Laws.Reading.{reading-finding}
 use borrow.Author.Needs.{needs}
 use Rattle.cup.proofs.cup_read.Statement.{statement}
 use Rattle.cup.proofs.cup_read.Tie as tie

@@ -5,8 +5,8 @@ use denote.Ref.{now}
 use Rattle.plan.specs.Refusals.{numberOf, accepted}
 use Rattle.plan.specs.Format.{planIn}
 use Rattle.plan.specs.Laws.Answers.{accepted-rules}
-use Rattle.entryrules.specs.Trying.{not-clean}
-use Rattle.planfile.specs.Reading.{reading-finding, reading-plan, reading-accepts, reading-refuses}
+use Rattle.entryrules.specs.Laws.Trying.{not-clean}
+use Rattle.planfile.specs.Laws.Reading.{reading-finding, reading-plan, reading-accepts, reading-refuses}
 use Rattle.cup.specs.Rewriting.{rewrite-refused, rewrite-short, rewrite-done}
 use borrow.Author.Needs.{needs}
 use Rattle.cup.proofs.cup_rewrite.Statement.{statement}

@@ -10,7 +10,7 @@ use lib.ListN.{length}
 use Rattle.plan.specs.Format.{sections}
 use Rattle.plan.specs.Refusals.{accepted}
 use Rattle.plan.specs.Laws.View.{view-shown, start-shown}
-use Rattle.directory.specs.Directory.{directory-accepted}
+use Rattle.directory.specs.Laws.Directory.{directory-accepted}
 use Rattle.cup.specs.Viewing.{first-refused, first-accepted, none-refused, none-above, view-part}
 use borrow.Author.Needs.{needs}
 use borrow.Author.Tests.{leb-true, leb-false}

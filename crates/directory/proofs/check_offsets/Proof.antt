@@ -12,7 +12,7 @@ use denote.Ref.{now}
 use Rattle.plan.specs.Lists.{every}
 use Rattle.plan.specs.Format.{sections, offsetIn, startIn}
 use Rattle.plan.specs.Tests.{offsetsKept}
-use Rattle.entryrules.specs.Testing.{every-none, every-more, every-fails}
+use Rattle.entryrules.specs.Laws.Testing.{every-none, every-more, every-fails}
 use Rattle.directory.proofs.check_offsets.Statement.{statement}
 use Rattle.directory.proofs.check_offsets.Tie as tie
 

@@ -10,7 +10,7 @@ use denote.Ref.{now}
 use Rattle.plan.specs.Lists.{natAt, every}
 use Rattle.plan.specs.Format.{sections, entrySizes, lengthIn, countIn}
 use Rattle.plan.specs.Tests.{countKept, sizesKept}
-use Rattle.entryrules.specs.Testing.{every-none, every-more, every-fails, held, failed}
+use Rattle.entryrules.specs.Laws.Testing.{every-none, every-more, every-fails, held, failed}
 use Rattle.directory.proofs.check_sizes.Statement.{statement}
 use Rattle.directory.proofs.check_sizes.Tie as tie
 

@@ -6,7 +6,7 @@ use mathlib.Core.Path.{_≡_, sym}
 use native.Mathlib.Omega.{arith}
 use Prim.Native.Nat.{_-_, _≤_}
 use Rattle.plan.specs.Lists.{every}
-use Rattle.entryrules.specs.Testing.{every-none, every-more, every-fails, element, held, failed}
+use Rattle.entryrules.specs.Laws.Testing.{every-none, every-more, every-fails, element, held, failed}
 use Rattle.integratortest.specs.Figures.{figuresIn}
 use Rattle.integratortest.proofs.integrators_sound.Statement.{statement}
 use Rattle.integratortest.proofs.integrators_sound.Tie as tie

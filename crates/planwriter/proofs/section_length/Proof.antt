@@ -1,7 +1,7 @@
 -- The product of an entry's size and a count is small by the limits of the counts.
 use native.Mathlib.Omega.{arith}
 use denote.Ref.{now}
-use Rattle.planwriter.specs.Header.{length-limit}
+use Rattle.planwriter.specs.Laws.Header.{length-limit}
 use borrow.Author.Needs.{needs}
 use Rattle.planwriter.proofs.section_length.Statement.{statement}
 use Rattle.planwriter.proofs.section_length.Tie as tie

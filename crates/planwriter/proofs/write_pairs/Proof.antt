@@ -7,9 +7,9 @@ use borrow.Author.Needs.{needs}
 use Rattle.plan.specs.Lists.{joined}
 use Rattle.plan.specs.Format.{sections}
 use Rattle.plan.specs.Encoding.{pairEntry}
-use Rattle.planwriter.specs.Header.{offset-limit, length-limit}
+use Rattle.planwriter.specs.Laws.Header.{offset-limit, length-limit}
 use Rattle.words.specs.Laws.Putting.{length-behind}
-use Rattle.sectionwriters.specs.Writing.{Begun, none, all, entry}
+use Rattle.sectionwriters.specs.Laws.Writing.{Begun, none, all, entry}
 use Rattle.planwriter.proofs.write_pairs.Statement.{statement}
 use Rattle.planwriter.proofs.write_pairs.Tie as tie
 

@@ -9,8 +9,9 @@ use Rattle.plan.specs.Tests.{counts}
 use Rattle.plan.specs.Encoding.{integratorWords, inputWords, nodeWords, linkWords, commandWords}
 use Rattle.plan.specs.Laws.Counts.{counts-of}
 use Rattle.plan.specs.Laws.Layout.{entryWords, sectionWords}
-use Rattle.planwriter.specs.Header.{Limited, limited}
-use Rattle.planwriter.specs.Stages.{fitting, Stage, inside, section-room, next, header-room, headed, filed, short}
+use Rattle.planwriter.specs.Header.{Limited}
+use Rattle.planwriter.specs.Laws.Header.{limited}
+use Rattle.planwriter.specs.Laws.Stages.{fitting, Stage, inside, section-room, next, header-room, headed, filed, short}
 use Rattle.words.specs.Laws.Putting.{back}
 use Rattle.planwriter.proofs.write_plan.Statement.{statement}
 use Rattle.planwriter.proofs.write_plan.Tie as tie

@@ -8,7 +8,7 @@ use borrow.Author.Needs.{needs}
 use Rattle.plan.specs.Lists.{joined}
 use Rattle.plan.specs.Encoding.{integratorEntry}
 use Rattle.words.specs.Laws.Putting.{length-behind}
-use Rattle.sectionwriters.specs.Writing.{rd-at, rd-small, Begun, none, all, entry}
+use Rattle.sectionwriters.specs.Laws.Writing.{rd-at, rd-small, Begun, none, all, entry}
 use Rattle.sectionwriters.proofs.write_integrators.Statement.{statement}
 use Rattle.sectionwriters.proofs.write_integrators.Tie as tie
 

@@ -3,8 +3,8 @@ use mathlib.Core.Path.{sym, _∙_}
 use denote.Ref.{now}
 use borrow.Author.Needs.{needs}
 use Rattle.plan.specs.Laws.Answers.{accepted-rules}
-use Rattle.entryrules.specs.Trying.{not-clean}
-use Rattle.planfile.specs.Reading.{reading-finding, reading-plan, reading-accepts, reading-refuses}
+use Rattle.entryrules.specs.Laws.Trying.{not-clean}
+use Rattle.planfile.specs.Laws.Reading.{reading-finding, reading-plan, reading-accepts, reading-refuses}
 use Rattle.machine.specs.Start.{startState}
 use Rattle.simulator.specs.Answers.{load-refused, load-accepted}
 use Rattle.simulator.proofs.load.Statement.{statement}

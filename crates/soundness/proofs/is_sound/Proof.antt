@@ -10,7 +10,7 @@ use Rattle.plan.specs.Refusals.{isClean, planFinding}
 use Rattle.plan.specs.Unused.{planUnused}
 use Rattle.plan.specs.Laws.Refused.{plan-rules}
 use Rattle.machine.specs.SoundTest.{planSound, runningSound, isSound}
-use Rattle.entryrules.specs.Testing.{held, failed}
+use Rattle.entryrules.specs.Laws.Testing.{held, failed}
 use Rattle.unused.specs.Laws.Chain.{passes, Passed, begin, next, passed-at, fails, last}
 use Rattle.soundness.proofs.is_sound.Statement.{statement}
 use Rattle.soundness.proofs.is_sound.Tie as tie

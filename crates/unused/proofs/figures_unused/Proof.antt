@@ -7,7 +7,7 @@ use mathlib.Core.Path.{_≡_, refl}
 use Rattle.plan.specs.Lists.{every}
 use Rattle.plan.specs.Unused.{unusedNat, unusedInt}
 use Rattle.unused.specs.Entries.{figuresUnused}
-use Rattle.entryrules.specs.Testing.{held, failed}
+use Rattle.entryrules.specs.Laws.Testing.{held, failed}
 use Rattle.unused.specs.Laws.Chain.{passes, Passed, begin, next, fails, last}
 use Rattle.unused.proofs.figures_unused.Statement.{statement}
 use Rattle.unused.proofs.figures_unused.Tie as tie

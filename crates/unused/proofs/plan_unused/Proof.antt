@@ -6,7 +6,7 @@ use mathlib.Core.List.{List, [], _∷_}
 use mathlib.Core.Path.{_≡_, refl}
 use Rattle.plan.specs.Lists.{every}
 use Rattle.plan.specs.Unused.{unusedNat, unusedInt, planUnused}
-use Rattle.entryrules.specs.Testing.{held, failed}
+use Rattle.entryrules.specs.Laws.Testing.{held, failed}
 use Rattle.unused.specs.Laws.Chain.{passes, Passed, begin, next, fails, last}
 use Rattle.unused.proofs.plan_unused.Statement.{statement}
 use Rattle.unused.proofs.plan_unused.Tie as tie

@@ -12,7 +12,7 @@ use Prim.Native.Nat.{_-_}
 use Rattle.integers.specs.Parts.{∣_∣}
 use Rattle.plan.specs.Lists.{intAt}
 use Rattle.plan.specs.Unused.{unusedInt}
-use Rattle.entryrules.specs.Comparing.{zero-bits}
+use Rattle.entryrules.specs.Laws.Comparing.{zero-bits}
 use Rattle.unused.specs.Laws.Unused.{none-left, one-more, one-fails}
 use Rattle.unused.proofs.signed_unused.Statement.{statement}
 use Rattle.unused.proofs.signed_unused.Tie as tie

@@ -7,7 +7,7 @@ use native.Mathlib.Numerals.{add-one}
 use lib.ListN.{getD}
 use Rattle.plan.specs.Lists.{every}
 use Rattle.plan.specs.Laws.Searches.{every-true}
-use Rattle.entryrules.specs.Testing.{every-none, every-more, every-fails}
+use Rattle.entryrules.specs.Laws.Testing.{every-none, every-more, every-fails}
 
 -- the first k of the tests pass
 unfoldable pub passes : List Bool → ℕ → Bool

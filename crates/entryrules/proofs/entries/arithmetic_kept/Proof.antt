@@ -1,6 +1,6 @@
 -- The comparisons are the three tests, in their order.
 use borrow.Author.Needs.{needs}
-use Rattle.entryrules.specs.Comparing.{comparing}
+use Rattle.entryrules.specs.Laws.Comparing.{comparing}
 use Rattle.entryrules.proofs.entries.arithmetic_kept.Statement.{statement}
 use Rattle.entryrules.proofs.entries.arithmetic_kept.Tie as tie
 

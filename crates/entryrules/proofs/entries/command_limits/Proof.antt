@@ -1,6 +1,6 @@
 -- The comparisons are the tests of the definition, in their order; the answer is the last.
 use borrow.Author.Needs.{needs}
-use Rattle.entryrules.specs.Comparing.{comparing, answered}
+use Rattle.entryrules.specs.Laws.Comparing.{comparing, answered}
 use Rattle.entryrules.proofs.entries.command_limits.Statement.{statement}
 use Rattle.entryrules.proofs.entries.command_limits.Tie as tie
 

@@ -1,7 +1,7 @@
 -- The two comparisons are the two ends of the range.
 use borrow.Author.Needs.{needs}
 use Rattle.plan.specs.Tests.{horizonKept}
-use Rattle.entryrules.specs.Comparing.{comparing}
+use Rattle.entryrules.specs.Laws.Comparing.{comparing}
 use Rattle.entryrules.proofs.entries.horizon_kept.Statement.{statement}
 use Rattle.entryrules.proofs.entries.horizon_kept.Tie as tie
 

@@ -1,6 +1,6 @@
 -- The call and the comparisons are the tests of the definition, in their order.
 use borrow.Author.Needs.{needs}
-use Rattle.entryrules.specs.Comparing.{comparing, tested}
+use Rattle.entryrules.specs.Laws.Comparing.{comparing, tested}
 use Rattle.entryrules.proofs.entries.integrator_kept.Statement.{statement}
 use Rattle.entryrules.proofs.entries.integrator_kept.Tie as tie
 

@@ -1,6 +1,6 @@
 -- The comparisons are the tests of the definition, in their order. The lower end of the range is 0 - LARGEST_COEFFICIENT in the code.
 use borrow.Author.Needs.{needs}
-use Rattle.entryrules.specs.Comparing.{comparing}
+use Rattle.entryrules.specs.Laws.Comparing.{comparing}
 use Rattle.entryrules.proofs.entries.link_limits.Statement.{statement}
 use Rattle.entryrules.proofs.entries.link_limits.Tie as tie
 

@@ -1,6 +1,6 @@
 -- The first entry passes; any other stands above its predecessor if its pair does.
 use borrow.Author.Needs.{needs}
-use Rattle.entryrules.specs.Comparing.{comparing}
+use Rattle.entryrules.specs.Laws.Comparing.{comparing}
 use Rattle.entryrules.proofs.entries.link_ordered.Statement.{statement}
 use Rattle.entryrules.proofs.entries.link_ordered.Tie as tie
 

@@ -6,7 +6,7 @@ use borrow.Author.Needs.{needs}
 use Rattle.integers.specs.Range.{within}
 use Rattle.plan.specs.Format.{M}
 use Rattle.plan.specs.Tests.{kindKept}
-use Rattle.entryrules.specs.Comparing.{comparing, tested}
+use Rattle.entryrules.specs.Laws.Comparing.{comparing, tested}
 use Rattle.entryrules.proofs.entries.node_kept.Statement.{statement}
 use Rattle.entryrules.proofs.entries.node_kept.Tie as tie
 

@@ -1,7 +1,7 @@
 -- The comparisons are the tests of the definition, in their order.
 use borrow.Author.Needs.{needs}
 use Rattle.plan.specs.Tests.{ascends}
-use Rattle.entryrules.specs.Comparing.{comparing}
+use Rattle.entryrules.specs.Laws.Comparing.{comparing}
 use Rattle.entryrules.proofs.entries.pair_ascends.Statement.{statement}
 use Rattle.entryrules.proofs.entries.pair_ascends.Tie as tie
 

@@ -1,6 +1,6 @@
 -- The two comparisons are the two ends of the range. The lower end is 0 - M in the code.
 use borrow.Author.Needs.{needs}
-use Rattle.entryrules.specs.Comparing.{comparing}
+use Rattle.entryrules.specs.Laws.Comparing.{comparing}
 use Rattle.entryrules.proofs.entries.value_kept.Statement.{statement}
 use Rattle.entryrules.proofs.entries.value_kept.Tie as tie
 

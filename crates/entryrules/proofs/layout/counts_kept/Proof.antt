@@ -7,7 +7,7 @@ use mathlib.Core.Bool.{true}
 use Rattle.plan.specs.Lists.{natAt, every}
 use Rattle.plan.specs.Format.{sections}
 use Rattle.plan.specs.Tests.{countKept}
-use Rattle.entryrules.specs.Testing.{every-none, every-more, every-fails, held, failed}
+use Rattle.entryrules.specs.Laws.Testing.{every-none, every-more, every-fails, held, failed}
 use Rattle.entryrules.proofs.layout.counts_kept.Statement.{statement}
 use Rattle.entryrules.proofs.layout.counts_kept.Tie as tie
 

@@ -1,6 +1,6 @@
 -- The table is the definition's, and none of its sizes is 0.
 use mathlib.Core.Path.{refl}
-use Rattle.entryrules.specs.Layout.{size-positive}
+use Rattle.entryrules.specs.Laws.Layout.{size-positive}
 use borrow.Author.Needs.{needs}
 use Rattle.entryrules.proofs.layout.entry_size.Statement.{statement}
 use Rattle.entryrules.proofs.layout.entry_size.Tie as tie

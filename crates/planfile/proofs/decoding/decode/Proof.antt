@@ -4,7 +4,7 @@ use native.Mathlib.Omega.{arith}
 use lib.IntN.{pos}
 use Rattle.words.specs.Word.{word, signedWord}
 use Rattle.plan.specs.Format.{planIn, horizonIn}
-use Rattle.planfile.specs.Sections.{section-room, column-section}
+use Rattle.planfile.specs.Laws.Sections.{section-room, column-section}
 use borrow.Author.Needs.{needs}
 use Rattle.planfile.proofs.decoding.decode.Statement.{statement}
 use Rattle.planfile.proofs.decoding.decode.Tie as tie

@@ -7,8 +7,8 @@ use denote.Ref.{now}
 use Rattle.plan.specs.Refusals.{numberOf, isClean}
 use Rattle.plan.specs.declared.Finding.the-variants.{Command}
 use Rattle.planrules.specs.Checks.{commandLimitsAt, commandAt}
-use Rattle.entryrules.specs.Testing.{element, held, failed}
-use Rattle.planrules.specs.Findings.{CleanTo, begin, passed, found, none}
+use Rattle.entryrules.specs.Laws.Testing.{element, held, failed}
+use Rattle.planrules.specs.Laws.Findings.{CleanTo, begin, passed, found, none}
 use Rattle.planrules.proofs.checks.check_commands.Statement.{statement}
 use Rattle.planrules.proofs.checks.check_commands.Tie as tie
 

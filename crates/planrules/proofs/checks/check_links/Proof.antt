@@ -7,8 +7,8 @@ use denote.Ref.{now}
 use Rattle.plan.specs.Refusals.{numberOf, isClean}
 use Rattle.plan.specs.declared.Finding.the-variants.{Link}
 use Rattle.planrules.specs.Checks.{linkLimitsAt, linkAt}
-use Rattle.entryrules.specs.Testing.{element, held, failed}
-use Rattle.planrules.specs.Findings.{CleanTo, begin, passed, found, none}
+use Rattle.entryrules.specs.Laws.Testing.{element, held, failed}
+use Rattle.planrules.specs.Laws.Findings.{CleanTo, begin, passed, found, none}
 use Rattle.planrules.proofs.checks.check_links.Statement.{statement}
 use Rattle.planrules.proofs.checks.check_links.Tie as tie
 

@@ -6,8 +6,8 @@ use Rattle.plan.specs.Tests.{integratorKept, inputKept, nodeKept, linkLimits, l
 use Rattle.plan.specs.Refusals.{horizonFinding, integratorsFinding, inputsFinding, nodesFinding, linksFinding, commandsFinding, planFinding}
 use Rattle.plan.specs.Refusals.{orElse}
 use Rattle.plan.specs.Laws.Counts.{Counts, counts-of}
-use Rattle.entryrules.specs.Trying.{tried, refused, not-clean, orElse-join}
-use Rattle.planrules.specs.Findings.{from5, from6}
+use Rattle.entryrules.specs.Laws.Trying.{tried, refused, not-clean, orElse-join}
+use Rattle.planrules.specs.Laws.Findings.{from5, from6}
 use Rattle.planrules.proofs.checks.check_plan.Statement.{statement}
 use Rattle.planrules.proofs.checks.check_plan.Tie as tie
 

@@ -5,7 +5,7 @@ use borrow.Author.Tests.{not-true, not-false}
 use Rattle.plan.specs.Tests.{counts, countsKept}
 use Rattle.plan.specs.Refusals.{numberOf, isClean}
 use Rattle.plan.specs.Laws.Kept.{counts-kept}
-use Rattle.entryrules.specs.Trying.{not-clean}
+use Rattle.entryrules.specs.Laws.Trying.{not-clean}
 use borrow.Author.Needs.{needs}
 use Rattle.planrules.proofs.checks.plan_kept.Statement.{statement}
 use Rattle.planrules.proofs.checks.plan_kept.Tie as tie

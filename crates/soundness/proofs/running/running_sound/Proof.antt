@@ -16,7 +16,7 @@ use Rattle.values.specs.Sources.{valuesOf}
 use Rattle.values.specs.Laws.SourceValues.{values-at, all-nodes}
 use Rattle.rates.specs.Links.{rangesOf}
 use Rattle.rates.specs.Laws.OwnRange.{own-rates}
-use Rattle.entryrules.specs.Testing.{held, failed}
+use Rattle.entryrules.specs.Laws.Testing.{held, failed}
 use Rattle.unused.specs.Laws.Chain.{passes, Passed, begin, next, passed-at, fails, last}
 use Rattle.soundness.specs.Laws.Tested.{clauses, running-tests, figuresAt, slopes, sources-ready, rates-ready, figures-ready, figures-same}
 use Rattle.soundness.specs.Laws.Tested.{clock-fits, updates-fit}

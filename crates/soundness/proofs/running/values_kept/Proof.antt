@@ -8,7 +8,7 @@ use Prim.Native.Nat.{_-_, _≤_}
 use Rattle.integers.specs.Range.{within}
 use Rattle.plan.specs.Format.{M}
 use Rattle.plan.specs.Lists.{intAt, every}
-use Rattle.entryrules.specs.Testing.{every-none, every-more, every-fails, element, held, failed}
+use Rattle.entryrules.specs.Laws.Testing.{every-none, every-more, every-fails, element, held, failed}
 use Rattle.soundness.proofs.running.values_kept.Statement.{statement}
 use Rattle.soundness.proofs.running.values_kept.Tie as tie
 

@@ -1,4 +1,4 @@
--- Laws of checks that are tried one after the other, each taken apart by `let Finding::Clean = found else` before the next. Assumes nothing.
+-- Laws: checks that are tried one after the other, each taken apart by `let Finding::Clean = found else` before the next. Assumes nothing.
 use mathlib.Core.Path.{_≡_, refl, sym, ap, _∙_}
 use mathlib.Core.List.{List, [], _∷_, map}
 use mathlib.Core.Logic.{inl, inr}

@@ -1,4 +1,4 @@
--- The sections of a file whose directory keeps its rules, as the code has them: a count n and a part of the file. Assumes nothing.
+-- Laws: the sections of a file whose directory keeps its rules, as the code has them: a count n and a part of the file. Assumes nothing.
 use mathlib.Core.Path.{_≡_}
 use mathlib.Core.List.{List}
 use Prim.Native.Nat.{ℕ, _*_, _≤_, _<_}

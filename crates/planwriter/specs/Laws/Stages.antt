@@ -1,4 +1,4 @@
--- Laws of the plan writer: every number of a plan that keeps the rules fits a word, and the file grows section by section. Assumes nothing.
+-- Laws: the plan writer: every number of a plan that keeps the rules fits a word, and the file grows section by section. Assumes nothing.
 use mathlib.Core.Path.{_≡_, refl, _∙_}
 use mathlib.Core.List.{List, _∷_, _++_, append-nil}
 use Prim.Native.Nat.{ℕ, _+_, _≤_, _<_}
@@ -22,7 +22,7 @@ use Rattle.plan.specs.declared.Plan.{Plan}
 use Rattle.sectionwriters.specs.Entries.{Unsigned32, Signed32}
 use Rattle.planwriter.specs.Plans.{writtenLength, writtenBuffer}
 use Rattle.words.specs.Laws.Putting.{behind, back, length-behind}
-use Rattle.sectionwriters.specs.Writing.{Begun, begun-of, turn}
+use Rattle.sectionwriters.specs.Laws.Writing.{Begun, begun-of, turn}
 
 -- ---- the numbers
 -- each number of a used entry fits a word

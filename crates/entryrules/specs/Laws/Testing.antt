@@ -1,4 +1,4 @@
--- Laws for a loop that tests one index after the other by a function. Assumes nothing.
+-- Laws: a loop that tests one index after the other by a function. Assumes nothing.
 use mathlib.Core.Path.{_≡_, refl, sym, _∙_}
 use mathlib.Core.Bool.{Bool, true, false, not, and-false}
 use Prim.Native.Nat.{ℕ, zero, suc, _+_, _^_, _<_}

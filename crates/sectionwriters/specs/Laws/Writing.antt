@@ -1,4 +1,4 @@
--- Laws of the writers: lists of words, entries or sections, of which each is written into the part of the buffer behind those before it.
+-- Laws: the writers: lists of words, entries or sections, of which each is written into the part of the buffer behind those before it.
 -- Assumes nothing.
 use mathlib.Core.Path.{_≡_, refl, sym}
 use mathlib.Core.List.{List, [], _++_, append-assoc}

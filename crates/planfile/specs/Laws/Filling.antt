@@ -1,5 +1,5 @@
--- Filling an array that comes in all zero: after i turns of the loop it is the column with i entries used. Each law is over any element,
--- width, entry size and column. Assumes nothing.
+-- Laws: filling an array that comes in all zero: after i turns of the loop it is the column with i entries used. Each law is over any
+-- element, width, entry size and column. Assumes nothing.
 use mathlib.Core.Path.{_≡_, ap, _∙_}
 use mathlib.Core.List.{List}
 use Prim.Native.Nat.{ℕ, _+_, _*_, _^_, _≤_, _<_}

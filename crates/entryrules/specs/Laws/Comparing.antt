@@ -1,6 +1,6 @@
--- What a comparison in the code says, as the value of the test that a definition makes. A signed local z is seen as `rd z`, the number read
--- back from its bits, which is z since z fits. `search (needs, comparing)` proves a return: it rewrites each test of the contract's definition
--- by the comparison that was made before the return.
+-- Laws: what a comparison in the code says, as the value of the test that a definition makes. A signed local z is seen as `rd z`, the
+-- number read back from its bits, which is z since z fits. `search (needs, comparing)` proves a return: it rewrites each test of the
+-- contract's definition by the comparison that was made before the return.
 use lib.IntN.{ℤ, pos, negsuc, negℤ}
 use lib.Signed.{ltZ, leZ}
 use lib.Dec.{eqb}

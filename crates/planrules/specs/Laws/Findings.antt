@@ -1,4 +1,4 @@
--- Laws of a section check, whose loop goes through the section from entry 0 and ends at the first fault; and the parts of a plan's finding.
+-- Laws: a section check, whose loop goes through the section from entry 0 and ends at the first fault; and the parts of a plan's finding.
 -- Assumes nothing.
 use mathlib.Core.Path.{_≡_, ap}
 use mathlib.Core.Bool.{Bool, true, false}

@@ -1,4 +1,4 @@
--- A law of the table of sections.
+-- Laws: the table of sections.
 use Prim.Native.Nat.{ℕ, _<_}
 use native.Mathlib.Omega.{arith}
 use Rattle.plan.specs.Lists.{natAt}

@@ -1,0 +1,3 @@
+-- What is proved of these definitions.
+pub mod Directory
+pub mod Pointers
