@@ -1,4 +1,5 @@
--- The clauses of a sound state on an integrator's own figures, as the code tests them. That they are document 01's: `soundness`, Laws/Tested.
+-- Model of the code: the clauses of a sound state on an integrator's own figures, as the code tests them. That they are document 01's:
+-- `soundness`, Laws/Tested.
 use mathlib.Core.Bool.{Bool, _&&_}
 use mathlib.Core.List.{List}
 use Prim.Native.Nat.{ℕ, _^_, _≤_, _<_}
@@ -7,21 +8,16 @@ use lib.Signed.{ltZ, _≤ℤ_}
 use lib.Dec.{leb, ltb, eqb}
 use Rattle.integers.specs.Parts.{∣_∣}
 use Rattle.plan.specs.Format.{M}
-use Rattle.plan.specs.Lists.{natAt, intAt}
+use Rattle.plan.specs.Lists.{intAt}
 use Rattle.machine.specs.Due.{dueTick}
 
 -- all but "|q| ≤ M" of `integratorSound`, for an integrator whose links make `rate`
-unfoldable pub figuresSound : ℕ → ℤ → ℤ → ℤ → ℤ → ℤ → ℕ → ℕ → Bool
+unfoldable pub figuresSound : (clock : ℕ) (quantum rate x q s : ℤ) (l d : ℕ) → Bool
 figuresSound clock quantum rate x q s l d =
     leb l clock && ltb clock d
     && ltZ (q -ℤ quantum) x && ltZ x (q +ℤ quantum)
     && eqb ∣ s -ℤ rate ∣ 0
     && eqb d (dueTick l x (q +ℤ quantum) (q -ℤ quantum) s)
-
--- the same of integrator i, where the numbers stand in arrays
-abbrev pub figuresIn : ℕ → List ℤ → List ℤ → List ℤ → List ℤ → List ℤ → List ℕ → List ℕ → ℕ → Bool
-figuresIn clock quanta rates x q s l d i =
-    figuresSound clock (intAt quanta i) (intAt rates i) (intAt x i) (intAt q i) (intAt s i) (natAt l i) (natAt d i)
 
 -- what the test asks
 pub record FiguresReady (clock : ℕ) (quantum rate q : ℤ) : Type 0 where
@@ -31,5 +27,5 @@ pub record FiguresReady (clock : ℕ) (quantum rate q : ℤ) : Type 0 where
   pub slow : ∣ rate ∣ < 2 ^ 44
   pub output : ∣ q ∣ ≤ M
 
-abbrev pub AllReady : ℕ → ℕ → List ℤ → List ℤ → List ℤ → Type 0
+abbrev pub AllReady : (n clock : ℕ) (quanta rates q : List ℤ) → Type 0
 AllReady n clock quanta rates q = (i : ℕ) → i < n → FiguresReady clock (intAt quanta i) (intAt rates i) (intAt q i)

@@ -1,4 +1,5 @@
--- An integrator's own links as a range of links, and the rate over a range. What it is by document 01's sum over all links: Laws/OwnRange.
+-- Model of the code: an integrator's own links as a range of links, and the rate over a range. What it is by document 01's sum over all
+-- links: Laws/OwnRange.
 use mathlib.Core.List.{List}
 use Prim.Native.Nat.{ℕ, zero, suc, _+_, _-_, _≤_, _<_}
 use lib.IntN.{ℤ, pos, _+ℤ_, _*ℤ_}
@@ -18,7 +19,7 @@ unfoldable pub rangesOf : Plan → List ℕ
 rangesOf p = row 0 33 (p .counts .n + 1) (firstLink (p .links .targets) (p .counts .links))
 
 -- coefficient × source value of link e, where `values` holds the value of each source
-abbrev pub term : List ℕ → List ℤ → List ℤ → ℕ → ℤ
+abbrev pub term : (sources : List ℕ) (coefficients values : List ℤ) (e : ℕ) → ℤ
 term sources coefficients values e = intAt coefficients e *ℤ intAt values (natAt sources e)
 
 -- f a, .., f (a + d - 1), added up
@@ -27,7 +28,7 @@ sumFrom f a zero = pos 0
 sumFrom f a (suc d) = sumFrom f a d +ℤ f (a + d)
 
 -- the rate by the links from .. to
-unfoldable pub rangeRate : List ℕ → List ℤ → List ℤ → ℕ → ℕ → ℤ
+unfoldable pub rangeRate : (sources : List ℕ) (coefficients values : List ℤ) (from to : ℕ) → ℤ
 rangeRate sources coefficients values from to = floored (sumFrom (term sources coefficients values) from (to - from))
 
 -- what that asks: at most 256 links, and terms that are not beyond 2^54
@@ -39,5 +40,5 @@ pub record Rated (sources : List ℕ) (coefficients values : List ℤ) (from to 
   pub sized : (i : ℕ) → ∣ intAt values i ∣ ≤ M
 
 -- of the first n integrators, by the table of ranges
-abbrev pub AllRated : ℕ → List ℕ → List ℕ → List ℤ → List ℤ → Type 0
+abbrev pub AllRated : (n : ℕ) (ranges sources : List ℕ) (coefficients values : List ℤ) → Type 0
 AllRated n ranges sources coefficients values = (i : ℕ) → i < n → Rated sources coefficients values (natAt ranges i) (natAt ranges (i + 1))

@@ -1,4 +1,5 @@
--- The table of what a change of each source reaches, as the code works it out. What it is by document 01's reach: Laws/Reached.
+-- Model of the code: the table of what a change of each source reaches, as the code works it out. What it is by document 01's reach:
+-- Laws/Reached.
 use mathlib.Core.Bool.{cond}
 use mathlib.Core.List.{List}
 use Prim.Native.Nat.{ℕ, zero, suc, _+_, _≤_, _<_}
@@ -9,7 +10,7 @@ use Rattle.plan.specs.Lists.{natAt}
 use Rattle.plan.specs.declared.Plan.{Plan}
 
 -- bit (bit e) set in entry (place e), for each e below the end
-unfoldable pub marked : (ℕ → ℕ) → (ℕ → ℕ) → List ℕ → ℕ → List ℕ
+unfoldable pub marked : (place bit : ℕ → ℕ) (table : List ℕ) (e : ℕ) → List ℕ
 marked place bit table zero = table
 marked place bit table (suc e) = set (marked place bit table e) (place e) (withBit (natAt (marked place bit table e) (place e)) (bit e))
 
@@ -37,7 +38,7 @@ module _ (kinds a b : List ℕ) (base : ℕ) where
   followedDown zero table = table
   followedDown (suc j) table = followedDown j (handedDown j table)
 
-unfoldable pub tableFrom : ℕ → ℕ → ℕ → List ℕ → List ℕ → List ℕ → List ℕ → List ℕ → List ℕ
+unfoldable pub tableFrom : (base k links : ℕ) (kinds a b targets sources : List ℕ) → List ℕ
 tableFrom base k links kinds a b targets sources = followedDown kinds a b base k (ownNodes base (linked targets sources links) k)
 
 -- the table of a plan

@@ -1,4 +1,4 @@
--- The status as the code works it out, from the mask of the due integrators. What it is by document 01: Laws/Standings.
+-- Model of the code: the status as the code works it out, from the mask of the due integrators. What it is by document 01: Laws/Standings.
 use mathlib.Core.Bool.{Bool, true, cond, not, _&&_, _||_}
 use mathlib.Core.Path.{_≡_}
 use mathlib.Core.List.{List}

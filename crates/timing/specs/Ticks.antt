@@ -1,4 +1,5 @@
--- What due ticks and positions ask of their numbers, so that nothing on the way is too large for its type.
+-- Model of the code: what due ticks and positions ask of their numbers, so that nothing on the way is too large for its type. Laws/Dues
+-- shows that it holds wherever a due tick is worked out.
 use Prim.Native.Nat.{ℕ, _+_, _-_, _^_, _≤_, _<_}
 use lib.IntN.{ℤ, pos, _+ℤ_, _-ℤ_, _*ℤ_}
 use lib.Signed.{_≤ℤ_, _<ℤ_}

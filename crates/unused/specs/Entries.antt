@@ -1,4 +1,5 @@
--- The unused entries of the running figures, as the code tests them. That they are document 01's: `soundness`, Laws/Tested.
+-- Model of the code: the unused entries of the running figures, as the code tests them. That they are document 01's: `soundness`,
+-- Laws/Tested.
 use mathlib.Core.Bool.{Bool, _&&_}
 use Prim.Native.Nat.{ℕ}
 use Rattle.plan.specs.Unused.{unusedNat, unusedInt}

@@ -1,4 +1,4 @@
--- The value of every source in one array, and how the code works it out. What it is by document 01: Laws/SourceValues.
+-- Model of the code: the value of every source in one array, and how the code works it out. What it is by document 01: Laws/SourceValues.
 use mathlib.Core.Bool.{cond}
 use mathlib.Core.List.{List}
 use Prim.Native.Nat.{ℕ, _+_, _-_, _≤_, _<_}
@@ -16,7 +16,7 @@ unfoldable pub valuesOf : Plan → List ℤ → List ℤ → List ℤ
 valuesOf p q u = row (pos 0) 64 (p .counts .n + p .counts .m + p .counts .k) (valueOf p q u)
 
 -- integrators and inputs alone
-unfoldable pub firstValues : ℕ → ℕ → List ℤ → List ℤ → List ℤ
+unfoldable pub firstValues : (n m : ℕ) (q u : List ℤ) → List ℤ
 firstValues n m q u = row (pos 0) 64 (n + m) (λ i. cond (ltb i n) (intAt q i) (intAt u (i - n)))
 
 module _ (kinds a b : List ℕ) (lows highs : List ℤ) (base : ℕ) where

@@ -7,7 +7,7 @@ use native.Mathlib.Omega.{arith}
 use Prim.Native.Nat.{_-_, _≤_}
 use Rattle.plan.specs.Lists.{every}
 use Rattle.entryrules.specs.Laws.Testing.{every-none, every-more, every-fails, element, held, failed}
-use Rattle.integratortest.specs.Figures.{figuresIn}
+use Rattle.integratortest.specs.Laws.OneIntegrator.{figuresIn}
 use Rattle.integratortest.proofs.integrators_sound.Statement.{statement}
 use Rattle.integratortest.proofs.integrators_sound.Tie as tie
 

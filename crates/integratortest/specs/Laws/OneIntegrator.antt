@@ -1,5 +1,5 @@
--- The tests of one integrator's figures: what the code's comparisons say, and what the due tick asks. A signed local z is seen as `rd z`, the number
--- read back from its bits. Assumes nothing.
+-- Laws: the tests of one integrator's figures: what the code's comparisons say, and what the due tick asks. A signed local z is seen as
+-- `rd z`, the number read back from its bits. Assumes nothing.
 use mathlib.Core.Path.{_≡_, refl, ap}
 use mathlib.Core.Bool.{Bool, true, false, not}
 use mathlib.Core.Logic.{Iff·trans}
@@ -16,12 +16,17 @@ use borrow.Author.Tests.{leb-true}
 use Rattle.integers.specs.Parts.{∣_∣}
 use Rattle.integers.specs.Laws.Parts.{sum, dif, tight, zs}
 use Rattle.integers.specs.Laws.Signed64.{rd, same-bits}
-use Rattle.plan.specs.Lists.{every}
+use Rattle.plan.specs.Lists.{natAt, intAt, every}
 use Rattle.plan.specs.Laws.Means.{Means, zero-means, means-false}
 use Rattle.machine.specs.Due.{dueTick}
 use Rattle.timing.specs.Ticks.{DueReady}
 use Rattle.integratortest.specs.Figures.{figuresSound, FiguresReady}
 use Rattle.unused.specs.Laws.Chain.{passes}
+
+-- the tests of integrator i, where the numbers stand in arrays
+abbrev pub figuresIn : (clock : ℕ) (quanta rates x q s : List ℤ) (l d : List ℕ) (i : ℕ) → Bool
+figuresIn clock quanta rates x q s l d i =
+    figuresSound clock (intAt quanta i) (intAt rates i) (intAt x i) (intAt q i) (intAt s i) (natAt l i) (natAt d i)
 
 not-at-most : (a b : ℤ) (t : Bool) → leZ a b ≡ t → ltZ b a ≡ not t
 not-at-most a b true e = omega (arith, zs)

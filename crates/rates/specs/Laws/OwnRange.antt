@@ -1,5 +1,5 @@
--- The rate over an integrator's range of links is document 01's sum over all links with that target: links ascend by target, so its own stand
--- together. Assumes nothing.
+-- Laws: the rate over an integrator's range of links is document 01's sum over all links with that target: links ascend by target, so its
+-- own stand together. Assumes nothing.
 use mathlib.Core.Path.{_≡_, refl, sym, ap, _∙_}
 use mathlib.Core.Logic.{inl, inr}
 use mathlib.Core.Bool.{Bool, true, false}

@@ -1,4 +1,4 @@
--- The search for the first link of an integrator, and that the search for the next one goes on from there. Assumes nothing.
+-- Laws: the search for the first link of an integrator, and that the search for the next one goes on from there. Assumes nothing.
 use mathlib.Core.Path.{_≡_, refl}
 use mathlib.Core.Bool.{Bool, true, false}
 use mathlib.Core.List.{List}

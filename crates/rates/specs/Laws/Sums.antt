@@ -1,4 +1,4 @@
--- The sum of a rate on its way: at most 256 terms of at most 2^54, so it stays within 2^62, and a turn of the loop adds one term.
+-- Laws: the sum of a rate on its way: at most 256 terms of at most 2^54, so it stays within 2^62, and a turn of the loop adds one term.
 -- Assumes nothing.
 use mathlib.Core.Path.{_≡_}
 use mathlib.Core.List.{List}

@@ -1,5 +1,5 @@
--- What stands in the entries of a set of sources: after a bit is set, after an entry is added, and after a node's entry is handed down, which
--- is the same as looking at one node more. Assumes nothing.
+-- Laws: what stands in the entries of a set of sources: after a bit is set, after an entry is added, and after a node's entry is handed
+-- down, which is the same as looking at one node more. Assumes nothing.
 use mathlib.Core.Path.{_≡_, refl, sym, ap, _∙_}
 use mathlib.Core.Bool.{Bool, true, false, cond, not, _&&_, _||_, or-false, or-assoc, and-false}
 use mathlib.Core.List.{List}

@@ -1,4 +1,4 @@
--- A mask by all its bits, the low part of a mask, and two masks joined. Assumes nothing.
+-- Laws: a mask by all its bits, the low part of a mask, and two masks joined. Assumes nothing.
 use mathlib.Core.Path.{_≡_, refl, sym, ap, _∙_}
 use mathlib.Core.Bool.{Bool, true, false, cond}
 use Prim.Native.Nat.{ℕ, zero, suc, _+_, _-_, _/_, _%_, _^_, _≤_, _<_}

@@ -1,5 +1,5 @@
--- The table is document 01's reach: the entries of the sources that change, joined, have the reached integrators in their low half, and in
--- their high half the nodes that depend on a change. Assumes nothing.
+-- Laws: the table is document 01's reach: the entries of the sources that change, joined, have the reached integrators in their low half,
+-- and in their high half the nodes that depend on a change. Assumes nothing.
 use mathlib.Core.Path.{_≡_, refl, sym, ap, ap₂, _∙_}
 use mathlib.Core.Bool.{Bool, true, false, _&&_, _||_, or-false, and-false, and-true}
 use mathlib.Core.List.{List}

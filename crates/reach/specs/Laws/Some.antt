@@ -1,4 +1,5 @@
--- Laws of "some index below n passes": it goes by the test's answers, and is known where the test passes at one index at most. Assumes nothing.
+-- Laws: "some index below n passes": it goes by the test's answers, and is known where the test passes at one index at most. Assumes
+-- nothing.
 use mathlib.Core.Path.{_≡_, refl, sym, ap, ap₂, _∙_}
 use mathlib.Core.Bool.{Bool, true, false, _||_, or-false, or-assoc}
 use Prim.Native.Nat.{ℕ, zero, suc, _<_}

@@ -1,4 +1,4 @@
--- What one turn of each loop, and one call of the recursion, makes of the table, and that it stays inside. Assumes nothing.
+-- Laws: what one turn of each loop, and one call of the recursion, makes of the table, and that it stays inside. Assumes nothing.
 use mathlib.Core.Path.{_≡_}
 use mathlib.Core.List.{List}
 use Prim.Native.Nat.{ℕ, zero, suc, _+_, _-_, _<_}

@@ -1,4 +1,4 @@
--- The clauses of a sound state's running figures in the order in which the code tests them, and what its tests ask. Assumes nothing.
+-- Laws: the clauses of a sound state's running figures in the order in which the code tests them, and what its tests ask. Assumes nothing.
 use mathlib.Core.Path.{_≡_, refl}
 use mathlib.Core.Bool.{Bool, true, false, _&&_, and-true, and-false, and-comm, and-assoc}
 use mathlib.Core.List.{List, [], _∷_}
@@ -31,7 +31,8 @@ use Rattle.values.specs.Laws.SourceValues.{nodes-ready, first-sized, values-siz
 use Rattle.rates.specs.Links.{rangesOf, AllRated}
 use Rattle.rates.specs.Laws.OwnRange.{own-rated}
 use Rattle.unused.specs.Entries.{figuresUnused}
-use Rattle.integratortest.specs.Figures.{figuresSound, figuresIn, AllReady}
+use Rattle.integratortest.specs.Figures.{figuresSound, AllReady}
+use Rattle.integratortest.specs.Laws.OneIntegrator.{figuresIn}
 use Rattle.unused.specs.Laws.Chain.{passes}
 
 -- ---- "|q| ≤ M" split off the clauses of an integrator

@@ -1,4 +1,4 @@
--- What the parts of a start ask and come to, for a plan that keeps its rules. Assumes nothing.
+-- Laws: what the parts of a start ask and come to, for a plan that keeps its rules. Assumes nothing.
 use mathlib.Core.Path.{_≡_, refl, sym, _∙_}
 use mathlib.Core.Bool.{Bool, true, false, cond}
 use mathlib.Core.List.{List}
@@ -83,7 +83,7 @@ module _ (p : Plan) (rules : PlanRules p) where
 
 -- ---- the whole
 -- as it is made, with the slopes s and the due ticks d
-abbrev pub startWith : Plan → List ℤ → List ℕ → ℕ → Running
+abbrev pub startWith : (p : Plan) (s : List ℤ) (d : List ℕ) (next : ℕ) → Running
 startWith p s d next =
     record {
       x = p .integrators .starts;

@@ -1,4 +1,4 @@
--- The arithmetic of positions and due ticks step by step: what each step asks, and what the steps come to. Assumes nothing.
+-- Laws: the arithmetic of positions and due ticks step by step: what each step asks, and what the steps come to. Assumes nothing.
 use mathlib.Core.Path.{_≡_, sym, ap, _∙_}
 use mathlib.Core.Bool.{true, false}
 use Prim.Native.Nat.{ℕ, _+_, _-_, _^_, _≤_, _<_, max}

@@ -1,4 +1,4 @@
--- The search for the lowest integrator that bars an instant, by the lowest and the rest of the mask of the due ones. Assumes nothing.
+-- Laws: the search for the lowest integrator that bars an instant, by the lowest and the rest of the mask of the due ones. Assumes nothing.
 use mathlib.Core.Path.{_≡_, refl, sym, _∙_}
 use mathlib.Core.Bool.{Bool, true, false, not, _&&_, true≢false, and-eq-true-iff}
 use mathlib.Core.List.{List}

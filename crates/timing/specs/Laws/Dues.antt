@@ -1,5 +1,5 @@
--- What `due_tick` asks holds wherever a due tick is worked out: at a start, of a sound state, and of each integrator at an instant; and its
--- answer there is document 01's due tick. Assumes nothing.
+-- Laws: what `due_tick` asks holds wherever a due tick is worked out: at a start, of a sound state, and of each integrator at an instant;
+-- and its answer there is document 01's due tick. Assumes nothing.
 use mathlib.Core.Path.{_≡_, refl}
 use mathlib.Core.List.{List}
 use Prim.Native.Nat.{ℕ, _≤_, _<_}

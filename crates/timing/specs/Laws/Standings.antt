@@ -1,4 +1,4 @@
--- The code's status is that of document 01 for a sound state, and what working it out asks. Assumes nothing.
+-- Laws: the code's status is that of document 01 for a sound state, and what working it out asks. Assumes nothing.
 use mathlib.Core.Path.{_≡_, refl, sym, _∙_}
 use mathlib.Core.Bool.{Bool, true, false, cond, _||_, true≢false}
 use Prim.Native.Nat.{ℕ, _≤_, _<_}

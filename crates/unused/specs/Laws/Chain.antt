@@ -1,4 +1,5 @@
--- A chain of early returns: its tests in order. It answers false at the first that fails, and else what the last says. Assumes nothing.
+-- Laws: a chain of early returns: its tests in order. It answers false at the first that fails, and else what the last says. Assumes
+-- nothing.
 use mathlib.Core.Path.{_≡_, sym, _∙_}
 use mathlib.Core.Bool.{Bool, true, false}
 use mathlib.Core.List.{List}

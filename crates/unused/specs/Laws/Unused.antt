@@ -1,4 +1,5 @@
--- A loop that tests the entries of an array from an index on, and answers at the first that fails: what is left decides the whole. Assumes nothing.
+-- Laws: a loop that tests the entries of an array from an index on, and answers at the first that fails: what is left decides the whole.
+-- Assumes nothing.
 use mathlib.Core.Path.{_≡_, sym, _∙_}
 use mathlib.Core.Bool.{Bool, true, false, _&&_}
 use mathlib.Core.List.{List}

@@ -1,4 +1,4 @@
--- Node j worked out: its own entry of the values is stored and the others stay, and no value goes beyond ±M. Assumes nothing.
+-- Laws: node j worked out: its own entry of the values is stored and the others stay, and no value goes beyond ±M. Assumes nothing.
 use mathlib.Core.Path.{_≡_, refl}
 use mathlib.Core.Bool.{Bool, true, false}
 use mathlib.Core.List.{List}

@@ -1,5 +1,5 @@
--- The array of the values of sources, for a plan that keeps its rules: working out the nodes in node order gives each source's value by
--- document 01, nodes that have theirs already may be left out, and no value is beyond ±M. Assumes nothing.
+-- Laws: the array of the values of sources, for a plan that keeps its rules: working out the nodes in node order gives each source's value
+-- by document 01, nodes that have theirs already may be left out, and no value is beyond ±M. Assumes nothing.
 use mathlib.Core.Path.{_≡_, refl, sym, ap₂, _∙_}
 use mathlib.Core.Bool.{Bool, true, false, cond, true≢false}
 use mathlib.Core.Logic.{⊎-elim}

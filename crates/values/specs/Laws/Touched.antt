@@ -1,5 +1,5 @@
--- At an instant only the nodes that depend on a change are worked out anew. The others keep the values that they had before, and so every
--- source has its new value. Assumes nothing.
+-- Laws: at an instant only the nodes that depend on a change are worked out anew. The others keep the values that they had before, and so
+-- every source has its new value. Assumes nothing.
 use mathlib.Core.Path.{_≡_, refl, sym, _∙_}
 use mathlib.Core.Bool.{Bool, false}
 use mathlib.Core.List.{List}
