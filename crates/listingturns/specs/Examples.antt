@@ -20,7 +20,7 @@ use Rattle.machine.specs.Due.{upperLevel, lowerLevel, distance, ticksTo, dueTic
 use Rattle.machine.specs.Next.{nextCommand, commandTick, leastDue, nextTick}
 use Rattle.machine.specs.Start.{startSlope, startDue, startOf, startState, idleState}
 use Rattle.machine.specs.Reach.{isDue, setsInput, isCommanded, changes, dependsWith, linkReaches, reached}
-use Rattle.machine.specs.Instant.{positionAt, settingOf, settings, moves, eventBytes, eventsAt, outputs, slopeThen, xThen, dueThen}
+use Rattle.machine.specs.Instant.{positionAt, inputThen, inputsThen, moves, eventBytes, eventsAt, outputs, slopeThen, xThen, dueThen}
 use Rattle.machine.specs.Instant.{takenAt, tickOf, instant, eventsOf}
 use Rattle.machine.specs.Status.{bars, barring, statusAt, statusOf, isPaused}
 use Rattle.machine.specs.Runs.{after, events}
@@ -62,7 +62,7 @@ unfolding examples ceilDiv limited within countOf numberAt bytesOf signedOf unsi
     commandOrdered numberOf entryOf isClean orElse firstFinding horizonFinding integratorsFinding inputsFinding nodesFinding
     linksFinding commandsFinding planFinding findingOf accepted nodeOf valueWith valueOf sumOver rateOf upperLevel lowerLevel distance ticksTo
     dueTick dueOf nextCommand commandTick leastDue nextTick startSlope startDue startOf startState idleState isDue setsInput
-    isCommanded changes dependsWith linkReaches reached positionAt settingOf settings moves eventBytes eventsAt outputs slopeThen xThen
+    isCommanded changes dependsWith linkReaches reached positionAt inputThen inputsThen moves eventBytes eventsAt outputs slopeThen xThen
     dueThen takenAt tickOf instant eventsOf bars barring statusAt statusOf isPaused after events
     digitsIn decimal signedDecimal eventLine endLine refusalLine lineAt linesOf loadOf ranState ranEvents eventLines closing listedBy listingOf
     turnState turnMore turnText firstText turnsFrom printedIn

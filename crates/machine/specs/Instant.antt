@@ -22,13 +22,13 @@ unfoldable pub positionAt : Running → ℕ → ℕ → ℤ
 positionAt r t i = intAt (r .x) i +ℤ intAt (r .s) i *ℤ pos (t - natAt (r .l) i)
 
 -- the value of input j after those of the first e commands that are of tick t
-unfoldable pub settingOf : (p : Plan) (u : List ℤ) (t j e : ℕ) → ℤ
-settingOf p u t j zero = intAt u j
-settingOf p u t j (suc e) = cond (setsInput p t j e) (intAt (p .commands .values) e) (settingOf p u t j e)
+unfoldable pub inputThen : (p : Plan) (u : List ℤ) (t j e : ℕ) → ℤ
+inputThen p u t j zero = intAt u j
+inputThen p u t j (suc e) = cond (setsInput p t j e) (intAt (p .commands .values) e) (inputThen p u t j e)
 
 -- 2. "Commands of tick t set their inputs."
-unfoldable pub settings : Plan → List ℤ → ℕ → List ℤ
-settings p u t = row (pos 0) 8 (p .counts .m) (λ j. settingOf p u t j (p .counts .commands))
+unfoldable pub inputsThen : Plan → List ℤ → ℕ → List ℤ
+inputsThen p u t = row (pos 0) 8 (p .counts .m) (λ j. inputThen p u t j (p .counts .commands))
 
 -- 5. "The lazy engine moves those due or reached, the eager engine all"
 unfoldable pub moves : (p : Plan) (engine : Engine) (d : List ℕ) (t i : ℕ) → Bool
@@ -55,7 +55,7 @@ module _ (p : Plan) (r : Running) (t : ℕ) where
 
   -- 3. and 5. the new slope, by the new outputs and inputs and the node values worked out from them
   unfoldable pub slopeThen : ℕ → ℤ
-  slopeThen i = rateOf p outputs (settings p (r .inputs) t) i
+  slopeThen i = rateOf p outputs (inputsThen p (r .inputs) t) i
 
   -- 5. "x becomes x+s×(t−l) .. A due integrator gets x = q."
   unfoldable pub xThen : ℕ → ℤ
@@ -75,7 +75,7 @@ module _ (p : Plan) (r : Running) (t : ℕ) where
         s = row (pos 0) 32 (p .counts .n) (λ i. cond (moved i) (slopeThen i) (intAt (r .s) i));
         l = row 0 32 (p .counts .n) (λ i. cond (moved i) t (natAt (r .l) i));
         d = row 0 32 (p .counts .n) (λ i. cond (moved i) (dueThen i) (natAt (r .d) i));
-        inputs = settings p (r .inputs) t;
+        inputs = inputsThen p (r .inputs) t;
         clocks = record {
           clock = t;
           next = nextCommand p t;
@@ -93,4 +93,4 @@ module _ (p : Plan) where
   instant engine r = takenAt p r (tickOf r) (moves p engine (r .d) (tickOf r))
 
   unfoldable pub eventsOf : Running → List ℕ
-  eventsOf r = eventsAt p (tickOf r) (r .d) (outputs p r (tickOf r)) (settings p (r .inputs) (tickOf r))
+  eventsOf r = eventsAt p (tickOf r) (r .d) (outputs p r (tickOf r)) (inputsThen p (r .inputs) (tickOf r))

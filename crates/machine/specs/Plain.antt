@@ -12,7 +12,7 @@ use Rattle.machine.specs.Values.{rateOf}
 use Rattle.machine.specs.Due.{dueOf}
 use Rattle.machine.specs.Next.{nextCommand, nextTick}
 use Rattle.machine.specs.Reach.{isDue, reached}
-use Rattle.machine.specs.Instant.{settings, eventsAt}
+use Rattle.machine.specs.Instant.{inputsThen, eventsAt}
 use Rattle.machine.specs.Status.{statusAt, integratorAt}
 
 -- positions at the clock, outputs, slopes and due ticks; input values; clock, next command and instants
@@ -60,10 +60,10 @@ module _ (p : Plan) where
   -- one instant: all move, the due ones take their position as output, the commands of the tick set their inputs
   unfoldable pub plainInstant : Plain → Plain
   plainInstant m =
-      settled (row (pos 0) 32 (p .counts .n) (plainPosition m)) (plainOutputs m) (settings p (m .inputs) (plainTick m)) (plainTick m) (m .instants + 1)
+      settled (row (pos 0) 32 (p .counts .n) (plainPosition m)) (plainOutputs m) (inputsThen p (m .inputs) (plainTick m)) (plainTick m) (m .instants + 1)
 
   unfoldable pub plainEventsOf : Plain → List ℕ
-  plainEventsOf m = eventsAt p (plainTick m) (m .d) (plainOutputs m) (settings p (m .inputs) (plainTick m))
+  plainEventsOf m = eventsAt p (plainTick m) (m .d) (plainOutputs m) (inputsThen p (m .inputs) (plainTick m))
 
   unfoldable pub plainStatus : Plain → ℕ
   plainStatus m = statusAt p (m .d) (plainTick m) (plainPosition m)

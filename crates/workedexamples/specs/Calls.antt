@@ -27,7 +27,7 @@ use Rattle.machine.specs.Due.{upperLevel, lowerLevel, distance, ticksTo, dueTic
 use Rattle.machine.specs.Next.{nextCommand, commandTick, leastDue, nextTick}
 use Rattle.machine.specs.Start.{startSlope, startDue, startOf, startState, idleState}
 use Rattle.machine.specs.Reach.{isDue, setsInput, isCommanded, changes, dependsWith, linkReaches, reached}
-use Rattle.machine.specs.Instant.{positionAt, settingOf, settings, moves, eventBytes, eventsAt, outputs, slopeThen, xThen, dueThen}
+use Rattle.machine.specs.Instant.{positionAt, inputThen, inputsThen, moves, eventBytes, eventsAt, outputs, slopeThen, xThen, dueThen}
 use Rattle.machine.specs.Instant.{takenAt, tickOf, instant, eventsOf}
 use Rattle.machine.specs.Status.{bars, barring, statusAt, integratorAt, statusOf, integratorOf, isPaused}
 use Rattle.machine.specs.Runs.{after, events, positionOf}
@@ -181,7 +181,7 @@ unfolding examples ceilDiv limited within countOf numberAt bytesOf signedOf unsi
     linksFinding commandsFinding planFinding findingOf accepted sectionOf offsetFrom lengthOf offsetOf fileLength headerWords integratorWords inputWords
     nodeWords linkWords commandWords fileWords encode nodeOf valueWith valueOf sumOver rateOf upperLevel lowerLevel distance ticksTo
     dueTick dueOf nextCommand commandTick leastDue nextTick startSlope startDue startOf startState idleState isDue setsInput
-    isCommanded changes dependsWith linkReaches reached positionAt settingOf settings moves eventBytes eventsAt outputs slopeThen xThen
+    isCommanded changes dependsWith linkReaches reached positionAt inputThen inputsThen moves eventBytes eventsAt outputs slopeThen xThen
     dueThen takenAt tickOf instant eventsOf bars barring statusAt integratorAt statusOf integratorOf isPaused after events
     positionOf settled plainStart plainTick plainPosition plainOutputs plainInstant plainEventsOf plainStatus plainIntegrator
     lazyCount plainFrom plainEventsFrom plainAfter plainEvents unusedNat unusedInt planUnused planSound runningUnused

@@ -27,7 +27,7 @@ use Rattle.machine.specs.Due.{upperLevel, lowerLevel, distance, ticksTo, dueTic
 use Rattle.machine.specs.Next.{nextCommand, commandTick, leastDue, nextTick}
 use Rattle.machine.specs.Start.{startSlope, startDue, startOf, startState, idleState}
 use Rattle.machine.specs.Reach.{isDue, setsInput, isCommanded, changes, dependsWith, linkReaches, reached}
-use Rattle.machine.specs.Instant.{positionAt, settingOf, settings, moves, eventBytes, eventsAt, outputs, slopeThen, xThen, dueThen, takenAt}
+use Rattle.machine.specs.Instant.{positionAt, inputThen, inputsThen, moves, eventBytes, eventsAt, outputs, slopeThen, xThen, dueThen, takenAt}
 use Rattle.machine.specs.Instant.{tickOf, instant, eventsOf}
 use Rattle.machine.specs.Status.{bars, barring, statusAt, integratorAt, statusOf, integratorOf, isPaused}
 use Rattle.machine.specs.Runs.{after, events, positionOf}
@@ -314,8 +314,8 @@ unfolding further ceilDiv limited within countOf numberAt bytesOf signedOf unsig
     numberOf isClean orElse firstFinding horizonFinding integratorsFinding inputsFinding nodesFinding linksFinding commandsFinding
     planFinding findingOf accepted offsetFrom headerWords integratorWords fileWords encode unusedNat unusedInt planUnused nodeOf valueWith
     valueOf sumOver rateOf upperLevel lowerLevel distance ticksTo dueTick dueOf nextCommand commandTick leastDue nextTick startSlope
-    startDue startOf startState idleState isDue setsInput isCommanded changes dependsWith linkReaches reached positionAt settingOf
-    settings moves eventBytes eventsAt outputs slopeThen xThen dueThen takenAt tickOf instant eventsOf bars barring statusAt integratorAt
+    startDue startOf startState idleState isDue setsInput isCommanded changes dependsWith linkReaches reached positionAt inputThen
+    inputsThen moves eventBytes eventsAt outputs slopeThen xThen dueThen takenAt tickOf instant eventsOf bars barring statusAt integratorAt
     statusOf integratorOf isPaused after events positionOf settled plainStart plainTick plainPosition plainOutputs plainInstant
     plainStatus plainIntegrator plainEventsOf plainEventsFrom plainEvents lazyCount plainFrom plainAfter planSound runningUnused integratorSound runningSound isSound
 further-right =

@@ -13,12 +13,12 @@ use Rattle.plan.specs.Laws.Means.{within-size}
 use Rattle.plan.specs.declared.Plan.{Plan}
 use Rattle.machine.specs.Values.{valueWith}
 use Rattle.machine.specs.Reach.{changes, Changed, due, commanded}
-use Rattle.machine.specs.Instant.{positionAt, settings, outputs, tickOf, eventsAt, eventsOf}
+use Rattle.machine.specs.Instant.{positionAt, inputsThen, outputs, tickOf, eventsAt, eventsOf}
 use Rattle.machine.specs.Status.{statusAt, statusOf}
 use Rattle.plan.specs.Rules.{PlanRules}
 use Rattle.machine.specs.Laws.Taken.{output-due}
 use Rattle.machine.specs.Laws.EventWords.{length-events, events-tick, events-source, events-value}
-use Rattle.machine.specs.Laws.Inputs.{setting-of, output-value, input-value}
+use Rattle.machine.specs.Laws.Inputs.{input-set, output-value, input-value}
 use Rattle.machine.specs.Laws.Reach.{changes-means}
 use Rattle.machine.specs.Laws.Status.{paused-horizon, paused-size}
 use Rattle.calls.specs.Promises.Machine.{EventAt, EventsPromise, EventsRead}
@@ -29,33 +29,33 @@ module _ (p : Plan) (ok : PlanRules p) (d : List ℕ) (t : ℕ) (position : ℕ 
   limits : Counts p
   limits = counts-of p (ok .counts)
 
-  abbrev inputsThen : List ℤ
-  inputsThen = settings p u t
+  abbrev inputs : List ℤ
+  inputs = inputsThen p u t
 
   abbrev bytes : List ℕ
-  bytes = eventsAt p t d q inputsThen
+  bytes = eventsAt p t d q inputs
 
   -- the event of a source that changes
-  event-at : (i : ℕ) (value : ℤ) → i < p .counts .n + p .counts .m → Changed p d t i → valueWith p q inputsThen 0 i ≡ value → ∣ value ∣ ≤ M
+  event-at : (i : ℕ) (value : ℤ) → i < p .counts .n + p .counts .m → Changed p d t i → valueWith p q inputs 0 i ≡ value → ∣ value ∣ ≤ M
       → EventAt bytes (12 * countOf (changes p d t) i) t i value
   event-at i value h c e small =
       let changed = changes-means p d t i .1 c in
       record {
-        tick = events-tick p t d q inputsThen i h changed (omega (arith, paused-horizon p d t position zero-status, ok .horizon));
-        number = events-source p t d q inputsThen i h changed (omega (arith, limits));
-        signed = events-value p t d q inputsThen i h changed (rw e small) ∙ e;
+        tick = events-tick p t d q inputs i h changed (omega (arith, paused-horizon p d t position zero-status, ok .horizon));
+        number = events-source p t d q inputs i h changed (omega (arith, limits));
+        signed = events-value p t d q inputs i h changed (rw e small) ∙ e;
       }
 
   pub events-promise : EventsPromise p d t position bytes
   events-promise = record {
     due = λ i h e.
-        event-at i (position i) (omega arith) (due h e) (output-value p q inputsThen i h ∙ outputs-are i h e)
+        event-at i (position i) (omega arith) (due h e) (output-value p q inputs i h ∙ outputs-are i h e)
         (paused-size p d t position zero-status i h e);
     commanded = λ j e h l tick number.
         event-at (p .counts .n + j) (intAt (p .commands .values) e) (omega arith) (commanded j e refl h l tick number)
-        (input-value p q inputsThen j h ∙ setting-of p ok u t j e h l tick number)
+        (input-value p q inputs j h ∙ input-set p ok u t j e h l tick number)
         (within-size M (intAt (p .commands .values) e) .0 (ok .commands e l .value));
-    no-other = length-events p t d q inputsThen;
+    no-other = length-events p t d q inputs;
   }
 
 pub events-read : EventsRead

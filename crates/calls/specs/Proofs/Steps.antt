@@ -8,7 +8,7 @@ use Rattle.machine.specs.Laws.Runs.{run-stopped, run-taken}
 use Rattle.machine.specs.Laws.Began.{start-slope, start-last, start-due}
 use Rattle.machine.specs.Laws.Steps.{moves-means, due-moves, step-due, step-not-due, step-set, step-not-set, step-x, step-l, step-s, step-d}
 use Rattle.machine.specs.Laws.Steps.{step-not-moved}
-use Rattle.machine.specs.Laws.Values.{integrator-value, setting-value, difference-node, product-node, limit-node, high-node, low-node}
+use Rattle.machine.specs.Laws.Values.{integrator-value, input-source, difference-node, product-node, limit-node, high-node, low-node}
 use Rattle.machine.specs.Laws.Values.{sum-none, sum-own, sum-other, rate-floor}
 use Rattle.calls.specs.Promises.Machine.{ValuesMean, RunTakes, StartMeans, StepsMean}
 use Rattle.calls.specs.Proofs.Machine.{command-means}
@@ -17,7 +17,7 @@ pub values-mean : ValuesMean
 values-mean p q u rules =
     record {
       integrators = integrator-value p q u;
-      inputs = setting-value p q u;
+      inputs = input-source p q u;
       differences = difference-node p q u rules;
       products = product-node p q u rules;
       limited-values = limit-node p q u rules;

@@ -25,14 +25,14 @@ use Rattle.plan.specs.declared.Plan.{Plan}
 use Rattle.machine.specs.Values.{valueWith, valueOf}
 use Rattle.machine.specs.Next.{nextCommand}
 use Rattle.machine.specs.Reach.{isDue, changes, dependsWith, reached}
-use Rattle.machine.specs.Instant.{settings, outputs, moves, takenAt, instant, eventsOf}
+use Rattle.machine.specs.Instant.{inputsThen, outputs, moves, takenAt, instant, eventsOf}
 use Rattle.machine.specs.Sound.{RunningShaped}
 use Rattle.machine.specs.Laws.Next.{tick-command}
 use Rattle.machine.specs.Laws.Inputs.{output-value, input-value}
-use Rattle.machine.specs.Laws.Values.{integrator-value, setting-value}
+use Rattle.machine.specs.Laws.Values.{integrator-value, input-source}
 use Rattle.machine.specs.Laws.Taken.{output-kept}
-use Rattle.machine.specs.Laws.Frame.{setting-kept}
-use Rattle.machine.specs.Laws.Soundness.{Takes, takes-next, output-size, setting-size}
+use Rattle.machine.specs.Laws.Frame.{input-kept}
+use Rattle.machine.specs.Laws.Soundness.{Takes, takes-next, output-size, input-then-size}
 use Rattle.machine.specs.declared.Running.{Running}
 use Rattle.machine.specs.declared.Engine.{Engine}
 use Rattle.machine.specs.declared.Engine.the-variants.{Lazy, Eager}
@@ -79,7 +79,7 @@ module _ (p : Plan) (r : Running) {t due : ℕ} {ranges reach : List ℕ} {value
   q = outputs p r t
 
   abbrev u : List ℤ
-  u = settings p (r .inputs) t
+  u = inputsThen p (r .inputs) t
 
   -- ---- before
   pub due-below : due < 2 ^ p .counts .n
@@ -95,7 +95,7 @@ module _ (p : Plan) (r : Running) {t due : ℕ} {ranges reach : List ℕ} {value
   old-output i h = old-at i (omega arith) ∙ integrator-value p (r .q) (r .inputs) i h
 
   old-input : (j : ℕ) → j < p .counts .m → intAt values (p .counts .n + j) ≡ intAt (r .inputs) j
-  old-input j h = old-at (p .counts .n + j) (omega arith) ∙ setting-value p (r .q) (r .inputs) j h
+  old-input j h = old-at (p .counts .n + j) (omega arith) ∙ input-source p (r .q) (r .inputs) j h
 
   old-sized : (i : ℕ) → ∣ intAt values i ∣ ≤ M
   old-sized =
@@ -176,7 +176,7 @@ module _ (p : Plan) (r : Running) {t due : ℕ} {ranges reach : List ℕ} {value
         go true e =
             source-cases (p .counts .n) (p .counts .m) i (λ k. ∣ intAt v2 k ∣ ≤ M) (ltb-true i (p .counts .n + p .counts .m) e)
             (λ k l. rw (output-at k l) (output-size p r (ready .sound) t takes k l))
-            (λ j l. rw (input-at j l) (setting-size p r (ready .sound) t takes j l))
+            (λ j l. rw (input-at j l) (input-then-size p r (ready .sound) t takes j l))
         go false e = rw (node-at i (ltb-false i (p .counts .n + p .counts .m) e)) (old-sized i)
 
     pub nodes-ready-then : NodesReady (p .nodes .a) (p .nodes .b) (p .nodes .lows) (p .nodes .highs) v2 (p .counts .n + p .counts .m) (p .counts .k)
@@ -202,7 +202,7 @@ module _ (p : Plan) (r : Running) {t due : ℕ} {ranges reach : List ℕ} {value
         values-then =
             worked
             ∙ touched.touched-mask p rules (r .d) t q u (r .q) (r .inputs) (output-kept p limits r t)
-            (λ j h e. setting-kept p (r .inputs) t j (limits .m) h e) v2 (done .same-length ∙ full-then) source-at
+            (λ j h e. input-kept p (r .inputs) t j (limits .m) h e) v2 (done .same-length ∙ full-then) source-at
             (λ i h. node-at i h ∙ ap (λ vs. intAt vs i) (ready .values-are)) nodes nodes-then
 
         value-then : (i : ℕ) → i < p .counts .n + p .counts .m + p .counts .k → intAt v3 i ≡ valueOf p q u i
@@ -211,13 +211,13 @@ module _ (p : Plan) (r : Running) {t due : ℕ} {ranges reach : List ℕ} {value
         sized-then : (i : ℕ) → ∣ intAt v3 i ∣ ≤ M
         sized-then =
             rw values-then
-            (values-sized p q u rules (output-size p r (ready .sound) t takes) (setting-size p r (ready .sound) t takes))
+            (values-sized p q u rules (output-size p r (ready .sound) t takes) (input-then-size p r (ready .sound) t takes))
 
         first-then : (i : ℕ) → i < p .counts .n + p .counts .m → intAt v3 i ≡ valueWith p q u zero i
         first-then i h =
             source-cases (p .counts .n) (p .counts .m) i (λ k. intAt v3 k ≡ valueWith p q u zero k) h
             (λ k l. value-then k (omega arith) ∙ integrator-value p q u k l ∙ sym (output-value p q u k l))
-            (λ j l. value-then (p .counts .n + j) (omega arith) ∙ setting-value p q u j l ∙ sym (input-value p q u j l))
+            (λ j l. value-then (p .counts .n + j) (omega arith) ∙ input-source p q u j l ∙ sym (input-value p q u j l))
 
         -- ---- events
         pub events-ready-then : EventsReady changed t v3 at size

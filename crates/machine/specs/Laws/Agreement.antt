@@ -13,7 +13,7 @@ use Rattle.plan.specs.declared.Plan.{Plan}
 use Rattle.machine.specs.Values.{rateOf}
 use Rattle.machine.specs.Due.{dueOf}
 use Rattle.machine.specs.Start.{startSlope, startDue, startOf}
-use Rattle.machine.specs.Instant.{positionAt, settings, moves, outputs, slopeThen, dueThen, takenAt, tickOf, instant, eventsOf}
+use Rattle.machine.specs.Instant.{positionAt, inputsThen, moves, outputs, slopeThen, dueThen, takenAt, tickOf, instant, eventsOf}
 use Rattle.machine.specs.Status.{statusOf, integratorOf}
 use Rattle.machine.specs.Runs.{positionOf}
 use Rattle.machine.specs.Plain.{Plain, settled, plainStart, plainTick, plainPosition, plainOutputs, plainInstant, plainEventsOf}
@@ -76,20 +76,20 @@ module _ (p : Plan) (r : Running) (ok : SoundRunning p r) where
     unfolding outputs plainOutputs
     same-outputs = row-ext (pos 0) 32 (p .counts .n) _ _ (λ i h. rw (same-position i h, same-tick, a .d, a .q))
 
-    pub same-settings : settings p (r .inputs) (tickOf p r) ≡ settings p (m .inputs) (plainTick p m)
-    same-settings = rw (same-tick, a .inputs)
+    pub same-inputs-then : inputsThen p (r .inputs) (tickOf p r) ≡ inputsThen p (m .inputs) (plainTick p m)
+    same-inputs-then = rw (same-tick, a .inputs)
 
     pub same-events : eventsOf p r ≡ plainEventsOf p m
     unfolding eventsOf plainEventsOf
-    same-events = rw (same-outputs, same-settings, same-tick, a .d)
+    same-events = rw (same-outputs, same-inputs-then, same-tick, a .d)
 
     -- ---- one instant
     abbrev new-slope : ℕ → ℤ
-    new-slope = rateOf p (plainOutputs p m) (settings p (m .inputs) (plainTick p m))
+    new-slope = rateOf p (plainOutputs p m) (inputsThen p (m .inputs) (plainTick p m))
 
     same-slope : (i : ℕ) → slopeThen p r (tickOf p r) i ≡ new-slope i
     unfolding slopeThen
-    same-slope i = rw (same-outputs, same-settings)
+    same-slope i = rw (same-outputs, same-inputs-then)
 
     abbrev new-x : List ℤ
     new-x = row (pos 0) 32 (p .counts .n) (plainPosition p m)
@@ -112,7 +112,7 @@ module _ (p : Plan) (r : Running) (ok : SoundRunning p r) where
           q = same-outputs;
           s = slopes-then p r ok t tick-from (tick-due p r) who cover ∙ row-ext (pos 0) 32 (p .counts .n) _ _ (λ i h. same-slope i);
           d = dues-then p r ok t tick-from (tick-due p r) who cover ∙ row-ext 0 32 (p .counts .n) _ _ same-due;
-          inputs = same-settings;
+          inputs = same-inputs-then;
           clock = same-tick;
           next = rw same-tick;
           instants = rw (a .instants);

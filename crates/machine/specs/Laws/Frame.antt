@@ -16,16 +16,16 @@ use Rattle.plan.specs.Laws.Counts.{Counts}
 use Rattle.plan.specs.declared.Plan.{Plan}
 use Rattle.machine.specs.Values.{nodeOf, valueWith, valueOf, sumOver, rateOf}
 use Rattle.machine.specs.Reach.{isDue, setsInput, isCommanded, changes, dependsWith, linkReaches, reached}
-use Rattle.machine.specs.Instant.{settingOf, settings, outputs, slopeThen}
+use Rattle.machine.specs.Instant.{inputThen, inputsThen, outputs, slopeThen}
 use Rattle.machine.specs.Laws.Taken.{output-kept}
 use Rattle.machine.specs.declared.Running.{Running}
 
 -- an input that no command of the tick sets
-pub setting-kept : (p : Plan) (u : List ℤ) (t j : ℕ) → p .counts .m ≤ 8 → j < p .counts .m → isCommanded p t j ≡ false → intAt (settings p u t) j ≡ intAt u j
-unfolding settings isCommanded some settingOf
-setting-kept p u t j h l e = row-at (pos 0) 8 (p .counts .m) _ j h l ∙ kept (p .counts .commands) e
+pub input-kept : (p : Plan) (u : List ℤ) (t j : ℕ) → p .counts .m ≤ 8 → j < p .counts .m → isCommanded p t j ≡ false → intAt (inputsThen p u t) j ≡ intAt u j
+unfolding inputsThen isCommanded some inputThen
+input-kept p u t j h l e = row-at (pos 0) 8 (p .counts .m) _ j h l ∙ kept (p .counts .commands) e
   where
-    kept : (k : ℕ) → some (setsInput p t j) k ≡ false → settingOf p u t j k ≡ intAt u j
+    kept : (k : ℕ) → some (setsInput p t j) k ≡ false → inputThen p u t j k ≡ intAt u j
     kept zero f = refl
     kept (suc k) f = let b = or-false (some (setsInput p t j) k) (setsInput p t j k) f in rw (b .1) (kept k (b .0))
 
@@ -100,5 +100,5 @@ module _ (p : Plan) (d : List ℕ) (t : ℕ) (q u q₀ u₀ : List ℤ)
 pub slope-frame : (p : Plan) → Counts p → (r : Running) (t i : ℕ) → reached p (r .d) t i ≡ false → slopeThen p r t i ≡ rateOf p (r .q) (r .inputs) i
 unfolding slopeThen
 slope-frame p limits r t =
-    rate-kept p (r .d) t (outputs p r t) (settings p (r .inputs) t) (r .q) (r .inputs) (output-kept p limits r t)
-    (λ j h e. setting-kept p (r .inputs) t j (limits .m) h e)
+    rate-kept p (r .d) t (outputs p r t) (inputsThen p (r .inputs) t) (r .q) (r .inputs) (output-kept p limits r t)
+    (λ j h e. input-kept p (r .inputs) t j (limits .m) h e)

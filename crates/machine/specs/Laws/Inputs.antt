@@ -16,9 +16,9 @@ use Rattle.plan.specs.Laws.Means.{Means, means-false, within-size}
 use Rattle.plan.specs.declared.Plan.{Plan}
 use Rattle.machine.specs.Values.{valueWith}
 use Rattle.machine.specs.Reach.{setsInput}
-use Rattle.machine.specs.Instant.{settingOf, settings}
+use Rattle.machine.specs.Instant.{inputThen, inputsThen}
 use Rattle.machine.specs.Laws.Ascending.{entry-unique}
-use Rattle.machine.specs.Laws.Frame.{setting-kept}
+use Rattle.machine.specs.Laws.Frame.{input-kept}
 use Rattle.machine.specs.Laws.Reach.{sets-means, commanded-means}
 
 pub command-unique : (p : Plan) → PlanRules p → (d e : ℕ) → d < p .counts .commands → e < p .counts .commands → natAt (p .commands .ticks) d ≡ natAt (p .commands .ticks) e
@@ -26,9 +26,9 @@ pub command-unique : (p : Plan) → PlanRules p → (d e : ℕ) → d < p .count
 command-unique p rules = entry-unique (p .commands .ticks) (p .commands .inputs) (p .counts .commands) (λ e h. rules .commands e h .order)
 
 module _ (p : Plan) (rules : PlanRules p) (u : List ℤ) (t : ℕ) where
-  setting-at : (j : ℕ) → j < p .counts .m → intAt (settings p u t) j ≡ settingOf p u t j (p .counts .commands)
-  unfolding settings
-  setting-at j h = row-at (pos 0) 8 (p .counts .m) _ j (counts-of p (rules .counts) .m) h
+  input-then-at : (j : ℕ) → j < p .counts .m → intAt (inputsThen p u t) j ≡ inputThen p u t j (p .counts .commands)
+  unfolding inputsThen
+  input-then-at j h = row-at (pos 0) 8 (p .counts .m) _ j (counts-of p (rules .counts) .m) h
 
   -- no other command of the tick sets the input
   sets-once : (j e : ℕ) → e < p .counts .commands → natAt (p .commands .ticks) e ≡ t → natAt (p .commands .inputs) e ≡ j → (k : ℕ) → k < p .counts .commands
@@ -38,34 +38,34 @@ module _ (p : Plan) (rules : PlanRules p) (u : List ℤ) (t : ℕ) where
     λ q. sets-means p t j k .1 (ap (natAt (p .commands .ticks)) q ∙ tick, ap (natAt (p .commands .inputs)) q ∙ number),
   )
 
-  pub setting-of : (j e : ℕ) → j < p .counts .m → e < p .counts .commands → natAt (p .commands .ticks) e ≡ t → natAt (p .commands .inputs) e ≡ j
-      → intAt (settings p u t) j ≡ intAt (p .commands .values) e
-  unfolding settingOf
-  setting-of j e input h tick number = setting-at j input ∙ up-to (p .counts .commands) (omega arith) h
+  pub input-set : (j e : ℕ) → j < p .counts .m → e < p .counts .commands → natAt (p .commands .ticks) e ≡ t → natAt (p .commands .inputs) e ≡ j
+      → intAt (inputsThen p u t) j ≡ intAt (p .commands .values) e
+  unfolding inputThen
+  input-set j e input h tick number = input-then-at j input ∙ up-to (p .counts .commands) (omega arith) h
     where
-      up-to : (k : ℕ) → k ≤ p .counts .commands → e < k → settingOf p u t j k ≡ intAt (p .commands .values) e
+      up-to : (k : ℕ) → k ≤ p .counts .commands → e < k → inputThen p u t j k ≡ intAt (p .commands .values) e
       up-to zero l b = absurd (omega arith)
       up-to (suc k) l b = go (setsInput p t j k) (sets-once j e h tick number k l) (up-to k (omega arith))
         where
-          go : (s : Bool) → Means s (k ≡ e) → (e < k → settingOf p u t j k ≡ intAt (p .commands .values) e)
-              → cond s (intAt (p .commands .values) k) (settingOf p u t j k) ≡ intAt (p .commands .values) e
+          go : (s : Bool) → Means s (k ≡ e) → (e < k → inputThen p u t j k ≡ intAt (p .commands .values) e)
+              → cond s (intAt (p .commands .values) k) (inputThen p u t j k) ≡ intAt (p .commands .values) e
           go true m ih = ap (intAt (p .commands .values)) (m .0 refl)
           go false m ih = let other : k ≡ e → ⊥ = λ q. false≢true (m .1 q) in ih (omega arith)
 
-  pub setting-not-set : (j : ℕ) → j < p .counts .m → ((e : ℕ) → e < p .counts .commands → natAt (p .commands .ticks) e ≡ t → natAt (p .commands .inputs) e ≡ j → ⊥)
-      → intAt (settings p u t) j ≡ intAt u j
-  setting-not-set j h none =
-      setting-kept p u t j (counts-of p (rules .counts) .m) h (means-false (commanded-means p t j .0) (λ f. none (f .0) (f .1) (f .2) (f .3)))
+  pub input-not-set : (j : ℕ) → j < p .counts .m → ((e : ℕ) → e < p .counts .commands → natAt (p .commands .ticks) e ≡ t → natAt (p .commands .inputs) e ≡ j → ⊥)
+      → intAt (inputsThen p u t) j ≡ intAt u j
+  input-not-set j h none =
+      input-kept p u t j (counts-of p (rules .counts) .m) h (means-false (commanded-means p t j .0) (λ f. none (f .0) (f .1) (f .2) (f .3)))
 
-  pub settings-size : ((j : ℕ) → j < p .counts .m → ∣ intAt u j ∣ ≤ M) → (j : ℕ) → j < p .counts .m → ∣ intAt (settings p u t) j ∣ ≤ M
-  unfolding settingOf
-  settings-size sized j h = rw (setting-at j h) (up-to (p .counts .commands) (omega arith))
+  pub inputs-then-size : ((j : ℕ) → j < p .counts .m → ∣ intAt u j ∣ ≤ M) → (j : ℕ) → j < p .counts .m → ∣ intAt (inputsThen p u t) j ∣ ≤ M
+  unfolding inputThen
+  inputs-then-size sized j h = rw (input-then-at j h) (up-to (p .counts .commands) (omega arith))
     where
-      up-to : (k : ℕ) → k ≤ p .counts .commands → ∣ settingOf p u t j k ∣ ≤ M
+      up-to : (k : ℕ) → k ≤ p .counts .commands → ∣ inputThen p u t j k ∣ ≤ M
       up-to zero l = sized j h
       up-to (suc k) l = go (setsInput p t j k) (up-to k (omega arith))
         where
-          go : (s : Bool) → ∣ settingOf p u t j k ∣ ≤ M → ∣ cond s (intAt (p .commands .values) k) (settingOf p u t j k) ∣ ≤ M
+          go : (s : Bool) → ∣ inputThen p u t j k ∣ ≤ M → ∣ cond s (intAt (p .commands .values) k) (inputThen p u t j k) ∣ ≤ M
           go true ih = within-size M (intAt (p .commands .values) k) .0 (rules .commands k l .value)
           go false ih = ih
 

@@ -12,7 +12,7 @@ use Rattle.plan.specs.declared.Plan.{Plan}
 use Rattle.machine.specs.Values.{rateOf}
 use Rattle.machine.specs.Due.{dueOf}
 use Rattle.machine.specs.Plain.{Plain, settled, plainStart, plainTick, plainPosition, plainOutputs, plainInstant}
-use Rattle.machine.specs.Laws.Inputs.{setting-of, setting-not-set}
+use Rattle.machine.specs.Laws.Inputs.{input-set, input-not-set}
 use Rattle.machine.specs.Laws.Taken.{output-due, output-not-due}
 
 -- ---- slopes and due ticks by rule
@@ -61,12 +61,12 @@ module _ (p : Plan) (rules : PlanRules p) (m : Plain) where
   -- 2. inputs
   pub plain-set : (j e : ℕ) → j < p .counts .m → e < p .counts .commands → natAt (p .commands .ticks) e ≡ t → natAt (p .commands .inputs) e ≡ j → intAt (then .inputs) j ≡ intAt (p .commands .values) e
   unfolding plainInstant settled
-  plain-set = setting-of p rules (m .inputs) t
+  plain-set = input-set p rules (m .inputs) t
 
   pub plain-not-set : (j : ℕ) → j < p .counts .m → ((e : ℕ) → e < p .counts .commands → natAt (p .commands .ticks) e ≡ t → natAt (p .commands .inputs) e ≡ j → ⊥)
       → intAt (then .inputs) j ≡ intAt (m .inputs) j
   unfolding plainInstant settled
-  plain-not-set = setting-not-set p rules (m .inputs) t
+  plain-not-set = input-not-set p rules (m .inputs) t
 
   -- 5. "every integrator moved"
   pub plain-x : (i : ℕ) → i < p .counts .n → intAt (then .x) i ≡ plainPosition p m i

@@ -17,14 +17,14 @@ use Rattle.plan.specs.Laws.Means.{within-size}
 use Rattle.plan.specs.declared.Plan.{Plan}
 use Rattle.machine.specs.Due.{never, dueOf}
 use Rattle.machine.specs.Reach.{isDue, reached}
-use Rattle.machine.specs.Instant.{positionAt, settings, moves, outputs, slopeThen, dueThen, takenAt, tickOf, instant}
+use Rattle.machine.specs.Instant.{positionAt, inputsThen, moves, outputs, slopeThen, dueThen, takenAt, tickOf, instant}
 use Rattle.machine.specs.Status.{isPaused}
 use Rattle.machine.specs.Sound.{SoundIntegrator, SoundRunning}
 use Rattle.machine.specs.Laws.Between.{near-between, near-itself}
 use Rattle.machine.specs.Laws.Due.{due-ahead}
 use Rattle.machine.specs.Laws.Next.{command-first, tick-due, tick-above}
 use Rattle.machine.specs.Laws.Status.{tick-horizon, due-size}
-use Rattle.machine.specs.Laws.Inputs.{settings-size}
+use Rattle.machine.specs.Laws.Inputs.{inputs-then-size}
 use Rattle.machine.specs.Laws.Taken.{outputs-at, output-kept, x-at, l-at}
 use Rattle.machine.specs.Laws.Moved.{between-then, not-due, slope-at, due-at, due-by-rule}
 use Rattle.machine.specs.declared.Running.{Running}
@@ -59,8 +59,8 @@ module _ (p : Plan) (r : Running) (ok : SoundRunning p r) (t : ℕ) (takes : Tak
       go true e = takes .within i h e
       go false e = ok .integrators i h .output
 
-  pub setting-size : (j : ℕ) → j < p .counts .m → ∣ intAt (settings p (r .inputs) t) j ∣ ≤ M
-  setting-size = settings-size p (ok .plan) (r .inputs) t (λ k l. within-size M _ .0 (ok .inputs k l))
+  pub input-then-size : (j : ℕ) → j < p .counts .m → ∣ intAt (inputsThen p (r .inputs) t) j ∣ ≤ M
+  input-then-size = inputs-then-size p (ok .plan) (r .inputs) t (λ k l. within-size M _ .0 (ok .inputs k l))
 
   -- a due integrator stands at its output; the others stay between their levels
   pub near-output : (i : ℕ) → i < p .counts .n → pos ∣ positionAt r t i -ℤ intAt (outputs p r t) i ∣ <ℤ intAt (p .integrators .quanta) i
@@ -109,13 +109,13 @@ module _ (p : Plan) (r : Running) (ok : SoundRunning p r) (t : ℕ) (takes : Tak
         }
 
     pub sound-then : SoundRunning p (takenAt p r t moved)
-    unfolding takenAt outputs settings
+    unfolding takenAt outputs inputsThen
     sound-then =
         record {
           plan = ok .plan;
           clock = takes .until;
           integrators = integrator-then;
-          inputs = λ j h. within-size M _ .1 (setting-size j h);
+          inputs = λ j h. within-size M _ .1 (input-then-size j h);
           next = refl;
           instants = omega (arith, ok .instants, takes .after);
           updates = omega (arith, ok .updates, countOf-le moved (p .counts .n));

@@ -13,7 +13,7 @@ use Rattle.machine.specs.Values.{rateOf}
 use Rattle.machine.specs.Due.{dueOf}
 use Rattle.machine.specs.Reach.{isDue}
 use Rattle.machine.specs.Instant.{positionAt, moves, Moves, outputs, slopeThen, dueThen, takenAt, tickOf, instant}
-use Rattle.machine.specs.Laws.Inputs.{setting-of, setting-not-set}
+use Rattle.machine.specs.Laws.Inputs.{input-set, input-not-set}
 use Rattle.machine.specs.Laws.Reach.{reach-means}
 use Rattle.machine.specs.Laws.Taken.{output-due, output-not-due, x-then, x-at, l-at, s-at, d-at}
 use Rattle.machine.specs.declared.Running.{Running}
@@ -52,12 +52,12 @@ module _ (p : Plan) (rules : PlanRules p) (engine : Engine) (r : Running) where
   -- ---- 2. inputs
   pub step-set : (j e : ℕ) → j < p .counts .m → e < p .counts .commands → natAt (p .commands .ticks) e ≡ t → natAt (p .commands .inputs) e ≡ j → intAt (then .inputs) j ≡ intAt (p .commands .values) e
   unfolding instant takenAt
-  step-set = setting-of p rules (r .inputs) t
+  step-set = input-set p rules (r .inputs) t
 
   pub step-not-set : (j : ℕ) → j < p .counts .m → ((e : ℕ) → e < p .counts .commands → natAt (p .commands .ticks) e ≡ t → natAt (p .commands .inputs) e ≡ j → ⊥)
       → intAt (then .inputs) j ≡ intAt (r .inputs) j
   unfolding instant takenAt
-  step-not-set = setting-not-set p rules (r .inputs) t
+  step-not-set = input-not-set p rules (r .inputs) t
 
   -- ---- 5. who moves
   module _ (i : ℕ) (h : i < p .counts .n) (m : Moves p engine (r .d) t i) where

@@ -28,8 +28,8 @@ module _ (p : Plan) (q u : List ℤ) where
   pub integrator-value : (i : ℕ) → i < p .counts .n → valueOf p q u i ≡ intAt q i
   integrator-value i h = value-settled 0 i (omega arith) (omega arith) ∙ output-value p q u i h
 
-  pub setting-value : (j : ℕ) → j < p .counts .m → valueOf p q u (p .counts .n + j) ≡ intAt u j
-  setting-value j h = value-settled 0 (p .counts .n + j) (omega arith) (omega arith) ∙ input-value p q u j h
+  pub input-source : (j : ℕ) → j < p .counts .m → valueOf p q u (p .counts .n + j) ≡ intAt u j
+  input-source j h = value-settled 0 (p .counts .n + j) (omega arith) (omega arith) ∙ input-value p q u j h
 
   -- ---- the rate: the sum over an integrator's own links, by 65,536, rounded towards minus infinity
   pub sum-none : (i : ℕ) → sumOver p q u i 0 ≡ pos 0

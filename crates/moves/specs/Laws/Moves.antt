@@ -15,7 +15,7 @@ use Rattle.plan.specs.Lists.{natAt, intAt, row}
 use Rattle.plan.specs.Laws.Counts.{Counts, counts-of}
 use Rattle.plan.specs.declared.Plan.{Plan}
 use Rattle.machine.specs.Values.{valueOf}
-use Rattle.machine.specs.Instant.{positionAt, settings, outputs, slopeThen, xThen, dueThen, takenAt}
+use Rattle.machine.specs.Instant.{positionAt, inputsThen, outputs, slopeThen, xThen, dueThen, takenAt}
 use Rattle.machine.specs.Sound.{SoundRunning, RunningShaped}
 use Rattle.machine.specs.Laws.Values.{integrator-value}
 use Rattle.machine.specs.Laws.Taken.{x-then}
@@ -83,7 +83,7 @@ module _ (t : ℕ) (ranges sources : List ℕ) (coefficients quanta values : Lis
 
 -- ---- at an instant; `values` holds the values of all sources there
 module _ (p : Plan) (r : Running) (sound : SoundRunning p r) (t : ℕ) (takes : Takes p r t) (values : List ℤ)
-    (same : (i : ℕ) → i < p .counts .n + p .counts .m + p .counts .k → intAt values i ≡ valueOf p (outputs p r t) (settings p (r .inputs) t) i) (moved : ℕ → Bool) where
+    (same : (i : ℕ) → i < p .counts .n + p .counts .m + p .counts .k → intAt values i ≡ valueOf p (outputs p r t) (inputsThen p (r .inputs) t) i) (moved : ℕ → Bool) where
   limits : Counts p
   limits = counts-of p (sound .plan .counts)
 
@@ -95,11 +95,11 @@ module _ (p : Plan) (r : Running) (sound : SoundRunning p r) (t : ℕ) (takes : 
   place i = refl
 
   output : (i : ℕ) → i < p .counts .n → intAt values i ≡ intAt (outputs p r t) i
-  output i h = same i (omega arith) ∙ integrator-value p (outputs p r t) (settings p (r .inputs) t) i h
+  output i h = same i (omega arith) ∙ integrator-value p (outputs p r t) (inputsThen p (r .inputs) t) i h
 
   slope : (i : ℕ) → i < p .counts .n → slopeOf t (rangesOf p) (p .links .sources) (p .links .coefficients) (p .integrators .quanta) values i ≡ slopeThen p r t i
   unfolding slopeOf slopeThen
-  slope i h = own-rate p (sound .plan) values (outputs p r t) (settings p (r .inputs) t) same i h
+  slope i h = own-rate p (sound .plan) values (outputs p r t) (inputsThen p (r .inputs) t) same i h
 
   pub all-movable : ((i : ℕ) → ∣ intAt values i ∣ ≤ M)
       → AllMovable t (rangesOf p) (p .links .sources) (p .links .coefficients) (p .integrators .quanta) values (maskOf moved (p .counts .n)) before

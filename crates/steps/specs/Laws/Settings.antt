@@ -26,7 +26,7 @@ use Rattle.plan.specs.Laws.Searches.{below-suc}
 use Rattle.plan.specs.declared.Plan.{Plan}
 use Rattle.machine.specs.Next.{nextCommand}
 use Rattle.machine.specs.Reach.{setsInput, isCommanded}
-use Rattle.machine.specs.Instant.{settingOf, settings}
+use Rattle.machine.specs.Instant.{inputThen, inputsThen}
 use Rattle.machine.specs.Laws.Next.{command-earlier, command-most, command-is}
 use Rattle.machine.specs.Laws.Reach.{sets-means, commanded-means}
 use Rattle.machine.specs.Laws.Ascending.{ascending}
@@ -58,9 +58,9 @@ unchanged f a b h e = let sum : b ≡ a + (b - a) = omega arith in rw sum (up-to
 
 -- ---- what the first e commands do, of those of tick t
 module _ (p : Plan) (t j : ℕ) where
-  setting-next : (u : List ℤ) (e : ℕ) → setsInput p t j e ≡ false → settingOf p u t j (suc e) ≡ settingOf p u t j e
-  unfolding settingOf
-  setting-next u e f = rw f
+  input-then-next : (u : List ℤ) (e : ℕ) → setsInput p t j e ≡ false → inputThen p u t j (suc e) ≡ inputThen p u t j e
+  unfolding inputThen
+  input-then-next u e f = rw f
 
   some-next : (e : ℕ) → setsInput p t j e ≡ false → some (setsInput p t j) (suc e) ≡ some (setsInput p t j) e
   unfolding some
@@ -80,12 +80,12 @@ record ObeyedTo (p : Plan) (u values : List ℤ) (t : ℕ) (o : Obeying) : Type 
   earlier : (e : ℕ) → e < o .next → natAt (p .commands .ticks) e ≤ t
   ahead : o .next < p .counts .commands → t ≤ natAt (p .commands .ticks) (o .next)
   width : length (o .inputs) ≡ 8
-  inputs : (j : ℕ) → intAt (o .inputs) j ≡ settingOf p u t j (o .next)
+  inputs : (j : ℕ) → intAt (o .inputs) j ≡ inputThen p u t j (o .next)
   unused : UnusedInt (p .counts .m) (o .inputs)
   small : o .commanded < 2 ^ p .counts .m
   commanded : (j : ℕ) → has (o .commanded) j ≡ some (setsInput p t j) (o .next)
   same-length : length (o .values) ≡ length values
-  sources : ((j : ℕ) → j < p .counts .m → intAt values (p .counts .n + j) ≡ intAt u j) → (j : ℕ) → j < p .counts .m → intAt (o .values) (p .counts .n + j) ≡ settingOf p u t j (o .next)
+  sources : ((j : ℕ) → j < p .counts .m → intAt values (p .counts .n + j) ≡ intAt u j) → (j : ℕ) → j < p .counts .m → intAt (o .values) (p .counts .n + j) ≡ inputThen p u t j (o .next)
   kept : (i : ℕ) → ((e : ℕ) → e < o .next → natAt (p .commands .ticks) e ≡ t → i ≡ p .counts .n + natAt (p .commands .inputs) e → ⊥) → intAt (o .values) i ≡ intAt values i
 
 -- the ticks of commands ascend
@@ -109,7 +109,7 @@ module _ (p : Plan) (rules : PlanRules p) (u values : List ℤ) (t : ℕ) (wide 
   -- one more
   obeyed-more : (o : Obeying) → ObeyedTo p u values t o → o .next < p .counts .commands → natAt (p .commands .ticks) (o .next) ≡ t
       → ObeyedTo p u values t (obey (o .next) o)
-  unfolding obeyOne settingOf some
+  unfolding obeyOne inputThen some
   obeyed-more o w h tick =
       let e = o .next in
       let k = natAt (p .commands .inputs) (o .next) in
@@ -167,12 +167,12 @@ pub record TickReady (p : Plan) (u values : List ℤ) (clock t next : ℕ) : Typ
 
 -- What the commands of tick t leave.
 pub record Obeyed (p : Plan) (u values : List ℤ) (t : ℕ) (o : Obeying) : Type 0 where
-  pub inputs-are : o .inputs ≡ settings p u t
+  pub inputs-are : o .inputs ≡ inputsThen p u t
   pub commanded-are : o .commanded ≡ maskOf (isCommanded p t) (p .counts .m)
   pub next-is : o .next ≡ nextCommand p t
   pub same-length : length (o .values) ≡ length values
   -- the values of inputs, where those before are those of u
-  pub sources : ((j : ℕ) → j < p .counts .m → intAt values (p .counts .n + j) ≡ intAt u j) → (j : ℕ) → j < p .counts .m → intAt (o .values) (p .counts .n + j) ≡ intAt (settings p u t) j
+  pub sources : ((j : ℕ) → j < p .counts .m → intAt values (p .counts .n + j) ≡ intAt u j) → (j : ℕ) → j < p .counts .m → intAt (o .values) (p .counts .n + j) ≡ intAt (inputsThen p u t) j
   -- the values of all sources but commanded inputs
   pub kept : (i : ℕ) → ((j : ℕ) → j < p .counts .m → isCommanded p t j ≡ true → i ≡ p .counts .n + j → ⊥) → intAt (o .values) i ≡ intAt values i
 
@@ -185,9 +185,9 @@ module _ (p : Plan) (rules : PlanRules p) (u values : List ℤ) where
     none-before : (j d : ℕ) → d < next → setsInput p t j d ≡ false
     none-before j d h = other-tick p t j d (λ q. omega (arith, before d h))
 
-    first-settings : (j : ℕ) → settingOf p u t j next ≡ intAt u j
-    unfolding settingOf
-    first-settings j = unchanged (settingOf p u t j) 0 next (omega arith) (λ d l h. setting-next p t j u d (none-before j d h))
+    first-inputs-then : (j : ℕ) → inputThen p u t j next ≡ intAt u j
+    unfolding inputThen
+    first-inputs-then j = unchanged (inputThen p u t j) 0 next (omega arith) (λ d l h. input-then-next p t j u d (none-before j d h))
 
     first-commanded : (j : ℕ) → some (setsInput p t j) next ≡ false
     unfolding some
@@ -200,12 +200,12 @@ module _ (p : Plan) (rules : PlanRules p) (u values : List ℤ) where
           earlier = λ d h. omega (arith, before d h);
           ahead = ready .ahead;
           width = ready .inputs-width;
-          inputs = λ j. sym (first-settings j);
+          inputs = λ j. sym (first-inputs-then j);
           unused = ready .inputs-unused;
           small = pow-pos (p .counts .m);
           commanded = λ j. has-none j ∙ sym (first-commanded j);
           same-length = refl;
-          sources = λ agree j h. agree j h ∙ sym (first-settings j);
+          sources = λ agree j h. agree j h ∙ sym (first-inputs-then j);
           kept = λ i f. refl;
         }
 
@@ -217,28 +217,28 @@ module _ (p : Plan) (rules : PlanRules p) (u values : List ℤ) where
     none-after : (j d : ℕ) → o .next ≤ d → d < p .counts .commands → setsInput p t j d ≡ false
     none-after j d h l = other-tick p t j d (λ q. omega (arith, above (omega arith), ticks-ascend p rules (o .next) d h l))
 
-    all-settings : (j : ℕ) → settingOf p u t j (p .counts .commands) ≡ settingOf p u t j (o .next)
-    all-settings j = unchanged (settingOf p u t j) (o .next) (p .counts .commands) (w .most) (λ d l h. setting-next p t j u d (none-after j d l h))
+    all-inputs-then : (j : ℕ) → inputThen p u t j (p .counts .commands) ≡ inputThen p u t j (o .next)
+    all-inputs-then j = unchanged (inputThen p u t j) (o .next) (p .counts .commands) (w .most) (λ d l h. input-then-next p t j u d (none-after j d l h))
 
     all-commanded : (j : ℕ) → isCommanded p t j ≡ some (setsInput p t j) (o .next)
     unfolding isCommanded
     all-commanded j = unchanged (some (setsInput p t j)) (o .next) (p .counts .commands) (w .most) (λ d l h. some-next p t j d (none-after j d l h))
 
     commands-done : Obeyed p u values t o
-    unfolding settings
+    unfolding inputsThen
     commands-done =
         let limits = counts-of p (rules .counts) in
         record {
           inputs-are =
               sym (row-all (pos 0) 8 (p .counts .m) (o .inputs) (w .width) (w .unused))
-              ∙ row-ext (pos 0) 8 (p .counts .m) _ _ (λ j h. w .inputs j ∙ sym (all-settings j));
+              ∙ row-ext (pos 0) 8 (p .counts .m) _ _ (λ j h. w .inputs j ∙ sym (all-inputs-then j));
           commanded-are =
               mask-ext (p .counts .m) (o .commanded) (maskOf (isCommanded p t) (p .counts .m)) (w .small) (maskOf-lt (isCommanded p t) (p .counts .m))
               (λ j h. w .commanded j ∙ sym (all-commanded j) ∙ sym (has-maskOf (isCommanded p t) (p .counts .m) j h));
           next-is = command-is p t (o .next) (w .most) (w .earlier) above;
           same-length = w .same-length;
           sources = λ agree j h.
-              w .sources agree j h ∙ sym (all-settings j) ∙ sym (row-at (pos 0) 8 (p .counts .m) _ j (limits .m) h);
+              w .sources agree j h ∙ sym (all-inputs-then j) ∙ sym (row-at (pos 0) 8 (p .counts .m) _ j (limits .m) h);
           kept = λ i f.
               w .kept i
               (λ e h tick. f (natAt (p .commands .inputs) e) (rules .commands e (omega (arith, w .most)) .number)

@@ -15,12 +15,12 @@ use Rattle.plan.specs.declared.Plan.{Plan}
 use Rattle.machine.specs.Values.{rateOf}
 use Rattle.machine.specs.Due.{upperLevel, lowerLevel, dueTick, dueOf}
 use Rattle.machine.specs.Start.{startSlope, startDue}
-use Rattle.machine.specs.Instant.{positionAt, settings, outputs, slopeThen, dueThen}
+use Rattle.machine.specs.Instant.{positionAt, inputsThen, outputs, slopeThen, dueThen}
 use Rattle.machine.specs.Sound.{SoundRunning}
 use Rattle.machine.specs.Laws.Between.{Between, near-between, near-itself}
 use Rattle.machine.specs.Laws.Sizes.{rate-most}
 use Rattle.machine.specs.Laws.Taken.{x-then}
-use Rattle.machine.specs.Laws.Soundness.{Takes, output-size, setting-size, near-output}
+use Rattle.machine.specs.Laws.Soundness.{Takes, output-size, input-then-size, near-output}
 use Rattle.machine.specs.declared.Running.{Running}
 use Rattle.timing.specs.Ticks.{DueReady}
 
@@ -69,7 +69,7 @@ module _ (p : Plan) (r : Running) (ok : SoundRunning p r) where
       → DueReady t (positionAt r t i) (intAt (outputs p r t) i) (intAt (p .integrators .quanta) i) (slopeThen p r t i)
   unfolding slopeThen
   due-ready-then t takes i used =
-      due-ready p (ok .plan) (outputs p r t) (settings p (r .inputs) t) (output-size p r ok t takes) (setting-size p r ok t takes)
+      due-ready p (ok .plan) (outputs p r t) (inputsThen p (r .inputs) t) (output-size p r ok t takes) (input-then-size p r ok t takes)
       t (takes .until) i used (positionAt r t i)
       (near-between p (outputs p r t) i (positionAt r t i) .0 (near-output p r ok t takes i used))
 
