@@ -9,12 +9,13 @@ use lib.Dec.{eqb}
 use lib.ListN.{length}
 use Rattle.integers.specs.Parts.{∣_∣}
 use Rattle.bitset.specs.Counts.{countOf}
-use Rattle.plan.specs.Format.{M, offsetIn, lengthIn}
+use Rattle.plan.specs.Numbers.{M, never}
+use Rattle.plan.specs.Format.{offsetIn, lengthIn}
 use Rattle.plan.specs.Lists.{natAt, intAt}
 use Rattle.plan.specs.Refusals.{sectionOf, sectionStart}
 use Rattle.plan.specs.declared.Plan.{Plan}
 use Rattle.machine.specs.Values.{valueOf, sumOver, rateOf}
-use Rattle.machine.specs.Due.{never, upperLevel, lowerLevel, distance, ticksTo}
+use Rattle.machine.specs.Due.{upperLevel, lowerLevel, distance, ticksTo}
 use Rattle.machine.specs.Instant.{positionAt, tickOf, eventsOf}
 use Rattle.machine.specs.Status.{statusOf}
 use Rattle.machine.specs.Runs.{events, positionOf}

@@ -7,7 +7,8 @@ use native.Mathlib.Omega.{arith}
 use lib.Dec.{ltb}
 use lib.ListN.{length}
 use borrow.Author.Tests.{ltb-true, ltb-false}
-use Rattle.plan.specs.Format.{sections, part, sectionIn}
+use Rattle.plan.specs.Numbers.{sections}
+use Rattle.plan.specs.Format.{part, sectionIn}
 use Rattle.plan.specs.Refusals.{accepted, sectionOf, sectionStart}
 use Rattle.plan.specs.Laws.Answers.{accepted-sizes}
 use Rattle.plan.specs.Laws.Parts.{length-entries}

@@ -3,7 +3,7 @@
 use mathlib.Core.List.{List}
 use Prim.Native.Nat.{ℕ, _≤_}
 use lib.ListN.{length}
-use Rattle.plan.specs.Format.{headerLength}
+use Rattle.plan.specs.Numbers.{headerLength}
 use Rattle.plan.specs.Tests.{longEnough, offsetsKept, sizesKept}
 use Rattle.plan.specs.Rules.{OffsetRule, SizeRule}
 use Rattle.plan.specs.Refusals.{unless, orElse}

@@ -5,8 +5,8 @@ use Prim.Native.Nat.{ℕ, _≤_, min}
 use lib.IntN.{ℤ}
 use lib.Dec.{ltb}
 use Rattle.bitset.specs.Mask.{maskOf}
+use Rattle.plan.specs.Numbers.{never}
 use Rattle.plan.specs.Lists.{natAt, firstFrom}
-use Rattle.machine.specs.Due.{never}
 use Rattle.machine.specs.Next.{leastDue}
 use Rattle.machine.specs.Reach.{isDue}
 use Rattle.timing.specs.Standing.{barsIn, standingOf, DueReach}

@@ -5,7 +5,7 @@ ghost use Prim.Native.Nat.{_<_};
 ghost use lib.Dec.{eqb, ltb};
 ghost use Rattle.integers.specs.Parts.{∣_∣};
 ghost use Rattle.integers.specs.Range.{within};
-ghost use Rattle.plan.specs.Format.{M};
+ghost use Rattle.plan.specs.Numbers.{M};
 ghost use Rattle.plan.specs.Tests.{horizonKept, integratorTest, kindKept, linkTest, commandTest, ascends, follows};
 use machine::State;
 use plan::COMMANDS;

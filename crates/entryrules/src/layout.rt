@@ -1,8 +1,8 @@
 // The sections of a plan file, in order, as a table: the bytes of an entry, and the limits of the count.
 ghost use mathlib.Core.Path.{_≡_};
 ghost use Prim.Native.Nat.{_<_};
+ghost use Rattle.plan.specs.Numbers.{sections, entrySizes, leastCounts, largestCounts};
 ghost use Rattle.plan.specs.Lists.{natAt, every};
-ghost use Rattle.plan.specs.Format.{sections, entrySizes, leastCounts, largestCounts};
 ghost use Rattle.plan.specs.Tests.{countKept};
 
 pub const SECTIONS: usize = 5;

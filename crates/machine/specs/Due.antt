@@ -8,12 +8,9 @@ use lib.Signed.{ltZ, _≤ℤ_, _<ℤ_}
 use lib.Dec.{eqb}
 use Rattle.integers.specs.Parts.{up, ∣_∣}
 use Rattle.integers.specs.Division.{ceilDiv}
+use Rattle.plan.specs.Numbers.{never}
 use Rattle.plan.specs.Lists.{intAt}
 use Rattle.plan.specs.declared.Plan.{Plan}
-
--- the due tick of an integrator whose slope is 0: above every tick, the largest that 32 bits hold
-abbrev pub never : ℕ
-never = 4294967295
 
 -- "with quantum D, the upper level is q+D and the lower q−D"
 unfoldable pub upperLevel : Plan → List ℤ → ℕ → ℤ

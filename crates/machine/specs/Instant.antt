@@ -7,6 +7,7 @@ use Prim.Native.Nat.{ℕ, zero, suc, _+_, _-_}
 use lib.IntN.{ℤ, pos, _+ℤ_, _*ℤ_}
 use Rattle.bitset.specs.Counts.{countOf}
 use Rattle.words.specs.Word.{wordOf, flat}
+use Rattle.plan.specs.Numbers.{mostIntegrators, mostInputs}
 use Rattle.plan.specs.Lists.{natAt, intAt, row, joined}
 use Rattle.plan.specs.declared.Plan.{Plan}
 use Rattle.machine.specs.Values.{valueWith, rateOf}
@@ -28,7 +29,7 @@ inputThen p u t j (suc e) = cond (setsInput p t j e) (intAt (p .commands .values
 
 -- 2. "Commands of tick t set their inputs."
 unfoldable pub inputsThen : Plan → List ℤ → ℕ → List ℤ
-inputsThen p u t = row (pos 0) 8 (p .counts .m) (λ j. inputThen p u t j (p .counts .commands))
+inputsThen p u t = row (pos 0) mostInputs (p .counts .m) (λ j. inputThen p u t j (p .counts .commands))
 
 -- 5. "The lazy engine moves those due or reached, the eager engine all"
 unfoldable pub moves : (p : Plan) (engine : Engine) (d : List ℕ) (t i : ℕ) → Bool
@@ -51,7 +52,7 @@ eventsAt p t d q u = joined (λ i. cond (changes p d t i) (eventBytes t i (value
 module _ (p : Plan) (r : Running) (t : ℕ) where
   -- 1. "The due integrators (d = t) take q = x+s×(t−l)." The others keep theirs.
   unfoldable pub outputs : List ℤ
-  outputs = row (pos 0) 32 (p .counts .n) (λ i. cond (isDue (r .d) t i) (positionAt r t i) (intAt (r .q) i))
+  outputs = row (pos 0) mostIntegrators (p .counts .n) (λ i. cond (isDue (r .d) t i) (positionAt r t i) (intAt (r .q) i))
 
   -- 3. and 5. the new slope, by the new outputs and inputs and the node values worked out from them
   unfoldable pub slopeThen : ℕ → ℤ
@@ -70,11 +71,11 @@ module _ (p : Plan) (r : Running) (t : ℕ) where
   unfoldable pub takenAt : (ℕ → Bool) → Running
   takenAt moved =
       record {
-        x = row (pos 0) 32 (p .counts .n) (λ i. cond (moved i) (xThen i) (intAt (r .x) i));
+        x = row (pos 0) mostIntegrators (p .counts .n) (λ i. cond (moved i) (xThen i) (intAt (r .x) i));
         q = outputs;
-        s = row (pos 0) 32 (p .counts .n) (λ i. cond (moved i) (slopeThen i) (intAt (r .s) i));
-        l = row 0 32 (p .counts .n) (λ i. cond (moved i) t (natAt (r .l) i));
-        d = row 0 32 (p .counts .n) (λ i. cond (moved i) (dueThen i) (natAt (r .d) i));
+        s = row (pos 0) mostIntegrators (p .counts .n) (λ i. cond (moved i) (slopeThen i) (intAt (r .s) i));
+        l = row 0 mostIntegrators (p .counts .n) (λ i. cond (moved i) t (natAt (r .l) i));
+        d = row 0 mostIntegrators (p .counts .n) (λ i. cond (moved i) (dueThen i) (natAt (r .d) i));
         inputs = inputsThen p (r .inputs) t;
         clocks = record {
           clock = t;

@@ -3,9 +3,9 @@ use mathlib.Core.Bool.{cond}
 use mathlib.Core.List.{List}
 use Prim.Native.Nat.{ℕ, zero, suc, min}
 use lib.Dec.{ltb}
+use Rattle.plan.specs.Numbers.{never}
 use Rattle.plan.specs.Lists.{natAt, firstFrom}
 use Rattle.plan.specs.declared.Plan.{Plan}
-use Rattle.machine.specs.Due.{never}
 
 -- "the next command is the first with tick above c, or the command count if none"
 unfoldable pub nextCommand : Plan → ℕ → ℕ

@@ -6,6 +6,7 @@ use Prim.Native.Nat.{ℕ, zero, suc, _+_, _-_}
 use lib.IntN.{ℤ, pos, _+ℤ_, _*ℤ_}
 use lib.Dec.{eqb}
 use Rattle.bitset.specs.Counts.{countOf}
+use Rattle.plan.specs.Numbers.{mostIntegrators}
 use Rattle.plan.specs.Lists.{intAt, row}
 use Rattle.plan.specs.declared.Plan.{Plan}
 use Rattle.machine.specs.Values.{rateOf}
@@ -34,8 +35,8 @@ module _ (p : Plan) where
       record {
         x = x;
         q = q;
-        s = row (pos 0) 32 (p .counts .n) slope;
-        d = row 0 32 (p .counts .n) (λ i. dueOf p q i t (intAt x i) (slope i));
+        s = row (pos 0) mostIntegrators (p .counts .n) slope;
+        d = row 0 mostIntegrators (p .counts .n) (λ i. dueOf p q i t (intAt x i) (slope i));
         inputs = u;
         clock = t;
         next = nextCommand p t;
@@ -55,12 +56,12 @@ module _ (p : Plan) where
   plainPosition m i = intAt (m .x) i +ℤ intAt (m .s) i *ℤ pos (plainTick m - m .clock)
 
   unfoldable pub plainOutputs : Plain → List ℤ
-  plainOutputs m = row (pos 0) 32 (p .counts .n) (λ i. cond (isDue (m .d) (plainTick m) i) (plainPosition m i) (intAt (m .q) i))
+  plainOutputs m = row (pos 0) mostIntegrators (p .counts .n) (λ i. cond (isDue (m .d) (plainTick m) i) (plainPosition m i) (intAt (m .q) i))
 
   -- one instant: all move, the due ones take their position as output, the commands of the tick set their inputs
   unfoldable pub plainInstant : Plain → Plain
   plainInstant m =
-      settled (row (pos 0) 32 (p .counts .n) (plainPosition m)) (plainOutputs m) (inputsThen p (m .inputs) (plainTick m)) (plainTick m) (m .instants + 1)
+      settled (row (pos 0) mostIntegrators (p .counts .n) (plainPosition m)) (plainOutputs m) (inputsThen p (m .inputs) (plainTick m)) (plainTick m) (m .instants + 1)
 
   unfoldable pub plainEventsOf : Plain → List ℕ
   plainEventsOf m = eventsAt p (plainTick m) (m .d) (plainOutputs m) (inputsThen p (m .inputs) (plainTick m))

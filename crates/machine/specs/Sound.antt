@@ -6,7 +6,7 @@ use lib.IntN.{pos, _-ℤ_}
 use lib.Signed.{_<ℤ_}
 use lib.ListN.{length}
 use Rattle.integers.specs.Parts.{∣_∣}
-use Rattle.plan.specs.Format.{M}
+use Rattle.plan.specs.Numbers.{M, mostIntegrators, mostInputs}
 use Rattle.plan.specs.Lists.{natAt, intAt}
 use Rattle.plan.specs.Rules.{Within, PlanRules}
 use Rattle.plan.specs.Unused.{UnusedNat, UnusedInt, PlanUnused}
@@ -58,12 +58,12 @@ pub record SoundRunning (p : Plan) (r : Running) : Type 0 where
 
 -- the arrays of the running figures have their full width, as those of a struct have
 pub record RunningShaped (r : Running) : Type 0 where
-  pub x : length (r .x) ≡ 32
-  pub q : length (r .q) ≡ 32
-  pub s : length (r .s) ≡ 32
-  pub l : length (r .l) ≡ 32
-  pub d : length (r .d) ≡ 32
-  pub inputs : length (r .inputs) ≡ 8
+  pub x : length (r .x) ≡ mostIntegrators
+  pub q : length (r .q) ≡ mostIntegrators
+  pub s : length (r .s) ≡ mostIntegrators
+  pub l : length (r .l) ≡ mostIntegrators
+  pub d : length (r .d) ≡ mostIntegrators
+  pub inputs : length (r .inputs) ≡ mostInputs
 
 abbrev pub Sound : State → Type 0
 Sound st = SoundRunning (st .plan) (st .run)

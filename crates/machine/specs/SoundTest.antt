@@ -7,7 +7,7 @@ use lib.Signed.{ltZ}
 use lib.Dec.{leb, ltb, eqb}
 use Rattle.integers.specs.Parts.{∣_∣}
 use Rattle.integers.specs.Range.{within}
-use Rattle.plan.specs.Format.{M}
+use Rattle.plan.specs.Numbers.{M}
 use Rattle.plan.specs.Lists.{natAt, intAt, every}
 use Rattle.plan.specs.Tests.{countsKept}
 use Rattle.plan.specs.Refusals.{isClean, planFinding}

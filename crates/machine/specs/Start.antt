@@ -1,6 +1,7 @@
 -- Binding definition: "Start: x = q = start, l = c = 0, slopes and dues by rule, counts 0." And the idle state.
 use Prim.Native.Nat.{ℕ}
 use lib.IntN.{ℤ, pos}
+use Rattle.plan.specs.Numbers.{mostIntegrators}
 use Rattle.plan.specs.Lists.{intAt, row}
 use Rattle.plan.specs.Idle.{idlePlan}
 use Rattle.plan.specs.declared.Plan.{Plan}
@@ -22,9 +23,9 @@ module _ (p : Plan) where
       record {
         x = p .integrators .starts;
         q = p .integrators .starts;
-        s = row (pos 0) 32 (p .counts .n) startSlope;
-        l = row 0 32 (p .counts .n) (λ i. 0);
-        d = row 0 32 (p .counts .n) startDue;
+        s = row (pos 0) mostIntegrators (p .counts .n) startSlope;
+        l = row 0 mostIntegrators (p .counts .n) (λ i. 0);
+        d = row 0 mostIntegrators (p .counts .n) startDue;
         inputs = p .inputs .firsts;
         clocks = record {
           clock = 0;

@@ -6,10 +6,9 @@ use Prim.Native.Nat.{ℕ}
 use lib.IntN.{ℤ}
 use lib.Dec.{ltb, eqb}
 use Rattle.integers.specs.Range.{within}
-use Rattle.plan.specs.Format.{M}
+use Rattle.plan.specs.Numbers.{M, never}
 use Rattle.plan.specs.Lists.{firstFrom}
 use Rattle.plan.specs.declared.Plan.{Plan}
-use Rattle.machine.specs.Due.{never}
 use Rattle.machine.specs.Reach.{isDue}
 use Rattle.machine.specs.Instant.{positionAt, tickOf}
 use Rattle.machine.specs.declared.Running.{Running}

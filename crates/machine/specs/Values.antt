@@ -7,7 +7,7 @@ use lib.Signed.{leZ}
 use lib.Dec.{ltb, eqb}
 use Rattle.integers.specs.Division.{floored}
 use Rattle.integers.specs.Range.{limited}
-use Rattle.plan.specs.Format.{M}
+use Rattle.plan.specs.Numbers.{M}
 use Rattle.plan.specs.Lists.{natAt, intAt}
 use Rattle.plan.specs.declared.Plan.{Plan}
 

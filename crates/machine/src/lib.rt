@@ -1,11 +1,12 @@
 // The state of the machine of document 01: the plan, and the running figures.
 ghost use mathlib.Core.Path.{_≡_};
 ghost use lib.IntN.{pos};
-ghost use Rattle.plan.specs.Format.{M};
-ghost use Rattle.machine.specs.Due.{never};
+ghost use Rattle.plan.specs.Numbers.{M, never};
 ghost use Rattle.machine.specs.Start.{idleState};
 use plan::INPUTS;
 use plan::INTEGRATORS;
+use plan::M;
+use plan::NEVER;
 use plan::Plan;
 
 // The clock, the number of the next command, instants and updates.
@@ -42,11 +43,10 @@ pub enum Engine {
 }
 
 impl State {
-    // "Let M = 2^30 = 1,073,741,824."
-    pub const M: i64 = 1073741824;
+    // The numbers M and never of the crate `plan`, as constants of the state type.
+    pub const M: i64 = M;
 
-    // the due tick of an integrator that does not move: the largest u32, above every tick that can occur
-    pub const NEVER: u32 = 4294967295;
+    pub const NEVER: u32 = NEVER;
 
     pub fn largest() -> i64
         ensures { λ r. ⌜ r ≡ pos M ⌝ }

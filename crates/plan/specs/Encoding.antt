@@ -3,8 +3,8 @@ use mathlib.Core.List.{List, [], _∷_, _++_}
 use Prim.Native.Nat.{ℕ, zero, suc, _+_, _*_}
 use lib.IntN.{ℤ}
 use Rattle.words.specs.Word.{wordOf, flat}
+use Rattle.plan.specs.Numbers.{sections, entrySizes, headerLength}
 use Rattle.plan.specs.Lists.{natAt, intAt, joined}
-use Rattle.plan.specs.Format.{sections, entrySizes, headerLength}
 use Rattle.plan.specs.Tests.{counts}
 use Rattle.plan.specs.declared.Plan.{Plan}
 

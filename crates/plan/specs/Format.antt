@@ -1,35 +1,16 @@
 -- Binding definition: where each number of a "Plan file" stands, and the plan that a file holds. Nothing is tested here; what a file does
 -- not have reads as 0.
 use mathlib.Core.Path.{_≡_}
-use mathlib.Core.List.{List, [], _∷_}
+use mathlib.Core.List.{List}
 use Prim.Native.Nat.{ℕ, zero, suc, _+_, _*_, _/_}
 use lib.IntN.{ℤ, pos}
 use lib.ListN.{length, take, drop}
 use Rattle.words.specs.Word.{word, signedWord}
 use Rattle.plan.specs.Lists.{natAt, row}
+use Rattle.plan.specs.Numbers.{mostIntegrators, mostInputs, mostNodes, mostLinks, mostCommands, entrySizes, largestCounts, headerLength}
 use Rattle.plan.specs.declared.Plan.{Plan}
 
--- "Let M = 2^30 = 1,073,741,824."
-abbrev pub M : ℕ
-M = 1073741824
-
--- "Sections in order": integrators, inputs, nodes, links, commands; of each the bytes of an entry, and the least and the largest count
-abbrev pub sections : ℕ
-sections = 5
-
-abbrev pub entrySizes : List ℕ
-entrySizes = 8 ∷ 4 ∷ 20 ∷ 12 ∷ 12 ∷ []
-
-abbrev pub leastCounts : List ℕ
-leastCounts = 1 ∷ 0 ∷ 0 ∷ 0 ∷ 0 ∷ []
-
-abbrev pub largestCounts : List ℕ
-largestCounts = 32 ∷ 8 ∷ 16 ∷ 256 ∷ 64 ∷ []
-
 -- "Header, 44 bytes: horizon .., then five pairs of offset and length in bytes"
-abbrev pub headerLength : ℕ
-headerLength = 4 + 8 * sections
-
 unfoldable pub horizonIn : List ℕ → ℕ
 horizonIn file = word file 0
 
@@ -123,17 +104,17 @@ planIn file =
 
 -- the arrays of a plan have their full width, as those of a struct have
 pub record Shaped (p : Plan) : Type 0 where
-  pub starts : length (p .integrators .starts) ≡ 32
-  pub quanta : length (p .integrators .quanta) ≡ 32
-  pub firsts : length (p .inputs .firsts) ≡ 8
-  pub kinds : length (p .nodes .kinds) ≡ 16
-  pub a : length (p .nodes .a) ≡ 16
-  pub b : length (p .nodes .b) ≡ 16
-  pub lows : length (p .nodes .lows) ≡ 16
-  pub highs : length (p .nodes .highs) ≡ 16
-  pub targets : length (p .links .targets) ≡ 256
-  pub sources : length (p .links .sources) ≡ 256
-  pub coefficients : length (p .links .coefficients) ≡ 256
-  pub ticks : length (p .commands .ticks) ≡ 64
-  pub inputs : length (p .commands .inputs) ≡ 64
-  pub values : length (p .commands .values) ≡ 64
+  pub starts : length (p .integrators .starts) ≡ mostIntegrators
+  pub quanta : length (p .integrators .quanta) ≡ mostIntegrators
+  pub firsts : length (p .inputs .firsts) ≡ mostInputs
+  pub kinds : length (p .nodes .kinds) ≡ mostNodes
+  pub a : length (p .nodes .a) ≡ mostNodes
+  pub b : length (p .nodes .b) ≡ mostNodes
+  pub lows : length (p .nodes .lows) ≡ mostNodes
+  pub highs : length (p .nodes .highs) ≡ mostNodes
+  pub targets : length (p .links .targets) ≡ mostLinks
+  pub sources : length (p .links .sources) ≡ mostLinks
+  pub coefficients : length (p .links .coefficients) ≡ mostLinks
+  pub ticks : length (p .commands .ticks) ≡ mostCommands
+  pub inputs : length (p .commands .inputs) ≡ mostCommands
+  pub values : length (p .commands .values) ≡ mostCommands

@@ -4,25 +4,26 @@ use mathlib.Core.Bool.{Bool, cond, _&&_}
 use mathlib.Core.List.{List, []}
 use Prim.Native.Nat.{ℕ, zero, suc, _+_}
 use lib.Dec.{ltb, eqb}
-use Rattle.plan.specs.Format.{sections, offsetIn, sectionIn, planIn}
+use Rattle.plan.specs.Numbers.{sections, acceptance, refusedShort, refusedOffsets, refusedSizes, refusedHorizon, refusedIntegrator, refusedInput, refusedNode, refusedLink, refusedCommand}
+use Rattle.plan.specs.Format.{offsetIn, sectionIn, planIn}
 use Rattle.plan.specs.Tests.{longEnough, offsetsKept, sizesKept, horizonKept, integratorKept, inputKept, nodeKept, linkLimits}
 use Rattle.plan.specs.Tests.{linkOrdered, commandLimits, commandOrdered}
 use Rattle.plan.specs.declared.Plan.{Plan}
 use Rattle.plan.specs.declared.Finding.{Finding}
 use Rattle.plan.specs.declared.Finding.the-variants.{Clean, Short, Offsets, Sizes, Horizon, Integrator, Input, Node, Link, Command}
 
--- document 01's number of each finding, 0 for none
+-- document 01's number of each finding
 unfoldable pub numberOf : Finding → ℕ
-numberOf Clean = 0
-numberOf Short = 1
-numberOf Offsets = 2
-numberOf Sizes = 3
-numberOf Horizon = 4
-numberOf (Integrator i) = 5
-numberOf (Input j) = 6
-numberOf (Node j) = 7
-numberOf (Link e) = 8
-numberOf (Command e) = 9
+numberOf Clean = acceptance
+numberOf Short = refusedShort
+numberOf Offsets = refusedOffsets
+numberOf Sizes = refusedSizes
+numberOf Horizon = refusedHorizon
+numberOf (Integrator i) = refusedIntegrator
+numberOf (Input j) = refusedInput
+numberOf (Node j) = refusedNode
+numberOf (Link e) = refusedLink
+numberOf (Command e) = refusedCommand
 
 -- and its entry: "lowest faulty entry of that section (0 for 1 to 4)"
 unfoldable pub entryOf : Finding → ℕ
@@ -38,7 +39,7 @@ entryOf (Link e) = e
 entryOf (Command e) = e
 
 unfoldable pub isClean : Finding → Bool
-isClean finding = eqb (numberOf finding) 0
+isClean finding = eqb (numberOf finding) acceptance
 
 -- the finding where a rule is broken
 abbrev pub unless : Bool → Finding → Finding

@@ -7,8 +7,9 @@ use Prim.Native.Nat.{ℕ, suc, _+_, _%_, _≤_, _<_}
 use lib.IntN.{ℤ, pos, negℤ}
 use lib.Signed.{_≤ℤ_}
 use lib.ListN.{length, getD}
+use Rattle.plan.specs.Numbers.{M, largestCoefficient, largestHorizon, sections, entrySizes, leastCounts, largestCounts, headerLength}
 use Rattle.plan.specs.Lists.{natAt, intAt}
-use Rattle.plan.specs.Format.{M, sections, entrySizes, leastCounts, largestCounts, headerLength, offsetIn, lengthIn}
+use Rattle.plan.specs.Format.{offsetIn, lengthIn}
 use Rattle.plan.specs.Format.{countIn, planIn}
 use Rattle.plan.specs.Tests.{counts}
 use Rattle.plan.specs.declared.Plan.{Plan}
@@ -37,7 +38,7 @@ module _ (file : List ℕ) where
 
 module _ (p : Plan) where
   abbrev pub HorizonRule : Type 0
-  HorizonRule = (1 ≤ p .horizon) × (p .horizon ≤ 2000000000)
+  HorizonRule = (1 ≤ p .horizon) × (p .horizon ≤ largestHorizon)
 
   -- the counts of a plan that comes in no file
   abbrev pub CountsRule : Type 0
@@ -72,7 +73,7 @@ module _ (p : Plan) where
     pub target : natAt (p .links .targets) e < p .counts .n
     pub source : natAt (p .links .sources) e < p .counts .n + p .counts .m + p .counts .k
     pub nonzero : intAt (p .links .coefficients) e ≡ pos 0 → ⊥
-    pub coefficient : Within 16777216 (intAt (p .links .coefficients) e)
+    pub coefficient : Within largestCoefficient (intAt (p .links .coefficients) e)
     pub order : Ascends (p .links .targets) (p .links .sources) e
 
   pub record CommandRule (e : ℕ) : Type 0 where

@@ -9,8 +9,9 @@ use lib.Dec.{leb, ltb, eqb}
 use lib.ListN.{length}
 use Rattle.integers.specs.Parts.{∣_∣}
 use Rattle.integers.specs.Range.{within}
+use Rattle.plan.specs.Numbers.{M, largestCoefficient, largestHorizon, sections, entrySizes, leastCounts, largestCounts, headerLength}
 use Rattle.plan.specs.Lists.{natAt, intAt, every}
-use Rattle.plan.specs.Format.{M, sections, entrySizes, leastCounts, largestCounts, headerLength, offsetIn, lengthIn, startIn, countIn}
+use Rattle.plan.specs.Format.{offsetIn, lengthIn, startIn, countIn}
 use Rattle.plan.specs.declared.Plan.{Plan}
 
 -- ---- the file
@@ -32,7 +33,7 @@ sizesKept file = every (λ k. eqb (lengthIn file k % natAt entrySizes k) 0 && co
 -- ---- the plan
 -- "horizon (a tick, 1 to 2,000,000,000)"
 unfoldable pub horizonKept : ℕ → Bool
-horizonKept horizon = leb 1 horizon && leb horizon 2000000000
+horizonKept horizon = leb 1 horizon && leb horizon largestHorizon
 
 -- The tests of one entry, on its own numbers.
 -- "signed start within ±M; quantum 1 to M"
@@ -50,7 +51,7 @@ kindKept own kind a b lo hi =
 -- "target integrator, source, signed coefficient, not 0, within ±16,777,216", with n integrators and `all` sources
 abbrev pub linkTest : (n all target source : ℕ) (coefficient : ℤ) → Bool
 linkTest n all target source coefficient =
-    ltb target n && ltb source all && not (eqb ∣ coefficient ∣ 0) && within 16777216 coefficient
+    ltb target n && ltb source all && not (eqb ∣ coefficient ∣ 0) && within largestCoefficient coefficient
 
 -- "tick 1 to horizon, input number below m, signed value within ±M"
 abbrev pub commandTest : (horizon m tick number : ℕ) (value : ℤ) → Bool

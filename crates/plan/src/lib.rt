@@ -1,21 +1,47 @@
-// The plan of a cup: what document 01's plan file says, number for number, with 0 in the unused entries.
+// The plan of a cup: what document 01's plan file says, number for number, with 0 in the unused entries. And document 01's numbers by name.
+mod numbers;
+
+pub use numbers::ACCEPTED;
+pub use numbers::COMMAND_SIZE;
+pub use numbers::COMMANDS;
+pub use numbers::EVENT_SIZE;
+pub use numbers::FINISHED;
+pub use numbers::HEADER_LENGTH;
+pub use numbers::INPUT_SIZE;
+pub use numbers::INPUTS;
+pub use numbers::INTEGRATOR_SIZE;
+pub use numbers::INTEGRATORS;
+pub use numbers::LARGEST_BUDGET;
+pub use numbers::LARGEST_COEFFICIENT;
+pub use numbers::LARGEST_HORIZON;
+pub use numbers::LINK_SIZE;
+pub use numbers::LINKS;
+pub use numbers::LISTING_BUDGET;
+pub use numbers::LONGEST_FILE;
+pub use numbers::M;
+pub use numbers::NEVER;
+pub use numbers::NODE_SIZE;
+pub use numbers::NODES;
+pub use numbers::PAUSED;
+pub use numbers::RANGE;
+pub use numbers::REFUSED_BUDGET;
+pub use numbers::REFUSED_COMMAND;
+pub use numbers::REFUSED_HORIZON;
+pub use numbers::REFUSED_INPUT;
+pub use numbers::REFUSED_INTEGRATOR;
+pub use numbers::REFUSED_INTEGRATOR_NUMBER;
+pub use numbers::REFUSED_LINK;
+pub use numbers::REFUSED_NODE;
+pub use numbers::REFUSED_OFFSETS;
+pub use numbers::REFUSED_RUN_BUFFER;
+pub use numbers::REFUSED_SHORT;
+pub use numbers::REFUSED_SIZES;
+pub use numbers::REFUSED_UNSOUND;
+pub use numbers::REFUSED_WRITE_BUFFER;
+pub use numbers::SECTIONS;
+pub use numbers::SOURCES;
 ghost use mathlib.Core.Path.{_≡_};
 ghost use Rattle.plan.specs.Idle.{idlePlan};
-
-// The most integrators, inputs, nodes, links and commands of a plan: the widths of its arrays.
-pub const INTEGRATORS: usize = 32;
-
-pub const INPUTS: usize = 8;
-
-pub const NODES: usize = 16;
-
-pub const LINKS: usize = 256;
-
-pub const COMMANDS: usize = 64;
-
-// The width of a table with an entry for each source. Integrators have the source numbers 0 to n−1, inputs n to n+m−1, nodes those from n+m on: 56 at the
-// most.
-pub const SOURCES: usize = 64;
 
 // How many entries each section has: n integrators, m inputs, k nodes, links, commands.
 #[repr(C)]

@@ -6,8 +6,8 @@ use mathlib.Core.List.{List}
 use Prim.Native.Nat.{ℕ, _+_}
 use lib.IntN.{ℤ}
 use Rattle.integers.specs.Range.{within}
+use Rattle.plan.specs.Numbers.{M}
 use Rattle.plan.specs.Lists.{natAt, intAt}
-use Rattle.plan.specs.Format.{M}
 use Rattle.plan.specs.Tests.{integratorTest, kindKept, linkTest, commandTest, follows}
 use Rattle.plan.specs.Refusals.{unless, firstFinding}
 use Rattle.plan.specs.declared.Finding.{Finding}

@@ -2,8 +2,8 @@
 -- keeps the rules.
 use mathlib.Core.List.{List}
 use Prim.Native.Nat.{ℕ, _≤_, _<_}
+use Rattle.plan.specs.Numbers.{sections, largestCounts}
 use Rattle.plan.specs.Lists.{natAt}
-use Rattle.plan.specs.Format.{sections, largestCounts}
 
 -- no count is above its section's limit
 abbrev pub Limited : List ℕ → Type 0

@@ -6,7 +6,7 @@ use lib.IntN.{ℤ, pos, _+ℤ_, _*ℤ_}
 use lib.Dec.{leb}
 use Rattle.integers.specs.Parts.{∣_∣}
 use Rattle.integers.specs.Division.{floored}
-use Rattle.plan.specs.Format.{M}
+use Rattle.plan.specs.Numbers.{M}
 use Rattle.plan.specs.Lists.{natAt, intAt, row, firstFrom}
 use Rattle.plan.specs.declared.Plan.{Plan}
 

@@ -3,7 +3,7 @@ ghost use mathlib.Core.Path.{_≡_};
 ghost use Prim.Native.Nat.{_≤_};
 ghost use lib.ListN.{length};
 ghost use Rattle.integers.specs.Range.{within};
-ghost use Rattle.plan.specs.Format.{M};
+ghost use Rattle.plan.specs.Numbers.{M};
 ghost use Rattle.plan.specs.Lists.{intAt, every};
 ghost use Rattle.plan.specs.Rules.{PlanRules};
 ghost use Rattle.machine.specs.SoundTest.{runningSound};

@@ -7,7 +7,7 @@ use lib.IntN.{ℤ}
 use lib.ListN.{length, take, drop}
 use Rattle.integers.specs.Parts.{∣_∣}
 use Rattle.bitset.specs.Mask.{has}
-use Rattle.plan.specs.Format.{M}
+use Rattle.plan.specs.Numbers.{M}
 use Rattle.plan.specs.Lists.{intAt, joined}
 use Rattle.machine.specs.Instant.{eventBytes}
 

@@ -7,9 +7,8 @@ use lib.IntN.{ℤ, pos, _+ℤ_, _*ℤ_}
 use lib.Dec.{ltb, eqb}
 use Rattle.integers.specs.Range.{within}
 use Rattle.bitset.specs.Mask.{has}
-use Rattle.plan.specs.Format.{M}
+use Rattle.plan.specs.Numbers.{M, never}
 use Rattle.plan.specs.Lists.{natAt, intAt}
-use Rattle.machine.specs.Due.{never}
 use Rattle.timing.specs.Ticks.{PositionReady}
 use Rattle.timing.specs.declared.status.Standing.{Standing}
 

@@ -5,7 +5,7 @@ use lib.IntN.{ℤ, pos, _+ℤ_, _-ℤ_, _*ℤ_}
 use lib.Signed.{_≤ℤ_, _<ℤ_}
 use Rattle.integers.specs.Parts.{up, ∣_∣}
 use Rattle.integers.specs.Division.{ceilDiv}
-use Rattle.plan.specs.Format.{M}
+use Rattle.plan.specs.Numbers.{M}
 
 -- `from`, and the ticks that a move of `speed` a tick takes over `distance`
 unfoldable pub tickAt : ℕ → ℤ → ℤ → ℕ

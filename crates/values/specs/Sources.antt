@@ -6,7 +6,7 @@ use lib.IntN.{ℤ, pos}
 use lib.Dec.{ltb}
 use lib.ListN.{set}
 use Rattle.integers.specs.Parts.{∣_∣}
-use Rattle.plan.specs.Format.{M}
+use Rattle.plan.specs.Numbers.{M}
 use Rattle.plan.specs.Lists.{natAt, intAt, row}
 use Rattle.plan.specs.declared.Plan.{Plan}
 use Rattle.machine.specs.Values.{nodeOf, valueOf}

@@ -5,7 +5,7 @@ ghost use mathlib.Core.Bool.{true};
 ghost use Prim.Native.Nat.{_+_, _^_, _≤_, _<_};
 ghost use Rattle.integers.specs.Parts.{∣_∣};
 ghost use Rattle.bitset.specs.Mask.{has, each};
-ghost use Rattle.plan.specs.Format.{M};
+ghost use Rattle.plan.specs.Numbers.{M};
 ghost use Rattle.machine.specs.Values.{clipped, nodeOf};
 ghost use Rattle.values.specs.Sources.{firstValues, nodeStep, NodesReady};
 use bitset::all;

@@ -9,8 +9,9 @@ use Rattle.integers.specs.Division.{ceilDiv}
 use Rattle.integers.specs.Range.{limited, within}
 use Rattle.bitset.specs.Counts.{countOf}
 use Rattle.words.specs.Word.{numberAt, bytesOf, signedOf, unsignedOf, wordOf, flat}
+use Rattle.plan.specs.Numbers.{sections}
 use Rattle.plan.specs.Lists.{intAt, table, row, joined, every, some, all, firstFrom}
-use Rattle.plan.specs.Format.{sections, horizonIn, offsetIn, lengthIn, startIn, countIn, part, sectionIn, columnOf, columnIn, planIn}
+use Rattle.plan.specs.Format.{horizonIn, offsetIn, lengthIn, startIn, countIn, part, sectionIn, columnOf, columnIn, planIn}
 use Rattle.plan.specs.Tests.{longEnough, offsetsKept, countKept, sizesKept, horizonKept, ascends, counts, countsKept, integratorKept, inputKept}
 use Rattle.plan.specs.Tests.{linkLimits, linkOrdered, commandLimits, commandOrdered}
 use Rattle.plan.specs.Refusals.{numberOf, isClean, orElse, firstFinding, horizonFinding, integratorsFinding, inputsFinding, nodesFinding}

@@ -6,8 +6,8 @@ use lib.IntN.{ℤ}
 use lib.Signed.{_<ℤ_}
 use Rattle.integers.specs.Parts.{∣_∣}
 use Rattle.words.specs.Word.{Bytes}
+use Rattle.plan.specs.Numbers.{M}
 use Rattle.plan.specs.Lists.{intAt}
-use Rattle.plan.specs.Format.{M}
 use Rattle.plan.specs.Rules.{IntegratorRule, PlanRules}
 use Rattle.plan.specs.declared.Plan.{Plan}
 use Rattle.machine.specs.Due.{upperLevel, lowerLevel}

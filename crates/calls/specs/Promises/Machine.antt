@@ -13,12 +13,12 @@ use Rattle.integers.specs.Division.{floored, Ceil}
 use Rattle.integers.specs.Range.{limited}
 use Rattle.bitset.specs.Counts.{countOf}
 use Rattle.words.specs.Word.{word, signedWord}
+use Rattle.plan.specs.Numbers.{M, never}
 use Rattle.plan.specs.Lists.{natAt, intAt}
-use Rattle.plan.specs.Format.{M}
 use Rattle.plan.specs.Rules.{PlanRules}
 use Rattle.plan.specs.declared.Plan.{Plan}
 use Rattle.machine.specs.Values.{valueOf, sumOver, rateOf}
-use Rattle.machine.specs.Due.{never, distance, ticksTo, dueOf, LeastTicks}
+use Rattle.machine.specs.Due.{distance, ticksTo, dueOf, LeastTicks}
 use Rattle.machine.specs.Next.{nextCommand}
 use Rattle.machine.specs.Start.{startState}
 use Rattle.machine.specs.Reach.{changes, Changed, reached, Reached}

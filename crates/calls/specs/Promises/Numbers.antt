@@ -10,9 +10,8 @@ use Rattle.integers.specs.Division.{floored}
 use Rattle.integers.specs.Range.{limited}
 use Rattle.bitset.specs.Counts.{countOf}
 use Rattle.words.specs.Word.{word, signedWord}
+use Rattle.plan.specs.Numbers.{M, never}
 use Rattle.plan.specs.Lists.{natAt}
-use Rattle.plan.specs.Format.{M}
-use Rattle.machine.specs.Due.{never}
 
 pub record NumbersMean : Type 0 where
   -- "All numbers in files and events are little-endian, 32 bits wide"

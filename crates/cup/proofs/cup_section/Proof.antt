@@ -7,7 +7,7 @@ use Prim.Native.Nat.{ℕ, _<_}
 use native.Mathlib.Omega.{arith}
 use denote.Ref.{now}
 use lib.ListN.{length}
-use Rattle.plan.specs.Format.{sections}
+use Rattle.plan.specs.Numbers.{sections}
 use Rattle.plan.specs.Refusals.{accepted}
 use Rattle.plan.specs.Laws.View.{view-shown, start-shown}
 use Rattle.directory.specs.Laws.Directory.{directory-accepted}

@@ -4,7 +4,7 @@ use mathlib.Core.Path.{_≡_, sym, _∙_}
 use lib.ListN.{length}
 use denote.Ref.{now}
 use borrow.Author.Tests.{le-leb, lt-leb}
-use Rattle.plan.specs.Format.{headerLength}
+use Rattle.plan.specs.Numbers.{headerLength}
 use Rattle.plan.specs.Tests.{longEnough, offsetsKept, sizesKept}
 use Rattle.plan.specs.Refusals.{numberOf, isClean, unless, orElse}
 use Rattle.plan.specs.declared.Finding.the-variants.{Offsets, Sizes}

@@ -9,8 +9,9 @@ use mathlib.Core.Bool.{true}
 use lib.Dec.{eqb}
 use lib.ListN.{length}
 use denote.Ref.{now}
+use Rattle.plan.specs.Numbers.{sections}
 use Rattle.plan.specs.Lists.{every}
-use Rattle.plan.specs.Format.{sections, offsetIn, startIn}
+use Rattle.plan.specs.Format.{offsetIn, startIn}
 use Rattle.plan.specs.Tests.{offsetsKept}
 use Rattle.entryrules.specs.Laws.Testing.{every-none, every-more, every-fails}
 use Rattle.directory.proofs.check_offsets.Statement.{statement}

@@ -7,8 +7,9 @@ use mathlib.Core.Bool.{Bool, true, _&&_}
 use mathlib.Core.List.{List}
 use lib.Dec.{eqb}
 use denote.Ref.{now}
+use Rattle.plan.specs.Numbers.{sections, entrySizes}
 use Rattle.plan.specs.Lists.{natAt, every}
-use Rattle.plan.specs.Format.{sections, entrySizes, lengthIn, countIn}
+use Rattle.plan.specs.Format.{lengthIn, countIn}
 use Rattle.plan.specs.Tests.{countKept, sizesKept}
 use Rattle.entryrules.specs.Laws.Testing.{every-none, every-more, every-fails, held, failed}
 use Rattle.directory.proofs.check_sizes.Statement.{statement}

@@ -17,7 +17,7 @@ use Rattle.integers.specs.Parts.{∣_∣}
 use Rattle.integers.specs.Laws.Parts.{zs}
 use Rattle.integers.specs.Range.{within}
 use Rattle.integers.specs.Laws.Signed64.{rd}
-use Rattle.plan.specs.Format.{M}
+use Rattle.plan.specs.Numbers.{M}
 
 -- ---- z < y was found, or was not
 pub less : (y z : ℤ) → SFits w64 z → ltZ (rd z) y ≡ true → leZ y z ≡ false

@@ -1,8 +1,8 @@
 -- Laws: the table of sections.
 use Prim.Native.Nat.{ℕ, _<_}
 use native.Mathlib.Omega.{arith}
+use Rattle.plan.specs.Numbers.{sections, entrySizes}
 use Rattle.plan.specs.Lists.{natAt}
-use Rattle.plan.specs.Format.{sections, entrySizes}
 use Rattle.plan.specs.Laws.Layout.{each-section}
 
 -- an entry has bytes, so a length can be divided by it

@@ -16,7 +16,7 @@ use Rattle.bitset.specs.Mask.{has, maskOf, each, joinedOf}
 use Rattle.bitset.specs.Counts.{countOf}
 use Rattle.bitset.specs.Laws.Bits.{maskOf-lt, maskOf-or}
 use Rattle.bitset.specs.Laws.Counts.{countOf-mask, countOf-le}
-use Rattle.plan.specs.Format.{M}
+use Rattle.plan.specs.Numbers.{M}
 use Rattle.plan.specs.Lists.{intAt}
 use Rattle.plan.specs.Rules.{PlanRules}
 use Rattle.plan.specs.Laws.Counts.{Counts, counts-of}

@@ -13,7 +13,8 @@ use Rattle.integers.specs.Parts.{up, ∣_∣}
 use Rattle.integers.specs.Laws.Parts.{sum, dif, prod, tight, zs}
 use Rattle.integers.specs.Division.{ceilDiv, Ceil}
 use Rattle.integers.specs.Laws.Division.{ceil, ceil-least, ceil-one}
-use Rattle.machine.specs.Due.{never, distance, ticksTo, dueTick, AtLevel, LeastTicks}
+use Rattle.plan.specs.Numbers.{never}
+use Rattle.machine.specs.Due.{distance, ticksTo, dueTick, AtLevel, LeastTicks}
 
 -- ---- the slope is 0, or it is not
 pub moving : (s : ℤ) → (s ≡ pos 0 → ⊥) → 0 < ∣ s ∣

@@ -13,7 +13,7 @@ use Rattle.bitset.specs.Counts.{countOf}
 use Rattle.words.specs.Word.{Bytes, numberAt, signedOf, word, signedWord, wordOf}
 use Rattle.words.specs.Laws.Flat.{bytes-flat, length-flat, word-flat}
 use Rattle.words.specs.Laws.Signs.{signed-unsigned, unsigned-lt}
-use Rattle.plan.specs.Format.{M}
+use Rattle.plan.specs.Numbers.{M}
 use Rattle.plan.specs.Laws.Small.{size-mag}
 use Rattle.plan.specs.declared.Plan.{Plan}
 use Rattle.machine.specs.Values.{valueWith}

@@ -12,7 +12,7 @@ use Rattle.integers.specs.Parts.{up, ∣_∣}
 use Rattle.integers.specs.Laws.Parts.{sum, dif, tight, zs}
 use Rattle.integers.specs.Division.{ceilDiv}
 use Rattle.integers.specs.Laws.Division.{ceil-most}
-use Rattle.plan.specs.Format.{M}
+use Rattle.plan.specs.Numbers.{M}
 use Rattle.plan.specs.Lists.{intAt}
 use Rattle.plan.specs.Rules.{IntegratorRule}
 use Rattle.plan.specs.declared.Plan.{Plan}

@@ -8,10 +8,10 @@ use Prim.Native.Nat.{ℕ, zero, suc, _≤_, _<_, min}
 use native.Mathlib.Omega.{arith, min-cases}
 use lib.Dec.{ltb}
 use borrow.Author.Tests.{ltb-true, ltb-false, lt-ltb, le-ltb}
+use Rattle.plan.specs.Numbers.{never}
 use Rattle.plan.specs.Lists.{natAt}
 use Rattle.plan.specs.Laws.Searches.{below-suc, First, first, first-unique}
 use Rattle.plan.specs.declared.Plan.{Plan}
-use Rattle.machine.specs.Due.{never}
 use Rattle.machine.specs.Instant.{tickOf}
 use Rattle.machine.specs.declared.Running.{Running}
 use Rattle.machine.specs.Next.{nextCommand, commandTick, leastDue, nextTick}

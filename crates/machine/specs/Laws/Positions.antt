@@ -9,12 +9,12 @@ use lib.IntN.{ℤ, pos, _*ℤ_}
 use lib.Signed.{_<ℤ_}
 use Rattle.integers.specs.Parts.{up, ∣_∣}
 use Rattle.integers.specs.Laws.Parts.{sum, prod, tight, zs}
-use Rattle.plan.specs.Format.{M}
+use Rattle.plan.specs.Numbers.{M, never}
 use Rattle.plan.specs.Lists.{natAt, intAt}
 use Rattle.plan.specs.Rules.{IntegratorRule}
 use Rattle.plan.specs.Laws.Means.{within-size}
 use Rattle.plan.specs.declared.Plan.{Plan}
-use Rattle.machine.specs.Due.{never, upperLevel, lowerLevel, distance, ticksTo, dueTick, dueOf}
+use Rattle.machine.specs.Due.{upperLevel, lowerLevel, distance, ticksTo, dueTick, dueOf}
 use Rattle.machine.specs.Instant.{positionAt}
 use Rattle.machine.specs.Runs.{positionOf}
 use Rattle.machine.specs.Sound.{SoundRunning}

@@ -16,7 +16,7 @@ use Rattle.integers.specs.Division.{floored}
 use Rattle.integers.specs.Laws.Division.{floor-size}
 use Rattle.integers.specs.Laws.Range.{limited-size}
 use Rattle.bitset.specs.Counts.{countOf}
-use Rattle.plan.specs.Format.{M}
+use Rattle.plan.specs.Numbers.{M}
 use Rattle.plan.specs.Lists.{natAt, intAt}
 use Rattle.plan.specs.Rules.{NodeRule, PlanRules}
 use Rattle.plan.specs.Laws.Counts.{Counts, counts-of}

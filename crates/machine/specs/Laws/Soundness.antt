@@ -9,13 +9,13 @@ use lib.Signed.{_<ℤ_}
 use borrow.Author.Tests.{eqb-true}
 use Rattle.integers.specs.Parts.{∣_∣}
 use Rattle.bitset.specs.Laws.Counts.{countOf-le}
-use Rattle.plan.specs.Format.{M}
+use Rattle.plan.specs.Numbers.{M, never}
 use Rattle.plan.specs.Lists.{natAt, intAt}
 use Rattle.plan.specs.Laws.Rows.{row-unused}
 use Rattle.plan.specs.Laws.Counts.{Counts, counts-of}
 use Rattle.plan.specs.Laws.Means.{within-size}
 use Rattle.plan.specs.declared.Plan.{Plan}
-use Rattle.machine.specs.Due.{never, dueOf}
+use Rattle.machine.specs.Due.{dueOf}
 use Rattle.machine.specs.Reach.{isDue, reached}
 use Rattle.machine.specs.Instant.{positionAt, inputsThen, moves, outputs, slopeThen, dueThen, takenAt, tickOf, instant}
 use Rattle.machine.specs.Status.{isPaused}

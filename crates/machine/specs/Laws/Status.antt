@@ -11,11 +11,10 @@ use borrow.Author.Tests.{ltb-true, ltb-false, lt-ltb, le-ltb, eqb-true, eq-eqb, 
 use Rattle.integers.specs.Parts.{∣_∣}
 use Rattle.integers.specs.Range.{within}
 use Rattle.integers.specs.Laws.Range.{within-true, within-false}
-use Rattle.plan.specs.Format.{M}
+use Rattle.plan.specs.Numbers.{M, never}
 use Rattle.plan.specs.Lists.{natAt}
 use Rattle.plan.specs.Laws.Searches.{First, first, first-unique, first-ext}
 use Rattle.plan.specs.declared.Plan.{Plan}
-use Rattle.machine.specs.Due.{never}
 use Rattle.machine.specs.Reach.{isDue}
 use Rattle.machine.specs.Status.{bars, barring, statusAt, integratorAt, statusOf, isPaused}
 use Rattle.machine.specs.Instant.{positionAt, tickOf}

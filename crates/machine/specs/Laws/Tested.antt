@@ -10,7 +10,7 @@ use Rattle.integers.specs.Parts.{∣_∣}
 use Rattle.integers.specs.Laws.Parts.{dif, zs}
 use Rattle.integers.specs.Laws.Order.{ltZ-true}
 use Rattle.integers.specs.Laws.Range.{within-true}
-use Rattle.plan.specs.Format.{M}
+use Rattle.plan.specs.Numbers.{M}
 use Rattle.plan.specs.Lists.{natAt, intAt}
 use Rattle.plan.specs.Rules.{PlanRules}
 use Rattle.plan.specs.Unused.{PlanUnused}

@@ -11,7 +11,7 @@ use Rattle.integers.specs.Division.{floored}
 use Rattle.integers.specs.Laws.Division.{floor-law}
 use Rattle.integers.specs.Laws.Order.{leZ-true, leZ-false}
 use Rattle.integers.specs.Range.{limited}
-use Rattle.plan.specs.Format.{M}
+use Rattle.plan.specs.Numbers.{M}
 use Rattle.plan.specs.Lists.{natAt, intAt}
 use Rattle.plan.specs.Rules.{PlanRules}
 use Rattle.plan.specs.declared.Plan.{Plan}

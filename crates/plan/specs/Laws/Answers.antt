@@ -7,8 +7,9 @@ use native.Mathlib.Omega.{arith}
 use lib.Dec.{leb, ltb, eqb}
 use lib.ListN.{List·getD-eq-default}
 use borrow.Author.Tests.{leb-true, ltb-true, ltb-false, eqb-true, eqb-false}
+use Rattle.plan.specs.Numbers.{sections, largestCounts}
 use Rattle.plan.specs.Lists.{natAt, table, every}
-use Rattle.plan.specs.Format.{sections, largestCounts, countIn, planIn}
+use Rattle.plan.specs.Format.{countIn, planIn}
 use Rattle.plan.specs.Tests.{longEnough, offsetsKept, sizesKept, counts}
 use Rattle.plan.specs.Refusals.{numberOf, entryOf, isClean, orElse}
 use Rattle.plan.specs.Refusals.{commandsFinding, planFinding, findingOf, accepted}

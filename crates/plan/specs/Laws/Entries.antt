@@ -7,8 +7,9 @@ use lib.IntN.{ℤ, pos}
 use lib.Dec.{eqb}
 use lib.ListN.{length, getD}
 use Rattle.integers.specs.Parts.{∣_∣}
+use Rattle.plan.specs.Numbers.{largestCounts}
 use Rattle.plan.specs.Lists.{natAt, intAt}
-use Rattle.plan.specs.Format.{largestCounts, countIn, columnOf, columnIn, planIn, Shaped}
+use Rattle.plan.specs.Format.{countIn, columnOf, columnIn, planIn, Shaped}
 use Rattle.plan.specs.Unused.{UnusedNat, UnusedInt, PlanUnused, unusedNat, unusedInt, planUnused}
 use Rattle.plan.specs.declared.Plan.{Plan}
 use Rattle.plan.specs.Laws.Rows.{row-unused, length-row}

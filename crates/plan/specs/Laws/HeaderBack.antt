@@ -10,8 +10,9 @@ use lib.ListN.{length, getD, length-append, List·getD-append}
 use borrow.Author.Tests.{le-leb, eq-eqb}
 use Rattle.words.specs.Word.{word, flat}
 use Rattle.words.specs.Laws.Flat.{word-flat}
+use Rattle.plan.specs.Numbers.{sections, entrySizes, leastCounts, largestCounts, headerLength}
 use Rattle.plan.specs.Lists.{natAt, joined}
-use Rattle.plan.specs.Format.{sections, entrySizes, leastCounts, largestCounts, headerLength, horizonIn, offsetIn, lengthIn, startIn}
+use Rattle.plan.specs.Format.{horizonIn, offsetIn, lengthIn, startIn}
 use Rattle.plan.specs.Format.{countIn, sectionIn}
 use Rattle.plan.specs.Tests.{longEnough, offsetsKept, countKept, sizesKept, counts}
 use Rattle.plan.specs.Rules.{PlanRules}

@@ -10,8 +10,8 @@ use borrow.Author.Tests.{leb-true, leb-false, eqb-true, eqb-false}
 use Rattle.integers.specs.Parts.{∣_∣}
 use Rattle.integers.specs.Laws.Order.{leZ-true}
 use Rattle.integers.specs.Range.{within}
+use Rattle.plan.specs.Numbers.{M, sections}
 use Rattle.plan.specs.Lists.{natAt, intAt}
-use Rattle.plan.specs.Format.{M, sections}
 use Rattle.plan.specs.Tests.{countKept, horizonKept, counts, countsKept, integratorKept, inputKept, kindKept, nodeKept}
 use Rattle.plan.specs.Tests.{linkLimits, linkOrdered, commandLimits, commandOrdered}
 use Rattle.plan.specs.Rules.{Within, CountRule, HorizonRule, CountsRule, IntegratorRule, InputRule, NodeRule, LinkRule, CommandRule}

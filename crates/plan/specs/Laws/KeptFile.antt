@@ -4,8 +4,9 @@ use mathlib.Core.List.{List}
 use Prim.Native.Nat.{ℕ, zero, suc, _%_, _≤_, _<_}
 use native.Mathlib.Omega.{arith}
 use lib.ListN.{length}
+use Rattle.plan.specs.Numbers.{sections, entrySizes, headerLength}
 use Rattle.plan.specs.Lists.{natAt}
-use Rattle.plan.specs.Format.{sections, entrySizes, headerLength, offsetIn, lengthIn, startIn, countIn}
+use Rattle.plan.specs.Format.{offsetIn, lengthIn, startIn, countIn}
 use Rattle.plan.specs.Tests.{longEnough, offsetsKept, sizesKept}
 use Rattle.plan.specs.Rules.{OffsetRule, SizeRule}
 use Rattle.plan.specs.Laws.Means.{Means, leb-means, eqb-means, both, every-means}

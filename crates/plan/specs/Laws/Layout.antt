@@ -8,8 +8,9 @@ use lib.ListN.{length, getD, length-append}
 use lib.Seq.{take-at, drop-at}
 use Rattle.words.specs.Word.{word, flat}
 use Rattle.words.specs.Laws.Flat.{length-flat, flat-append, word-flat}
+use Rattle.plan.specs.Numbers.{sections, entrySizes, headerLength}
 use Rattle.plan.specs.Lists.{natAt, joined}
-use Rattle.plan.specs.Format.{sections, entrySizes, headerLength, part}
+use Rattle.plan.specs.Format.{part}
 use Rattle.plan.specs.Tests.{counts}
 use Rattle.plan.specs.Rules.{CountsRule}
 use Rattle.plan.specs.Encoding.{lengthFrom, offsetFrom, offsetOf, fileLength, headerWords, integratorWords, inputWords, nodeWords, linkWords}

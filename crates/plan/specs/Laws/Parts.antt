@@ -7,8 +7,9 @@ use native.Mathlib.Omega.{arith}
 use lib.ListN.{length, length-take, length-drop}
 use Rattle.words.specs.Word.{Bytes}
 use Rattle.words.specs.Laws.Reading.{number-lt, bytes-take, bytes-drop}
+use Rattle.plan.specs.Numbers.{sections, entrySizes, leastCounts, largestCounts, headerLength}
 use Rattle.plan.specs.Lists.{natAt}
-use Rattle.plan.specs.Format.{sections, entrySizes, leastCounts, largestCounts, headerLength, offsetIn, lengthIn, countIn, part}
+use Rattle.plan.specs.Format.{offsetIn, lengthIn, countIn, part}
 use Rattle.plan.specs.Format.{sectionIn}
 use Rattle.plan.specs.Rules.{OffsetRule, SizeRule}
 use Rattle.plan.specs.Laws.Layout.{each-section}

@@ -8,8 +8,9 @@ use lib.IntN.{pos}
 use lib.ListN.{getD}
 use Rattle.words.specs.Word.{signedOf, word}
 use Rattle.words.specs.Laws.Reading.{number-part}
+use Rattle.plan.specs.Numbers.{sections, entrySizes, largestCounts}
 use Rattle.plan.specs.Lists.{natAt}
-use Rattle.plan.specs.Format.{sections, entrySizes, largestCounts, horizonIn, offsetIn, lengthIn, countIn, part}
+use Rattle.plan.specs.Format.{horizonIn, offsetIn, lengthIn, countIn, part}
 use Rattle.plan.specs.Format.{sectionIn, columnOf, columnIn, planIn}
 use Rattle.plan.specs.Rules.{SizeRule}
 use Rattle.plan.specs.Places.{HeaderPlaces, EntryPlaces}

@@ -10,8 +10,9 @@ use lib.ListN.{length, getD}
 use Rattle.integers.specs.Laws.Parts.{zs}
 use Rattle.words.specs.Word.{unsignedOf, signedOf, word, wordOf, flat}
 use Rattle.words.specs.Laws.Signs.{signed-unsigned}
+use Rattle.plan.specs.Numbers.{M, sections, entrySizes, largestCounts}
 use Rattle.plan.specs.Lists.{natAt, intAt}
-use Rattle.plan.specs.Format.{M, sections, entrySizes, largestCounts, columnOf, columnIn, planIn, Shaped}
+use Rattle.plan.specs.Format.{columnOf, columnIn, planIn, Shaped}
 use Rattle.plan.specs.Tests.{counts}
 use Rattle.plan.specs.Rules.{Within, PlanRules}
 use Rattle.plan.specs.Unused.{PlanUnused}

@@ -13,8 +13,8 @@ use Rattle.integers.specs.Parts.{∣_∣}
 use Rattle.integers.specs.Laws.Parts.{neg, tight, zs}
 use Rattle.words.specs.Word.{wordOf}
 use Rattle.words.specs.Laws.Signs.{unsigned-lt}
+use Rattle.plan.specs.Numbers.{M, sections}
 use Rattle.plan.specs.Lists.{natAt, intAt, joined}
-use Rattle.plan.specs.Format.{M, sections}
 use Rattle.plan.specs.Tests.{counts}
 use Rattle.plan.specs.Rules.{Within, NodeRule, PlanRules}
 use Rattle.plan.specs.Encoding.{pairEntry, offsetOf, headerWords, integratorWords, inputWords, nodeWords, linkWords, commandWords}

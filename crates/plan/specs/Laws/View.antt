@@ -5,7 +5,8 @@ use mathlib.Core.List.{List, []}
 use Prim.Native.Nat.{ℕ, _≤_, _<_}
 use lib.ListN.{length}
 use borrow.Author.Tests.{lt-ltb, le-ltb}
-use Rattle.plan.specs.Format.{sections, offsetIn, lengthIn, sectionIn}
+use Rattle.plan.specs.Numbers.{sections}
+use Rattle.plan.specs.Format.{offsetIn, lengthIn, sectionIn}
 use Rattle.plan.specs.Refusals.{accepted, sectionOf, sectionStart}
 use Rattle.plan.specs.Laws.Answers.{accepted-offsets}
 use Rattle.plan.specs.Laws.Parts.{length-section-in}

@@ -11,8 +11,9 @@ use Rattle.words.specs.Word.{Bytes, unsignedOf, word, signedWord, wordOf, flat}
 use Rattle.words.specs.Laws.Reading.{number-lt, bytes-number}
 use Rattle.words.specs.Laws.Flat.{length-flat, flat-append, flat-read}
 use Rattle.words.specs.Laws.Signs.{unsigned-signed}
+use Rattle.plan.specs.Numbers.{sections, entrySizes, headerLength}
 use Rattle.plan.specs.Lists.{natAt, intAt, joined}
-use Rattle.plan.specs.Format.{sections, entrySizes, headerLength, horizonIn, offsetIn, lengthIn, countIn, part}
+use Rattle.plan.specs.Format.{horizonIn, offsetIn, lengthIn, countIn, part}
 use Rattle.plan.specs.Format.{sectionIn, signedsIn, planIn}
 use Rattle.plan.specs.Rules.{OffsetRule, SizeRule}
 use Rattle.plan.specs.Laws.Layout.{lengthOf}

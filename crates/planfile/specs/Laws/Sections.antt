@@ -4,8 +4,9 @@ use mathlib.Core.List.{List}
 use Prim.Native.Nat.{ℕ, _*_, _≤_, _<_}
 use native.Mathlib.Omega.{arith}
 use lib.ListN.{length}
+use Rattle.plan.specs.Numbers.{sections, entrySizes, largestCounts}
 use Rattle.plan.specs.Lists.{natAt}
-use Rattle.plan.specs.Format.{sections, entrySizes, largestCounts, countIn, sectionIn, columnOf, columnIn}
+use Rattle.plan.specs.Format.{countIn, sectionIn, columnOf, columnIn}
 use Rattle.plan.specs.Laws.Parts.{length-section-in, length-entries}
 use Rattle.directory.specs.Directory.{Directory}
 

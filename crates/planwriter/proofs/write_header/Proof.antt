@@ -5,8 +5,8 @@ use native.Mathlib.Omega.{arith}
 use denote.Ref.{now}
 use borrow.Author.Needs.{needs}
 use Rattle.words.specs.Laws.Flat.{written-part}
+use Rattle.plan.specs.Numbers.{sections}
 use Rattle.plan.specs.Lists.{joined}
-use Rattle.plan.specs.Format.{sections}
 use Rattle.plan.specs.Encoding.{pairEntry}
 use Rattle.words.specs.Laws.Putting.{begin, more}
 use Rattle.planwriter.proofs.write_header.Statement.{statement}

@@ -4,8 +4,8 @@ use Prim.Native.Nat.{_-_, _*_, _≤_}
 use native.Mathlib.Omega.{arith}
 use denote.Ref.{now}
 use borrow.Author.Needs.{needs}
+use Rattle.plan.specs.Numbers.{sections}
 use Rattle.plan.specs.Lists.{joined}
-use Rattle.plan.specs.Format.{sections}
 use Rattle.plan.specs.Encoding.{pairEntry}
 use Rattle.planwriter.specs.Laws.Header.{offset-limit, length-limit}
 use Rattle.words.specs.Laws.Putting.{length-behind}

@@ -4,7 +4,7 @@ use mathlib.Core.List.{List}
 use Prim.Native.Nat.{ℕ, zero, suc, _+_, _*_, _≤_, _<_}
 use native.Mathlib.Numerals.{add-one}
 use native.Mathlib.Omega.{arith}
-use Rattle.plan.specs.Format.{sections, headerLength}
+use Rattle.plan.specs.Numbers.{sections, headerLength}
 use Rattle.plan.specs.Tests.{counts}
 use Rattle.plan.specs.Rules.{CountsRule}
 use Rattle.plan.specs.Laws.Layout.{each-section}

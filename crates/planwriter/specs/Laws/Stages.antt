@@ -9,8 +9,8 @@ use borrow.Author.Tests.{le-leb, lt-leb}
 use Rattle.integers.specs.Laws.Parts.{zs}
 use Rattle.words.specs.Putting.{written}
 use Rattle.words.specs.Laws.Flat.{length-flat}
+use Rattle.plan.specs.Numbers.{M, sections, headerLength}
 use Rattle.plan.specs.Lists.{natAt, intAt, joined}
-use Rattle.plan.specs.Format.{M, sections, headerLength}
 use Rattle.plan.specs.Tests.{counts}
 use Rattle.plan.specs.Rules.{Within, PlanRules}
 use Rattle.plan.specs.Encoding.{lengthFrom, offsetFrom, pairEntry, offsetOf, fileLength, headerWords, integratorWords}

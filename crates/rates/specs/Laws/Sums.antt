@@ -10,7 +10,7 @@ use mir.Val.{SFits}
 use Rattle.integers.specs.Parts.{∣_∣}
 use Rattle.integers.specs.Laws.Parts.{sum, zs}
 use Rattle.integers.specs.Laws.Order.{size-mul}
-use Rattle.plan.specs.Format.{M}
+use Rattle.plan.specs.Numbers.{M}
 use Rattle.plan.specs.Lists.{natAt, intAt}
 use Rattle.rates.specs.Links.{term, sumFrom, Rated}
 

@@ -13,7 +13,7 @@ use Rattle.integers.specs.Parts.{∣_∣}
 use Rattle.bitset.specs.Mask.{has, maskOf}
 use Rattle.bitset.specs.Laws.Bits.{has-high, maskOf-lt, has-maskOf}
 use Rattle.bitset.specs.Laws.Counts.{countOf-le}
-use Rattle.plan.specs.Format.{M}
+use Rattle.plan.specs.Numbers.{M}
 use Rattle.plan.specs.Lists.{intAt, joined}
 use Rattle.plan.specs.Rules.{PlanRules}
 use Rattle.plan.specs.Laws.Counts.{counts-of}

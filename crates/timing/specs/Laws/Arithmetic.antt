@@ -13,7 +13,8 @@ use Rattle.integers.specs.Laws.Parts.{sum, dif, abs, tight, zs}
 use Rattle.integers.specs.Division.{ceilDiv}
 use Rattle.integers.specs.Laws.Division.{ceil-one, ceil-most}
 use Rattle.integers.specs.Laws.Signed64.{as-u64}
-use Rattle.machine.specs.Due.{never, distance, ticksTo, dueTick}
+use Rattle.plan.specs.Numbers.{never}
+use Rattle.machine.specs.Due.{distance, ticksTo, dueTick}
 use Rattle.machine.specs.Laws.Due.{due-still, due-moving}
 use Rattle.timing.specs.Ticks.{tickAt, TicksReady, DueReady, PositionReady}
 

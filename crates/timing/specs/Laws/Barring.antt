@@ -16,7 +16,7 @@ use Rattle.integers.specs.Laws.Range.{within-true, within-false}
 use Rattle.bitset.specs.Mask.{has, lowestOf, restOf}
 use Rattle.bitset.specs.Laws.Bits.{has-none, has-high}
 use Rattle.bitset.specs.Laws.Visiting.{has-lowest, below-lowest, has-rest}
-use Rattle.plan.specs.Format.{M}
+use Rattle.plan.specs.Numbers.{M}
 use Rattle.plan.specs.Lists.{natAt, intAt, firstFrom}
 use Rattle.plan.specs.Laws.Searches.{first-unique, first-ext}
 use Rattle.timing.specs.Ticks.{PositionReady}

@@ -7,10 +7,10 @@ use lib.Dec.{ltb, eqb}
 use borrow.Author.Tests.{ltb-true, ltb-false, eqb-true}
 use Rattle.bitset.specs.Mask.{has, maskOf}
 use Rattle.bitset.specs.Laws.Bits.{has-high, has-maskOf, maskOf-lt}
+use Rattle.plan.specs.Numbers.{never}
 use Rattle.plan.specs.Lists.{natAt, intAt, firstFrom}
 use Rattle.plan.specs.Laws.Searches.{first-ext}
 use Rattle.plan.specs.declared.Plan.{Plan}
-use Rattle.machine.specs.Due.{never}
 use Rattle.machine.specs.Reach.{isDue}
 use Rattle.machine.specs.Instant.{positionAt, tickOf}
 use Rattle.machine.specs.Status.{bars, barring, statusAt, integratorAt, statusOf, integratorOf}

@@ -12,7 +12,7 @@ use lib.IntN.{_-ℤ_, _*ℤ_}
 use lib.Signed.{leZ}
 use Rattle.integers.specs.Laws.Parts.{zs}
 use Rattle.integers.specs.Laws.Signed64.{fits-sub, fits-mul, sized}
-use Rattle.plan.specs.Format.{M}
+use Rattle.plan.specs.Numbers.{M}
 use Rattle.machine.specs.Values.{nodeOf}
 use Rattle.values.proofs.node_value.Statement.{statement}
 use Rattle.values.proofs.node_value.Tie as tie

@@ -9,7 +9,7 @@ use lib.ListN.{length, getD, set, length-set}
 use lib.Seq.{getD-set-same, getD-set-other, set-out}
 use borrow.Author.Tests.{ltb-true, ltb-false, eqb-true, eqb-false}
 use Rattle.integers.specs.Parts.{∣_∣}
-use Rattle.plan.specs.Format.{M}
+use Rattle.plan.specs.Numbers.{M}
 use Rattle.plan.specs.Lists.{intAt}
 use Rattle.machine.specs.Laws.Sizes.{node-size}
 use Rattle.values.specs.Sources.{nodeFrom, nodeStep, NodesReady}

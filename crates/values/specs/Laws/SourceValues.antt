@@ -14,7 +14,7 @@ use lib.Seq.{ext-getD}
 use borrow.Author.Tests.{ltb-true, ltb-false, lt-ltb, eqb-true, eqb-false}
 use Rattle.integers.specs.Parts.{∣_∣}
 use Rattle.bitset.specs.Mask.{each}
-use Rattle.plan.specs.Format.{M}
+use Rattle.plan.specs.Numbers.{M}
 use Rattle.plan.specs.Lists.{natAt, intAt, row}
 use Rattle.plan.specs.Rules.{NodeRule, PlanRules}
 use Rattle.plan.specs.Laws.Counts.{Counts, counts-of}

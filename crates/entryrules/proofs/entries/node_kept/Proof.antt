@@ -4,7 +4,7 @@ use mathlib.Core.Path.{_≡_}
 use mir.Facts.{toZ-ofZ}
 use borrow.Author.Needs.{needs}
 use Rattle.integers.specs.Range.{within}
-use Rattle.plan.specs.Format.{M}
+use Rattle.plan.specs.Numbers.{M}
 use Rattle.plan.specs.Tests.{kindKept}
 use Rattle.entryrules.specs.Laws.Comparing.{comparing, tested}
 use Rattle.entryrules.proofs.entries.node_kept.Statement.{statement}

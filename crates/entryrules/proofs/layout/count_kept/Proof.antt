@@ -1,7 +1,7 @@
 -- The two comparisons are the two ends of the range.
+use Rattle.plan.specs.Numbers.{leastCounts}
 use Rattle.plan.specs.Tests.{countKept}
 use Rattle.plan.specs.Lists.{natAt}
-use Rattle.plan.specs.Format.{leastCounts}
 use mathlib.Core.Path.{sym}
 use native.Mathlib.Omega.{arith}
 use borrow.Author.Tests.{le-leb, lt-leb}

@@ -4,8 +4,8 @@ use native.Mathlib.Omega.{arith}
 use Prim.Native.Nat.{_-_, _≤_}
 use mathlib.Core.Path.{_≡_, sym}
 use mathlib.Core.Bool.{true}
+use Rattle.plan.specs.Numbers.{sections}
 use Rattle.plan.specs.Lists.{natAt, every}
-use Rattle.plan.specs.Format.{sections}
 use Rattle.plan.specs.Tests.{countKept}
 use Rattle.entryrules.specs.Laws.Testing.{every-none, every-more, every-fails, held, failed}
 use Rattle.entryrules.proofs.layout.counts_kept.Statement.{statement}

@@ -6,7 +6,7 @@ use mathlib.Core.Path.{_≡_, sym}
 use native.Mathlib.Omega.{arith}
 use Prim.Native.Nat.{_-_, _≤_}
 use Rattle.integers.specs.Range.{within}
-use Rattle.plan.specs.Format.{M}
+use Rattle.plan.specs.Numbers.{M}
 use Rattle.plan.specs.Lists.{intAt, every}
 use Rattle.entryrules.specs.Laws.Testing.{every-none, every-more, every-fails, element, held, failed}
 use Rattle.soundness.proofs.running.values_kept.Statement.{statement}

@@ -17,7 +17,7 @@ use Rattle.integers.specs.Range.{within}
 use Rattle.integers.specs.Laws.Signed64.{rd}
 use Rattle.bitset.specs.Mask.{lowestOf}
 use Rattle.bitset.specs.Laws.Visiting.{rest-lt}
-use Rattle.plan.specs.Format.{M}
+use Rattle.plan.specs.Numbers.{M}
 use Rattle.plan.specs.Lists.{intAt, firstFrom}
 use Rattle.timing.specs.Standing.{barsIn, DueReach}
 use Rattle.timing.specs.Laws.Barring.{valueAt, lowest-below, bars-none, bars-lowest, bars-rest, reach-lowest, reach-rest}

@@ -1,6 +1,6 @@
 -- `dynamics::standing_at` meets its contract: each return is its case of the definition. Assumes nothing.
 use borrow.Author.Tests.{eq-eqb, ne-eqb, lt-ltb, le-ltb}
-use Rattle.machine.specs.Due.{never}
+use Rattle.plan.specs.Numbers.{never}
 use Rattle.timing.specs.Standing.{standingOf}
 use Rattle.timing.proofs.status.standing_at.Statement.{statement}
 use Rattle.timing.proofs.status.standing_at.Tie as tie
