@@ -11,9 +11,9 @@ use borrow.Author.Needs.{needs}
 use Rattle.words.proofs.signed.Statement.{statement}
 use Rattle.words.proofs.signed.Tie as tie
 
-difference-fits : (c : tie.Else1) → SFits w64 (subℕ (c .before .args .w) (2 ^ 32))
+difference-fits : (c : tie.Else1) → SFits w64 (subℕ (c .before .args .word) (2 ^ 32))
 difference-fits c =
-    let w = c .before .args .w in
+    let w = c .before .args .word in
     let m = signed-mag 4 (omega arith) w (c .before .pre) in
     rw (← signed-high 4 w (c .if1 .left)) (record { sfits = omega arith })
 
@@ -24,14 +24,14 @@ cast-result-2 : tie.Need-cast-result-2
 cast-result-2 c = search needs
 
 sub-result : tie.Need-sub-result
-sub-result c = rw (toZ-pos w64 (c .before .args .w) (omega arith)) (difference-fits c)
+sub-result c = rw (toZ-pos w64 (c .before .args .word) (omega arith)) (difference-fits c)
 
 returns : tie.Need-returns
-returns c = toZ-pos w64 (c .before .args .w) (omega arith) ∙ sym (signed-low 4 (c .before .args .w) (c .if1 .taken))
+returns c = toZ-pos w64 (c .before .args .word) (omega arith) ∙ sym (signed-low 4 (c .before .args .word) (c .if1 .taken))
 
 returns-2 : tie.Need-returns-2
 returns-2 c =
-    let w = c .before .args .w in
+    let w = c .before .args .word in
     rw (toZ-pos w64 w (omega arith), signed-high 4 w (c .if1 .left)) (toZ-ofZ w64 (subℕ w (2 ^ 32)) (difference-fits c))
 
 pub signed-spec : {M : Type 1} → statement M

@@ -11,25 +11,25 @@ use Rattle.words.specs.Laws.Signs.{unsigned-low, unsigned-high, unsigned
 use Rattle.words.proofs.unsigned.Statement.{statement}
 use Rattle.words.proofs.unsigned.Tie as tie
 
-bits : (c : tie.Start) → toZ w64 (ofZ w64 (c .args .z)) ≡ c .args .z
-bits c = toZ-ofZ w64 (c .args .z) (c .fits .z)
+bits : (c : tie.Start) → toZ w64 (ofZ w64 (c .args .value)) ≡ c .args .value
+bits c = toZ-ofZ w64 (c .args .value) (c .fits .value)
 
-below : (c : tie.Start) → wordOf (c .args .z) < 2 ^ 32
-below c = unsigned-lt 4 (omega arith) (c .args .z) (c .pre)
+below : (c : tie.Start) → wordOf (c .args .value) < 2 ^ 32
+below c = unsigned-lt 4 (omega arith) (c .args .value) (c .pre)
 
 -- below 0
-raised : (c : tie.Then1) → pos (wordOf (c .before .args .z)) ≡ c .before .args .z +ℤ pos (2 ^ 32)
-raised c = unsigned-high 4 (c .before .args .z) (rw (bits (c .before)) at (c .if1 .taken)) (omega arith)
+raised : (c : tie.Then1) → pos (wordOf (c .before .args .value)) ≡ c .before .args .value +ℤ pos (2 ^ 32)
+raised c = unsigned-high 4 (c .before .args .value) (rw (bits (c .before)) at (c .if1 .taken)) (omega arith)
 
-sum-fits : (c : tie.Then1) → SFits w64 (c .before .args .z +ℤ pos (2 ^ 32))
+sum-fits : (c : tie.Then1) → SFits w64 (c .before .args .value +ℤ pos (2 ^ 32))
 sum-fits c = let l = below (c .before) in rw (← raised c) (record { sfits = omega arith })
 
-sum : (c : tie.Then1) → toZ w64 (ofZ w64 (toZ w64 (ofZ w64 (c .before .args .z)) +ℤ pos (2 ^ 32))) ≡ pos (wordOf (c .before .args .z))
-sum c = rw (bits (c .before)) (toZ-ofZ w64 (c .before .args .z +ℤ pos (2 ^ 32)) (sum-fits c) ∙ sym (raised c))
+sum : (c : tie.Then1) → toZ w64 (ofZ w64 (toZ w64 (ofZ w64 (c .before .args .value)) +ℤ pos (2 ^ 32))) ≡ pos (wordOf (c .before .args .value))
+sum c = rw (bits (c .before)) (toZ-ofZ w64 (c .before .args .value +ℤ pos (2 ^ 32)) (sum-fits c) ∙ sym (raised c))
 
 -- from 0 on
-kept : (c : tie.Else1) → toZ w64 (ofZ w64 (c .before .args .z)) ≡ pos (wordOf (c .before .args .z))
-kept c = bits (c .before) ∙ sym (unsigned-low 4 (c .before .args .z) (rw (bits (c .before)) at (c .if1 .left)))
+kept : (c : tie.Else1) → toZ w64 (ofZ w64 (c .before .args .value)) ≡ pos (wordOf (c .before .args .value))
+kept c = bits (c .before) ∙ sym (unsigned-low 4 (c .before .args .value) (rw (bits (c .before)) at (c .if1 .left)))
 
 add-result : tie.Need-add-result
 add-result c = rw (bits (c .before)) (sum-fits c)

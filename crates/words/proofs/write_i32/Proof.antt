@@ -22,8 +22,8 @@ returns : tie.Need-returns
 returns c =
     let start = c .before .before .before .before .before .before in
     let a = start .args in
-    let e = c .before .before .before .unsigned .ensures .0 ∙ ap wordOf (toZ-ofZ w64 (a .z) (start .fits .z)) in
-    c .before .before .write-u32 .ensures ∙ ap (put 4 (now (a .s)) (a .at)) e
+    let e = c .before .before .before .unsigned .ensures .0 ∙ ap wordOf (toZ-ofZ w64 (a .value) (start .fits .value)) in
+    c .before .before .write-u32 .ensures ∙ ap (put 4 (now (a .bytes)) (a .at)) e
 
 pub write-i32-spec : {M : Type 1} → statement M
 write-i32-spec = tie.close (tie.spec unsigned-requires write-u32-requires same-length returns)

@@ -24,8 +24,8 @@ returns c =
     let c1 = c2 .before .before .before .before in
     let start = c1 .before .before .before in
     let a = start .args in
-    let w1 = more (begin (now (a .buf))) (a .a) (c1 .write-u32 .ensures) in
-    let w2 = more w1 (a .b) (c2 .write-u322 .ensures) in
+    let w1 = more (begin (now (a .bytes))) (a .first) (c1 .write-u32 .ensures) in
+    let w2 = more w1 (a .second) (c2 .write-u322 .ensures) in
     more-signed w2 (a .value) (start .pre .3) (c3 .write-i32 .ensures) .words
 
 pub write-triple-spec : {M : Type 1} → statement M

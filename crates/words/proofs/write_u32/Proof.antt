@@ -9,60 +9,60 @@ use borrow.Author.Needs.{needs}
 use Rattle.words.proofs.write_u32.Statement.{statement}
 use Rattle.words.proofs.write_u32.Tie as tie
 
-cast-s : tie.Need-cast-s
-cast-s c = search needs
+cast-bytes : tie.Need-cast-bytes
+cast-bytes c = search needs
 
-slice-write-s : tie.Need-slice-write-s
-slice-write-s c = search needs
+slice-write-bytes : tie.Need-slice-write-bytes
+slice-write-bytes c = search needs
 
-cast-s-2 : tie.Need-cast-s-2
-cast-s-2 c = search needs
+cast-bytes-2 : tie.Need-cast-bytes-2
+cast-bytes-2 c = search needs
 
-add-s : tie.Need-add-s
-add-s c = search needs
+add-bytes : tie.Need-add-bytes
+add-bytes c = search needs
 
-slice-write-s-2 : tie.Need-slice-write-s-2
-slice-write-s-2 c = simp length-set (omega arith)
+slice-write-bytes-2 : tie.Need-slice-write-bytes-2
+slice-write-bytes-2 c = simp length-set (omega arith)
 
-cast-s-3 : tie.Need-cast-s-3
-cast-s-3 c = search needs
+cast-bytes-3 : tie.Need-cast-bytes-3
+cast-bytes-3 c = search needs
 
-add-s-2 : tie.Need-add-s-2
-add-s-2 c = search needs
+add-bytes-2 : tie.Need-add-bytes-2
+add-bytes-2 c = search needs
 
-slice-write-s-3 : tie.Need-slice-write-s-3
-slice-write-s-3 c = simp length-set (omega arith)
+slice-write-bytes-3 : tie.Need-slice-write-bytes-3
+slice-write-bytes-3 c = simp length-set (omega arith)
 
-cast-s-4 : tie.Need-cast-s-4
-cast-s-4 c = search needs
+cast-bytes-4 : tie.Need-cast-bytes-4
+cast-bytes-4 c = search needs
 
-add-s-3 : tie.Need-add-s-3
-add-s-3 c = search needs
+add-bytes-3 : tie.Need-add-bytes-3
+add-bytes-3 c = search needs
 
-slice-write-s-4 : tie.Need-slice-write-s-4
-slice-write-s-4 c = simp length-set (omega arith)
+slice-write-bytes-4 : tie.Need-slice-write-bytes-4
+slice-write-bytes-4 c = simp length-set (omega arith)
 
 same-length : tie.Need-same-length
 same-length c = search needs
 
 returns : tie.Need-returns
 unfolding bytesOf
-returns c = simp towards-suc (sets-put 4 (now (c .args .s)) (c .args .at) (c .pre .0) (c .args .w))
+returns c = simp towards-suc (sets-put 4 (now (c .args .bytes)) (c .args .at) (c .pre .0) (c .args .word))
 
 pub write-u32-spec : {M : Type 1} → statement M
 write-u32-spec =
     tie.close
     (tie.spec
-    cast-s
-    slice-write-s
-    cast-s-2
-    add-s
-    slice-write-s-2
-    cast-s-3
-    add-s-2
-    slice-write-s-3
-    cast-s-4
-    add-s-3
-    slice-write-s-4
+    cast-bytes
+    slice-write-bytes
+    cast-bytes-2
+    add-bytes
+    slice-write-bytes-2
+    cast-bytes-3
+    add-bytes-2
+    slice-write-bytes-3
+    cast-bytes-4
+    add-bytes-3
+    slice-write-bytes-4
     same-length
     returns)
