@@ -16,42 +16,42 @@ pub use wide::rest64;
 pub use wide::union64;
 pub use wide::with64;
 
-// i is in m.
-pub fn has(m: u32, i: usize) -> bool
+// Whether i is in the set.
+pub fn has(mask: u32, i: usize) -> bool
     requires { ⌜ i < 32 ⌝ }
-    ensures { λ r. ⌜ r ≡ has m i ⌝ }
+    ensures { λ r. ⌜ r ≡ has mask i ⌝ }
 {
-    (m >> i) % 2 == 1
+    (mask >> i) % 2 == 1
 }
 
-// m and i.
-pub fn with(m: u32, i: usize) -> u32
+// The set, and i.
+pub fn with(mask: u32, i: usize) -> u32
     requires { ⌜ i < 32 ⌝ }
-    ensures { λ r. ⌜ r ≡ withBit m i ⌝ }
+    ensures { λ r. ⌜ r ≡ withBit mask i ⌝ }
 {
-    m | (1 << i)
+    mask | (1 << i)
 }
 
-// The lowest of m, or 32 where m is empty.
-pub fn lowest(m: u32) -> usize
-    ensures { λ r. ⌜ r ≡ lowestOf 32 m ⌝ }
+// The lowest of the set, or 32 where the set is empty.
+pub fn lowest(mask: u32) -> usize
+    ensures { λ r. ⌜ r ≡ lowestOf 32 mask ⌝ }
 {
-    u32::trailing_zeros(m) as usize
+    u32::trailing_zeros(mask) as usize
 }
 
-// m without its lowest.
-pub fn rest(m: u32) -> u32
-    requires { ⌜ 0 < m ⌝ }
-    ensures { λ r. ⌜ r ≡ restOf m ⌝ }
+// The set without its lowest.
+pub fn rest(mask: u32) -> u32
+    requires { ⌜ 0 < mask ⌝ }
+    ensures { λ r. ⌜ r ≡ restOf mask ⌝ }
 {
-    m & (m - 1)
+    mask & (mask - 1)
 }
 
-// How many are in m.
-pub fn count(m: u32) -> usize
-    ensures { λ r. ⌜ r ≡ countOf (has m) 32 ⌝ }
+// How many are in the set.
+pub fn count(mask: u32) -> usize
+    ensures { λ r. ⌜ r ≡ countOf (has mask) 32 ⌝ }
 {
-    u32::count_ones(m) as usize
+    u32::count_ones(mask) as usize
 }
 
 // What is in a or in b.
@@ -61,7 +61,7 @@ pub fn union(a: u32, b: u32) -> u32
     a | b
 }
 
-// All below n. With n = 32 the shift needs more than 32 bits.
+// All below n. The shift is by up to 32, so it needs more than 32 bits.
 pub fn all(n: usize) -> u32
     requires { ⌜ n ≤ 32 ⌝ }
     ensures { λ r. ⌜ r ≡ allOf n ⌝ }
@@ -70,15 +70,15 @@ pub fn all(n: usize) -> u32
 }
 
 // The i below n with ticks[i] = t.
-pub fn equal_to(ticks: &[u32; 32], n: usize, t: u32) -> u32
+pub fn equal_to(n: usize, ticks: &[u32; 32], t: u32) -> u32
     requires { ⌜ n ≤ 32 ⌝ }
     ensures { λ r. ⌜ r ≡ maskOf (λ i. eqb (getD (now (ticks .entry)) i 0) t) n ⌝ }
 {
-    let mut r: u32 = 0;
+    let mut equal: u32 = 0;
     for i in 0..n {
         if ticks[i] == t {
-            r = with(r, i);
+            equal = with(equal, i);
         }
     }
-    r
+    equal
 }

@@ -4,34 +4,34 @@ ghost use Prim.Native.Nat.{_^_, _<_, _≤_};
 ghost use Rattle.bitset.specs.Mask.{has, union, withBit, lowestOf, restOf, joinedOf};
 
 // `has` for 64 bits.
-pub fn has64(m: u64, i: usize) -> bool
+pub fn has64(mask: u64, i: usize) -> bool
     requires { ⌜ i < 64 ⌝ }
-    ensures { λ r. ⌜ r ≡ has m i ⌝ }
+    ensures { λ r. ⌜ r ≡ has mask i ⌝ }
 {
-    (m >> i) % 2 == 1
+    (mask >> i) % 2 == 1
 }
 
 // `with` for 64 bits.
-pub fn with64(m: u64, i: usize) -> u64
+pub fn with64(mask: u64, i: usize) -> u64
     requires { ⌜ i < 64 ⌝ }
-    ensures { λ r. ⌜ r ≡ withBit m i ⌝ }
+    ensures { λ r. ⌜ r ≡ withBit mask i ⌝ }
 {
-    m | (1 << i)
+    mask | (1 << i)
 }
 
 // `lowest` for 64 bits.
-pub fn lowest64(m: u64) -> usize
-    ensures { λ r. ⌜ r ≡ lowestOf 64 m ⌝ }
+pub fn lowest64(mask: u64) -> usize
+    ensures { λ r. ⌜ r ≡ lowestOf 64 mask ⌝ }
 {
-    u64::trailing_zeros(m) as usize
+    u64::trailing_zeros(mask) as usize
 }
 
 // `rest` for 64 bits.
-pub fn rest64(m: u64) -> u64
-    requires { ⌜ 0 < m ⌝ }
-    ensures { λ r. ⌜ r ≡ restOf m ⌝ }
+pub fn rest64(mask: u64) -> u64
+    requires { ⌜ 0 < mask ⌝ }
+    ensures { λ r. ⌜ r ≡ restOf mask ⌝ }
 {
-    m & (m - 1)
+    mask & (mask - 1)
 }
 
 // `union` for 64 bits.
@@ -41,7 +41,7 @@ pub fn union64(a: u64, b: u64) -> u64
     a | b
 }
 
-// The i of `low`, which are below n, and n + i for the i of `high`.
+// Two sets as one: the i of `low`, which are below n, and n + i for each i of `high`. So integrators and inputs become a set of source numbers.
 pub fn joined(low: u32, high: u32, n: usize) -> u64
     requires { ⌜ (n ≤ 32) × (low < 2 ^ n) ⌝ }
     ensures { λ r. ⌜ r ≡ joinedOf low high n ⌝ }

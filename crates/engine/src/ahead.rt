@@ -29,7 +29,7 @@ pub fn look_ahead<'a>(
     ensures { λ r. ⌜ r ≡ aheadOf horizon n commands next (now (ticks .entry)) (now (x .entry)) (now (s .entry)) (now (l .entry)) (now (d .entry)) ⌝ }
 {
     let tick = next_tick(n, d, commands, ticks, next);
-    let due = equal_to(d, n, tick);
+    let due = equal_to(n, d, tick);
     let standing = standing_at(horizon, n, tick, due, x, s, l);
     Ahead {
         tick,

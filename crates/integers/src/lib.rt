@@ -1,3 +1,4 @@
+// Division of whole numbers that rounds down or up, and a value limited to a range.
 ghost use mathlib.Core.Path.{_≡_};
 ghost use Prim.Native.Nat.{_<_};
 ghost use Rattle.integers.specs.Division.{floored, ceilDiv};

@@ -10,7 +10,7 @@ cast-result : tie.Need-cast-result
 cast-result c = record { fits = lt-of-le-of-lt (ones-le 32 _ (omega arith)) (omega arith) }
 
 returns : tie.Need-returns
-returns c = ones-count (c .args .m) 32 (omega arith)
+returns c = ones-count (c .args .mask) 32 (omega arith)
 
 pub count-spec : {M : Type 1} → statement M
 count-spec = tie.close (tie.spec cast-result returns)

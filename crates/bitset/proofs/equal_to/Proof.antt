@@ -13,10 +13,10 @@ use Rattle.bitset.proofs.equal_to.Statement.{statement}
 use Rattle.bitset.proofs.equal_to.Tie as tie
 
 abbrev Inv-loop : tie.InvT-loop
-Inv-loop ticks n t r₀ i₀ r i = (i ≤ n) × (r ≡ maskOf (λ k. eqb (getD ticks k 0) t) i)
+Inv-loop n ticks t equal₀ i₀ equal i = (i ≤ n) × (equal ≡ maskOf (λ k. eqb (getD ticks k 0) t) i)
 
 abbrev μ-loop : tie.MeasureT-loop
-μ-loop ticks n t r₀ i₀ r i = n - i
+μ-loop n ticks t equal₀ i₀ equal i = n - i
 
 loop-holds : tie.Need-loop-holds Inv-loop μ-loop
 unfolding maskOf

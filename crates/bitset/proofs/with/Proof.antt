@@ -14,7 +14,7 @@ shl-result c = search needs
 
 returns : tie.Need-returns
 unfolding withBit
-returns c = ap (union (c .args .m)) (one-shl 32 (c .args .i) (c .pre))
+returns c = ap (union (c .args .mask)) (one-shl 32 (c .args .i) (c .pre))
 
 pub with-spec : {M : Type 1} → statement M
 with-spec = tie.close (tie.spec cast-result shl-result returns)

@@ -11,7 +11,7 @@ shl-result c = search needs
 
 returns : tie.Need-returns
 unfolding withBit
-returns c = ap (union (c .args .m)) (one-shl 64 (c .args .i) (c .pre))
+returns c = ap (union (c .args .mask)) (one-shl 64 (c .args .i) (c .pre))
 
 pub with64-spec : {M : Type 1} → statement M
 with64-spec = tie.close (tie.spec shl-result returns)
