@@ -48,7 +48,7 @@ pub fn integrator_kept(start: i64, quantum: i64) -> bool
     quantum <= State::M
 }
 
-// Kinds 0 and 1: "with lo and hi 0".
+// What kinds 0 and 1 ask besides a rule for A: B names a source below the node's own, "with lo and hi 0".
 fn arithmetic_kept(own: usize, b: usize, lo: i64, hi: i64) -> bool
     ensures { λ r. ⌜ r ≡ (ltb b own && eqb ∣ lo ∣ 0 && eqb ∣ hi ∣ 0) ⌝ }
 {
@@ -109,8 +109,8 @@ pub fn link_limits(n: usize, all: usize, target: usize, source: usize, coefficie
 }
 
 // "tick 1 to horizon, input number below m, signed value within ±M"
-pub fn command_limits(horizon: u32, m: usize, tick: u32, number: usize, value: i64) -> bool
-    ensures { λ r. ⌜ r ≡ commandTest horizon m tick number value ⌝ }
+pub fn command_limits(horizon: u32, m: usize, tick: u32, input: usize, value: i64) -> bool
+    ensures { λ r. ⌜ r ≡ commandTest horizon m tick input value ⌝ }
 {
     if tick < 1 {
         return false;
@@ -118,54 +118,68 @@ pub fn command_limits(horizon: u32, m: usize, tick: u32, number: usize, value: i
     if horizon < tick {
         return false;
     }
-    if m <= number {
+    if m <= input {
         return false;
     }
     value_kept(value)
 }
 
-// (a, b) stands before (c, d): by the first, then by the second.
-fn pair_ascends(a: usize, b: usize, c: usize, d: usize) -> bool
-    ensures { λ r. ⌜ r ≡ ascends a b c d ⌝ }
+// A pair stands before the next pair: by the first number, then by the second.
+fn pair_ascends(first: usize, second: usize, next_first: usize, next_second: usize) -> bool
+    ensures { λ r. ⌜ r ≡ ascends first second «next_first» «next_second» ⌝ }
 {
-    if a < c {
+    if first < next_first {
         return true;
     }
-    if a != c {
+    if first != next_first {
         return false;
     }
-    b < d
+    second < next_second
 }
 
-// The same where the first numbers are ticks. A parameter's cast asks for no proof; that of an array's element would.
-fn tick_ascends(a: u32, b: usize, c: u32, d: usize) -> bool
-    ensures { λ r. ⌜ r ≡ ascends a b c d ⌝ }
+// The same for a command, whose first number is a tick. A parameter's cast asks for no proof; that of an array's element would.
+fn tick_ascends(tick: u32, input: usize, next_tick: u32, next_input: usize) -> bool
+    ensures { λ r. ⌜ r ≡ ascends tick input «next_tick» «next_input» ⌝ }
 {
-    pair_ascends(a as usize, b, c as usize, d)
+    pair_ascends(tick as usize, input, next_tick as usize, next_input)
 }
 
-// "Strictly ascending by target, then source": link e stands above its predecessor.
-pub fn link_ordered<'a>(targets: &'a [usize; LINKS], sources: &'a [usize; LINKS], e: usize) -> bool
-    requires { ⌜ e < 256 ⌝ }
-    ensures { λ r. ⌜ r ≡ follows (now (targets .entry)) (now (sources .entry)) e ⌝ }
+// "Strictly ascending by target, then source": a link stands above its predecessor, if it has one.
+pub fn link_ordered<'a>(
+    link: usize,
+    targets: &'a [usize; LINKS],
+    sources: &'a [usize; LINKS],
+) -> bool
+    requires { ⌜ link < 256 ⌝ }
+    ensures { λ r. ⌜ r ≡ follows (now (targets .entry)) (now (sources .entry)) link ⌝ }
 {
-    if e == 0 {
+    if link == 0 {
         return true;
     }
-    pair_ascends(targets[e - 1], sources[e - 1], targets[e], sources[e])
+    pair_ascends(
+        targets[link - 1],
+        sources[link - 1],
+        targets[link],
+        sources[link],
+    )
 }
 
-// "Strictly ascending by tick, then input": command e stands above its predecessor.
+// "Strictly ascending by tick, then input": a command stands above its predecessor, if it has one.
 pub fn command_ordered<'a>(
+    command: usize,
     ticks: &'a [u32; COMMANDS],
     inputs: &'a [usize; COMMANDS],
-    e: usize,
 ) -> bool
-    requires { ⌜ e < 64 ⌝ }
-    ensures { λ r. ⌜ r ≡ follows (now (ticks .entry)) (now (inputs .entry)) e ⌝ }
+    requires { ⌜ command < 64 ⌝ }
+    ensures { λ r. ⌜ r ≡ follows (now (ticks .entry)) (now (inputs .entry)) command ⌝ }
 {
-    if e == 0 {
+    if command == 0 {
         return true;
     }
-    tick_ascends(ticks[e - 1], inputs[e - 1], ticks[e], inputs[e])
+    tick_ascends(
+        ticks[command - 1],
+        inputs[command - 1],
+        ticks[command],
+        inputs[command],
+    )
 }

@@ -16,49 +16,51 @@ const LEAST_COUNTS: [u64; 5] = [1, 0, 0, 0, 0];
 
 const LARGEST_COUNTS: [u64; 5] = [32, 8, 16, 256, 64];
 
-// The bytes of an entry of section k.
-pub fn entry_size(k: usize) -> u64
-    requires { ⌜ k < sections ⌝ }
-    ensures { λ r. ⌜ (r ≡ natAt entrySizes k) × (0 < r) ⌝ }
+// The bytes of an entry of a section. None is 0, so a length can be divided by it.
+pub fn entry_size(section: usize) -> u64
+    requires { ⌜ section < sections ⌝ }
+    ensures answer { λ r. ⌜ r ≡ natAt entrySizes section ⌝ }
+    ensures range { λ r. ⌜ 0 < r ⌝ }
 {
-    ENTRY_SIZES[k]
+    ENTRY_SIZES[section]
 }
 
-fn least_count(k: usize) -> u64
-    requires { ⌜ k < sections ⌝ }
-    ensures { λ r. ⌜ r ≡ natAt leastCounts k ⌝ }
+// The least count of a section, and the largest.
+fn least_count(section: usize) -> u64
+    requires { ⌜ section < sections ⌝ }
+    ensures { λ r. ⌜ r ≡ natAt leastCounts section ⌝ }
 {
-    LEAST_COUNTS[k]
+    LEAST_COUNTS[section]
 }
 
-fn largest_count(k: usize) -> u64
-    requires { ⌜ k < sections ⌝ }
-    ensures { λ r. ⌜ r ≡ natAt largestCounts k ⌝ }
+fn largest_count(section: usize) -> u64
+    requires { ⌜ section < sections ⌝ }
+    ensures { λ r. ⌜ r ≡ natAt largestCounts section ⌝ }
 {
-    LARGEST_COUNTS[k]
+    LARGEST_COUNTS[section]
 }
 
 // Whether a count is inside its section's limits.
-pub fn count_kept(k: usize, count: u64) -> bool
-    requires { ⌜ k < sections ⌝ }
-    ensures { λ r. ⌜ r ≡ countKept k count ⌝ }
+pub fn count_kept(section: usize, count: u64) -> bool
+    requires { ⌜ section < sections ⌝ }
+    ensures { λ r. ⌜ r ≡ countKept section count ⌝ }
 {
-    if count < least_count(k) {
+    if count < least_count(section) {
         return false;
     }
-    count <= largest_count(k)
+    count <= largest_count(section)
 }
 
 // Whether the counts of a plan, in the order of the sections, are inside their limits. They may be any numbers.
 pub fn counts_kept(counts: &[usize; 5]) -> bool
     ensures { λ r. ⌜ r ≡ every (λ k. countKept k (natAt (now (counts .entry)) k)) sections ⌝ }
 {
-    let mut k = 0;
-    while k < SECTIONS {
-        if !count_kept(k, counts[k] as u64) {
+    let mut section = 0;
+    while section < SECTIONS {
+        if !count_kept(section, counts[section] as u64) {
             return false;
         }
-        k += 1;
+        section += 1;
     }
     true
 }

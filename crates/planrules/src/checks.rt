@@ -25,6 +25,7 @@ use plan::LINKS;
 use plan::NODES;
 use plan::Plan;
 
+// Refusal 4, the horizon.
 fn check_horizon(horizon: u32) -> Finding
     ensures { λ r. ⌜ r ≡ unless (horizonKept horizon) Horizon ⌝ }
 {
@@ -35,6 +36,7 @@ fn check_horizon(horizon: u32) -> Finding
     }
 }
 
+// Refusal 5, the integrators.
 fn check_integrators<'a>(
     n: usize,
     starts: &'a [i64; INTEGRATORS],
@@ -53,6 +55,7 @@ fn check_integrators<'a>(
     Finding::Clean
 }
 
+// Refusal 6, the inputs.
 fn check_inputs(m: usize, firsts: &[i64; INPUTS]) -> Finding
     requires { ⌜ m ≤ 8 ⌝ }
     ensures { λ r. ⌜ r ≡ inputsCheck m (now (firsts .entry)) ⌝ }
@@ -67,7 +70,7 @@ fn check_inputs(m: usize, firsts: &[i64; INPUTS]) -> Finding
     Finding::Clean
 }
 
-// `base` is n + m, the source number of node 0.
+// Refusal 7, the nodes. `base` is n + m, the source number of node 0.
 fn check_nodes<'a>(
     base: usize,
     k: usize,
@@ -90,7 +93,7 @@ fn check_nodes<'a>(
     Finding::Clean
 }
 
-// `all` is n + m + k, the number of sources.
+// Refusal 8, the links. `all` is n + m + k, the number of sources.
 fn check_links<'a>(
     n: usize,
     all: usize,
@@ -107,7 +110,7 @@ fn check_links<'a>(
         if !link_limits(n, all, targets[e], sources[e], coefficients[e]) {
             return Finding::Link(e);
         }
-        if !link_ordered(targets, sources, e) {
+        if !link_ordered(e, targets, sources) {
             return Finding::Link(e);
         }
         e += 1;
@@ -115,7 +118,7 @@ fn check_links<'a>(
     Finding::Clean
 }
 
-// The refusals 7 and 8, in this order.
+// The refusals 7 and 8, in this order: both go by source numbers, which are worked out here.
 fn check_nodes_and_links<'a>(
     n: usize,
     m: usize,
@@ -143,6 +146,7 @@ fn check_nodes_and_links<'a>(
     check_links(n, all, links, targets, sources, coefficients)
 }
 
+// Refusal 9, the commands.
 fn check_commands<'a>(
     horizon: u32,
     m: usize,
@@ -159,7 +163,7 @@ fn check_commands<'a>(
         if !command_limits(horizon, m, ticks[e], inputs[e], values[e]) {
             return Finding::Command(e);
         }
-        if !command_ordered(ticks, inputs, e) {
+        if !command_ordered(e, ticks, inputs) {
             return Finding::Command(e);
         }
         e += 1;
@@ -168,22 +172,22 @@ fn check_commands<'a>(
 }
 
 // The refusals 4 to 9 of a plan whose counts are inside their limits, tried in order.
-pub fn check_plan(p: Plan) -> Finding
-    requires { ⌜ CountsRule p ⌝ }
-    ensures { λ r. ⌜ r ≡ planFinding p ⌝ }
+pub fn check_plan(plan: Plan) -> Finding
+    requires { ⌜ CountsRule plan ⌝ }
+    ensures { λ r. ⌜ r ≡ planFinding plan ⌝ }
 {
-    let n = p.counts.n;
-    let m = p.counts.m;
-    let k = p.counts.k;
-    let found = check_horizon(p.horizon);
+    let n = plan.counts.n;
+    let m = plan.counts.m;
+    let k = plan.counts.k;
+    let found = check_horizon(plan.horizon);
     let Finding::Clean = found else {
         return found;
     };
-    let found = check_integrators(n, &p.integrators.starts, &p.integrators.quanta);
+    let found = check_integrators(n, &plan.integrators.starts, &plan.integrators.quanta);
     let Finding::Clean = found else {
         return found;
     };
-    let found = check_inputs(m, &p.inputs.firsts);
+    let found = check_inputs(m, &plan.inputs.firsts);
     let Finding::Clean = found else {
         return found;
     };
@@ -191,44 +195,44 @@ pub fn check_plan(p: Plan) -> Finding
         n,
         m,
         k,
-        p.counts.links,
-        &p.nodes.kinds,
-        &p.nodes.a,
-        &p.nodes.b,
-        &p.nodes.lows,
-        &p.nodes.highs,
-        &p.links.targets,
-        &p.links.sources,
-        &p.links.coefficients,
+        plan.counts.links,
+        &plan.nodes.kinds,
+        &plan.nodes.a,
+        &plan.nodes.b,
+        &plan.nodes.lows,
+        &plan.nodes.highs,
+        &plan.links.targets,
+        &plan.links.sources,
+        &plan.links.coefficients,
     );
     let Finding::Clean = found else {
         return found;
     };
     check_commands(
-        p.horizon,
+        plan.horizon,
         m,
-        p.counts.commands,
-        &p.commands.ticks,
-        &p.commands.inputs,
-        &p.commands.values,
+        plan.counts.commands,
+        &plan.commands.ticks,
+        &plan.commands.inputs,
+        &plan.commands.values,
     )
 }
 
 // Whether a plan that comes in no file keeps the counts' limits and the rules 4 to 9. It asks nothing of the plan: the counts are tested first.
-pub fn plan_kept(p: Plan) -> bool
-    ensures { λ r. ⌜ r ≡ (countsKept p && isClean (planFinding p)) ⌝ }
+pub fn plan_kept(plan: Plan) -> bool
+    ensures { λ r. ⌜ r ≡ (countsKept plan && isClean (planFinding plan)) ⌝ }
 {
     let counts = [
-        p.counts.n,
-        p.counts.m,
-        p.counts.k,
-        p.counts.links,
-        p.counts.commands,
+        plan.counts.n,
+        plan.counts.m,
+        plan.counts.k,
+        plan.counts.links,
+        plan.counts.commands,
     ];
     if !counts_kept(&counts) {
         return false;
     }
-    let found = check_plan(p);
+    let found = check_plan(plan);
     let Finding::Clean = found else {
         return false;
     };

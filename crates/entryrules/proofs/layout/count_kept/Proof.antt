@@ -16,7 +16,7 @@ returns : tie.Need-returns
 unfolding countKept
 returns c =
     let a = c .before .before .args in
-    let low = lt-leb (natAt leastCounts (a .k)) (a .count) (omega (arith, c .before .least-count .ensures)) in
+    let low = lt-leb (natAt leastCounts (a .section)) (a .count) (omega (arith, c .before .least-count .ensures)) in
     sym (rw low)
 
 largest-count-requires : tie.Need-largest-count-requires
@@ -26,7 +26,7 @@ returns-2 : tie.Need-returns-2
 unfolding countKept
 returns-2 c =
     let a = c .before .before .before .args in
-    let low = le-leb (natAt leastCounts (a .k)) (a .count) (omega (arith, c .before .before .least-count .ensures)) in
+    let low = le-leb (natAt leastCounts (a .section)) (a .count) (omega (arith, c .before .before .least-count .ensures)) in
     sym (rw (low, ← c .largest-count .ensures))
 
 pub count-kept-spec : {M : Type 1} → statement M

@@ -1,4 +1,4 @@
--- Before the turn of section k every section below it has passed.
+-- Before the turn of a section every section below it has passed.
 use borrow.Author.Needs.{needs}
 use native.Mathlib.Omega.{arith}
 use Prim.Native.Nat.{_-_, _≤_}
@@ -12,10 +12,10 @@ use Rattle.entryrules.proofs.layout.counts_kept.Statement.{statement}
 use Rattle.entryrules.proofs.layout.counts_kept.Tie as tie
 
 abbrev Inv-loop : tie.InvT-loop
-Inv-loop counts k₀ k = (k ≤ sections) × (every (λ j. countKept j (natAt counts j)) k ≡ true)
+Inv-loop counts section₀ section = (section ≤ sections) × (every (λ k. countKept k (natAt counts k)) section ≡ true)
 
 abbrev μ-loop : tie.MeasureT-loop
-μ-loop counts k₀ k = sections - k
+μ-loop counts section₀ section = sections - section
 
 loop-holds : tie.Need-loop-holds Inv-loop μ-loop
 loop-holds c = (search needs, every-none _)
@@ -33,10 +33,10 @@ returns : tie.Need-returns Inv-loop μ-loop
 returns c =
     let b = c .before .before .before .before .loop in
     let fails = failed (c .before .count-kept .ensures) (c .if1 .taken) in
-    sym (every-fails _ sections (b .k) (omega arith) fails)
+    sym (every-fails _ sections (b .section) (omega arith) fails)
 
-add-k : tie.Need-add-k Inv-loop μ-loop
-add-k c = search needs
+add-section : tie.Need-add-section Inv-loop μ-loop
+add-section c = search needs
 
 loop-less : tie.Need-loop-less Inv-loop μ-loop
 loop-less c = search needs
@@ -50,7 +50,7 @@ loop-again c =
 returns-2 : tie.Need-returns-2 Inv-loop μ-loop
 returns-2 c =
     let b = c .before .loop in
-    let is : b .k ≡ sections = omega arith in
+    let is : b .section ≡ sections = omega arith in
     sym (rw (← is) (b .inv .1))
 
 pub counts-kept-spec : {M : Type 1} → statement M
@@ -64,7 +64,7 @@ counts-kept-spec =
     element-copy-out-count-kept
     count-kept-requires
     returns
-    add-k
+    add-section
     loop-less
     loop-again
     returns-2)

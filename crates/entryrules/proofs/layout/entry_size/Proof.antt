@@ -12,7 +12,7 @@ array-read-result : tie.Need-array-read-result
 array-read-result c = search needs
 
 returns : tie.Need-returns
-returns c = (refl, size-positive (c .args .k) (c .pre))
+returns c = (refl, size-positive (c .args .section) (c .pre))
 
 pub entry-size-spec : {M : Type 1} → statement M
 entry-size-spec = tie.close (tie.spec mul-result array-read-result returns)

@@ -14,7 +14,7 @@ counts-kept-requires : tie.Need-counts-kept-requires
 counts-kept-requires c κs = search needs
 
 -- what is known behind the first test
-kept : (c : tie.Else1) → countsKept (c .before .before .before .args .p) ≡ true
+kept : (c : tie.Else1) → countsKept (c .before .before .before .args .plan) ≡ true
 unfolding countsKept counts
 kept c = sym (c .before .counts-kept .ensures) ∙ not-false _ (c .if1 .left)
 
@@ -23,7 +23,7 @@ unfolding countsKept counts
 returns c = let broken = sym (c .before .counts-kept .ensures) ∙ not-true _ (c .if1 .taken) in sym (rw broken)
 
 check-plan-requires : tie.Need-check-plan-requires
-check-plan-requires c κs = counts-kept (c .before .before .before .args .p) .0 (kept c)
+check-plan-requires c κs = counts-kept (c .before .before .before .args .plan) .0 (kept c)
 
 enum-told : tie.Need-enum-told
 enum-told c = search needs
