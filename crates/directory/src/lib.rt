@@ -19,19 +19,22 @@ use entryrules::entry_size;
 use plan::Finding;
 use words::read_u32;
 
-// Where section k starts, and how long it is, by the header.
-pub fn offset_in(file: &[u8], k: usize) -> u64
-    requires { ⌜ (headerLength ≤ length (now file)) × (k < sections) ⌝ }
-    ensures { λ r. ⌜ (r ≡ offsetIn (now (file .entry)) k) × (r < 2 ^ 32) ⌝ }
+// Where a section starts, by the header: its pair's first word.
+pub fn offset_in(file: &[u8], section: usize) -> u64
+    requires { ⌜ (headerLength ≤ length (now file)) × (section < sections) ⌝ }
+    ensures answer { λ r. ⌜ r ≡ offsetIn (now (file .entry)) section ⌝ }
+    ensures range { λ r. ⌜ r < 2 ^ 32 ⌝ }
 {
-    read_u32(file, 4 + 8 * k)
+    read_u32(file, 4 + 8 * section)
 }
 
-fn length_in(file: &[u8], k: usize) -> u64
-    requires { ⌜ (headerLength ≤ length (now file)) × (k < sections) ⌝ }
-    ensures { λ r. ⌜ (r ≡ lengthIn (now (file .entry)) k) × (r < 2 ^ 32) ⌝ }
+// How many bytes a section has, by the header: its pair's second word.
+fn length_in(file: &[u8], section: usize) -> u64
+    requires { ⌜ (headerLength ≤ length (now file)) × (section < sections) ⌝ }
+    ensures answer { λ r. ⌜ r ≡ lengthIn (now (file .entry)) section ⌝ }
+    ensures range { λ r. ⌜ r < 2 ^ 32 ⌝ }
 {
-    read_u32(file, 8 + 8 * k)
+    read_u32(file, 8 + 8 * section)
 }
 
 // "The first offset is 44, each next offset is the previous offset plus length, the last section ends the file." The sum of two words is below
@@ -41,14 +44,14 @@ fn check_offsets(file: &[u8]) -> Finding
     ensures { λ r. ⌜ r ≡ unless (offsetsKept (now (file .entry))) Offsets ⌝ }
 {
     let mut start = HEADER_LENGTH as u64;
-    let mut k = 0;
-    while k < SECTIONS {
-        let offset = offset_in(file, k);
+    let mut section = 0;
+    while section < SECTIONS {
+        let offset = offset_in(file, section);
         if offset != start {
             return Finding::Offsets;
         }
-        start = offset + length_in(file, k);
-        k += 1;
+        start = offset + length_in(file, section);
+        section += 1;
     }
     if file.len() as u64 == start {
         Finding::Clean
@@ -58,15 +61,15 @@ fn check_offsets(file: &[u8]) -> Finding
 }
 
 // A section of so many bytes is a whole number of entries, and their count is inside its limits.
-fn size_kept(k: usize, bytes: u64) -> bool
-    requires { ⌜ k < sections ⌝ }
-    ensures { λ r. ⌜ r ≡ (eqb (bytes % natAt entrySizes k) 0 && countKept k (bytes / natAt entrySizes k)) ⌝ }
+fn size_kept(section: usize, bytes: u64) -> bool
+    requires { ⌜ section < sections ⌝ }
+    ensures { λ r. ⌜ r ≡ (eqb (bytes % natAt entrySizes section) 0 && countKept section (bytes / natAt entrySizes section)) ⌝ }
 {
-    let size = entry_size(k);
+    let size = entry_size(section);
     if bytes % size != 0 {
         return false;
     }
-    count_kept(k, bytes / size)
+    count_kept(section, bytes / size)
 }
 
 // Every section is of the right size.
@@ -74,12 +77,12 @@ fn check_sizes(file: &[u8]) -> Finding
     requires { ⌜ headerLength ≤ length (now file) ⌝ }
     ensures { λ r. ⌜ r ≡ unless (sizesKept (now (file .entry))) Sizes ⌝ }
 {
-    let mut k = 0;
-    while k < SECTIONS {
-        if !size_kept(k, length_in(file, k)) {
+    let mut section = 0;
+    while section < SECTIONS {
+        if !size_kept(section, length_in(file, section)) {
             return Finding::Sizes;
         }
-        k += 1;
+        section += 1;
     }
     Finding::Clean
 }
@@ -98,21 +101,21 @@ pub fn check_directory(file: &[u8]) -> Finding
     check_sizes(file)
 }
 
-// How many entries section k has.
-pub fn count_in(file: &[u8], k: usize) -> usize
-    requires { ⌜ Directory (now file) × (k < sections) ⌝ }
-    ensures { λ r. ⌜ r ≡ countIn (now (file .entry)) k ⌝ }
+// How many entries a section has.
+pub fn count_in(file: &[u8], section: usize) -> usize
+    requires { ⌜ Directory (now file) × (section < sections) ⌝ }
+    ensures { λ r. ⌜ r ≡ countIn (now (file .entry)) section ⌝ }
 {
-    (length_in(file, k) / entry_size(k)) as usize
+    (length_in(file, section) / entry_size(section)) as usize
 }
 
-// Section k, as a part of the file.
-pub fn section_in(file: &[u8], k: usize) -> &[u8]
-    requires { ⌜ Directory (now file) × (k < sections) ⌝ }
-    ensures { λ r. ⌜ now r ≡ sectionIn (now (file .entry)) k ⌝ }
-    ensures { λ r. ⌜ r .ptr ≡ further (file .entry .ptr) (offsetIn (now (file .entry)) k) ⌝ }
+// A section, as a part of the file: what it holds, and where it lies, so that it is the caller's own.
+pub fn section_in(file: &[u8], section: usize) -> &[u8]
+    requires { ⌜ Directory (now file) × (section < sections) ⌝ }
+    ensures answer { λ r. ⌜ now r ≡ sectionIn (now (file .entry)) section ⌝ }
+    ensures place { λ r. ⌜ r .ptr ≡ further (file .entry .ptr) (offsetIn (now (file .entry)) section) ⌝ }
 {
-    let offset = offset_in(file, k) as usize;
-    let end = offset + length_in(file, k) as usize;
+    let offset = offset_in(file, section) as usize;
+    let end = offset + length_in(file, section) as usize;
     &file[offset..end]
 }

@@ -1,4 +1,4 @@
--- Before the turn of section k every offset below it is right, and `start` is where section k is to start. Two words add up to less than 2^33.
+-- Before the turn of a section every offset below it is right, and `start` is where the section is to start. Two words add up to less than 2^33.
 use borrow.Author.Needs.{needs}
 use borrow.Author.Tests.{eq-eqb, ne-eqb}
 use native.Mathlib.Omega.{arith}
@@ -18,10 +18,10 @@ use Rattle.directory.proofs.check_offsets.Statement.{statement}
 use Rattle.directory.proofs.check_offsets.Tie as tie
 
 abbrev Inv-loop : tie.InvT-loop
-Inv-loop file start₀ k₀ start k = (k ≤ sections) × (every (λ j. eqb (offsetIn file j) (startIn file j)) k ≡ true) × (start ≡ startIn file k)
+Inv-loop file start₀ section₀ start section = (section ≤ sections) × (every (λ k. eqb (offsetIn file k) (startIn file k)) section ≡ true) × (start ≡ startIn file section)
 
 abbrev μ-loop : tie.MeasureT-loop
-μ-loop file start₀ k₀ start k = sections - k
+μ-loop file start₀ section₀ start section = sections - section
 
 loop-holds : tie.Need-loop-holds Inv-loop μ-loop
 unfolding startIn
@@ -35,8 +35,8 @@ unfolding offsetsKept
 returns c =
     let b = c .before .before .before .loop in
     let file = now (c .before .before .before .before .before .args .file) in
-    let differs = ne-eqb (offsetIn file (b .k)) (startIn file (b .k)) (λ e. omega arith) in
-    sym (rw (every-fails _ sections (b .k) (omega arith) differs))
+    let differs = ne-eqb (offsetIn file (b .section)) (startIn file (b .section)) (λ e. omega arith) in
+    sym (rw (every-fails _ sections (b .section) (omega arith) differs))
 
 length-in-requires : tie.Need-length-in-requires Inv-loop μ-loop
 length-in-requires c κs = search needs
@@ -44,8 +44,8 @@ length-in-requires c κs = search needs
 add-start : tie.Need-add-start Inv-loop μ-loop
 add-start c = search needs
 
-add-k : tie.Need-add-k Inv-loop μ-loop
-add-k c = search needs
+add-section : tie.Need-add-section Inv-loop μ-loop
+add-section c = search needs
 
 loop-less : tie.Need-loop-less Inv-loop μ-loop
 loop-less c = search needs
@@ -55,7 +55,7 @@ unfolding startIn
 loop-again c =
     let b = c .before .before .before .before .loop in
     let file = now (c .before .before .before .before .before .before .args .file) in
-    let same = eq-eqb (offsetIn file (b .k)) (startIn file (b .k)) (omega arith) in
+    let same = eq-eqb (offsetIn file (b .section)) (startIn file (b .section)) (omega arith) in
     (omega arith, every-more _ (b .inv .1) same, rw add-one (omega arith))
 
 -- behind the last section every offset is right, and `start` is where the file is to end
@@ -64,7 +64,7 @@ ended : (c : tie.After-loop Inv-loop μ-loop) → let file = now (c .before .bef
 unfolding offsetsKept
 ended c =
     let b = c .before .loop in
-    let is : b .k ≡ sections = omega arith in
+    let is : b .section ≡ sections = omega arith in
     rw (← is, b .inv .1, b .inv .2)
 
 returns-2 : tie.Need-returns-2 Inv-loop μ-loop
@@ -84,7 +84,7 @@ check-offsets-spec =
     returns
     length-in-requires
     add-start
-    add-k
+    add-section
     loop-less
     loop-again
     returns-2

@@ -1,4 +1,4 @@
--- Before the turn of section k every section below it has passed.
+-- Before the turn of a section every section below it has passed.
 use borrow.Author.Needs.{needs}
 use native.Mathlib.Omega.{arith}
 use Prim.Native.Nat.{ℕ, _-_, _≤_, _%_}
@@ -15,15 +15,15 @@ use Rattle.entryrules.specs.Laws.Testing.{every-none, every-more, every-fails, 
 use Rattle.directory.proofs.check_sizes.Statement.{statement}
 use Rattle.directory.proofs.check_sizes.Tie as tie
 
--- section j of a file is of the right size
+-- section k of a file is of the right size
 abbrev sized : List ℕ → ℕ → Bool
-sized file j = eqb (lengthIn file j % natAt entrySizes j) 0 && countKept j (countIn file j)
+sized file k = eqb (lengthIn file k % natAt entrySizes k) 0 && countKept k (countIn file k)
 
 abbrev Inv-loop : tie.InvT-loop
-Inv-loop file k₀ k = (k ≤ sections) × (every (sized file) k ≡ true)
+Inv-loop file section₀ section = (section ≤ sections) × (every (sized file) section ≡ true)
 
 abbrev μ-loop : tie.MeasureT-loop
-μ-loop file k₀ k = sections - k
+μ-loop file section₀ section = sections - section
 
 loop-holds : tie.Need-loop-holds Inv-loop μ-loop
 loop-holds c = (search needs, every-none _)
@@ -41,10 +41,10 @@ returns c =
     let file = now (c .before .before .before .before .before .before .args .file) in
     let size = c .before .before .length-in .ensures .0 in
     let fails = failed (c .before .size-kept .ensures) (c .if1 .taken) in
-    sym (rw (every-fails (sized file) sections (b .k) (omega arith) (rw (← size) fails)))
+    sym (rw (every-fails (sized file) sections (b .section) (omega arith) (rw (← size) fails)))
 
-add-k : tie.Need-add-k Inv-loop μ-loop
-add-k c = search needs
+add-section : tie.Need-add-section Inv-loop μ-loop
+add-section c = search needs
 
 loop-less : tie.Need-loop-less Inv-loop μ-loop
 loop-less c = search needs
@@ -61,7 +61,7 @@ returns-2 : tie.Need-returns-2 Inv-loop μ-loop
 unfolding sizesKept
 returns-2 c =
     let b = c .before .loop in
-    let is : b .k ≡ sections = omega arith in
+    let is : b .section ≡ sections = omega arith in
     sym (rw (← is, b .inv .1))
 
 pub check-sizes-spec : {M : Type 1} → statement M
@@ -74,7 +74,7 @@ check-sizes-spec =
     length-in-requires
     size-kept-requires
     returns
-    add-k
+    add-section
     loop-less
     loop-again
     returns-2)

@@ -28,7 +28,7 @@ part-result-end : tie.Need-part-result-end
 part-result-end c =
     let a = c .before .before .before .args in
     let pre = c .before .before .before .pre in
-    omega (arith, section-end (now (a .file)) (pre .0 .offsets) (a .k) (pre .1))
+    omega (arith, section-end (now (a .file)) (pre .0 .offsets) (a .section) (pre .1))
 
 returns : tie.Need-returns
 unfolding sectionIn part
