@@ -12,11 +12,11 @@ ghost use Rattle.plan.specs.Refusals.{unless};
 ghost use Rattle.plan.specs.declared.Finding.the-variants.{Offsets, Sizes};
 ghost use Rattle.directory.specs.Directory.{directoryFinding, Directory};
 ghost use Rattle.directory.specs.Pointers.{further};
-use entryrules::HEADER_LENGTH;
-use entryrules::SECTIONS;
 use entryrules::count_kept;
 use entryrules::entry_size;
 use plan::Finding;
+use plan::HEADER_LENGTH;
+use plan::SECTIONS;
 use words::read_u32;
 
 // Where a section starts, by the header: its pair's first word.

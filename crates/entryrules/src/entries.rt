@@ -5,24 +5,22 @@ ghost use Prim.Native.Nat.{_<_};
 ghost use lib.Dec.{eqb, ltb};
 ghost use Rattle.integers.specs.Parts.{∣_∣};
 ghost use Rattle.integers.specs.Range.{within};
-ghost use Rattle.plan.specs.Numbers.{M};
+ghost use Rattle.plan.specs.Numbers.{M, mostLinks, mostCommands};
 ghost use Rattle.plan.specs.Tests.{horizonKept, integratorTest, kindKept, linkTest, commandTest, ascends, follows};
-use machine::State;
 use plan::COMMANDS;
+use plan::LARGEST_COEFFICIENT;
+use plan::LARGEST_HORIZON;
 use plan::LINKS;
-
-const LARGEST_HORIZON: u32 = 2000000000;
-
-const LARGEST_COEFFICIENT: i64 = 16777216;
+use plan::M;
 
 // A value within ±M.
 pub fn value_kept(value: i64) -> bool
     ensures { λ r. ⌜ r ≡ within M value ⌝ }
 {
-    if value < -State::M {
+    if value < -M {
         return false;
     }
-    value <= State::M
+    value <= M
 }
 
 // "horizon (a tick, 1 to 2,000,000,000)"
@@ -45,7 +43,7 @@ pub fn integrator_kept(start: i64, quantum: i64) -> bool
     if quantum < 1 {
         return false;
     }
-    quantum <= State::M
+    quantum <= M
 }
 
 // What kinds 0 and 1 ask besides a rule for A: B names a source below the node's own, "with lo and hi 0".
@@ -150,7 +148,7 @@ pub fn link_ordered<'a>(
     targets: &'a [usize; LINKS],
     sources: &'a [usize; LINKS],
 ) -> bool
-    requires { ⌜ link < 256 ⌝ }
+    requires { ⌜ link < mostLinks ⌝ }
     ensures { λ r. ⌜ r ≡ follows (now (targets .entry)) (now (sources .entry)) link ⌝ }
 {
     if link == 0 {
@@ -170,7 +168,7 @@ pub fn command_ordered<'a>(
     ticks: &'a [u32; COMMANDS],
     inputs: &'a [usize; COMMANDS],
 ) -> bool
-    requires { ⌜ command < 64 ⌝ }
+    requires { ⌜ command < mostCommands ⌝ }
     ensures { λ r. ⌜ r ≡ follows (now (ticks .entry)) (now (inputs .entry)) command ⌝ }
 {
     if command == 0 {

@@ -4,17 +4,35 @@ ghost use Prim.Native.Nat.{_<_};
 ghost use Rattle.plan.specs.Numbers.{sections, entrySizes, leastCounts, largestCounts};
 ghost use Rattle.plan.specs.Lists.{natAt, every};
 ghost use Rattle.plan.specs.Tests.{countKept};
+use plan::COMMAND_SIZE;
+use plan::COMMANDS;
+use plan::INPUT_SIZE;
+use plan::INPUTS;
+use plan::INTEGRATOR_SIZE;
+use plan::INTEGRATORS;
+use plan::LINK_SIZE;
+use plan::LINKS;
+use plan::NODE_SIZE;
+use plan::NODES;
+use plan::SECTIONS;
 
-pub const SECTIONS: usize = 5;
+const ENTRY_SIZES: [u64; SECTIONS] = [
+    INTEGRATOR_SIZE as u64,
+    INPUT_SIZE as u64,
+    NODE_SIZE as u64,
+    LINK_SIZE as u64,
+    COMMAND_SIZE as u64,
+];
 
-// "Header, 44 bytes"
-pub const HEADER_LENGTH: usize = 44;
+const LEAST_COUNTS: [u64; SECTIONS] = [1, 0, 0, 0, 0];
 
-const ENTRY_SIZES: [u64; 5] = [8, 4, 20, 12, 12];
-
-const LEAST_COUNTS: [u64; 5] = [1, 0, 0, 0, 0];
-
-const LARGEST_COUNTS: [u64; 5] = [32, 8, 16, 256, 64];
+const LARGEST_COUNTS: [u64; SECTIONS] = [
+    INTEGRATORS as u64,
+    INPUTS as u64,
+    NODES as u64,
+    LINKS as u64,
+    COMMANDS as u64,
+];
 
 // The bytes of an entry of a section. None is 0, so a length can be divided by it.
 pub fn entry_size(section: usize) -> u64
@@ -52,7 +70,7 @@ pub fn count_kept(section: usize, count: u64) -> bool
 }
 
 // Whether the counts of a plan, in the order of the sections, are inside their limits. They may be any numbers.
-pub fn counts_kept(counts: &[usize; 5]) -> bool
+pub fn counts_kept(counts: &[usize; SECTIONS]) -> bool
     ensures { λ r. ⌜ r ≡ every (λ k. countKept k (natAt (now (counts .entry)) k)) sections ⌝ }
 {
     let mut section = 0;

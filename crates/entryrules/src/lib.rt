@@ -11,8 +11,6 @@ pub use entries::link_limits;
 pub use entries::link_ordered;
 pub use entries::node_kept;
 pub use entries::value_kept;
-pub use layout::HEADER_LENGTH;
-pub use layout::SECTIONS;
 pub use layout::count_kept;
 pub use layout::counts_kept;
 pub use layout::entry_size;

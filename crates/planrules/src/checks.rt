@@ -3,6 +3,7 @@
 ghost use mathlib.Core.Path.{_≡_};
 ghost use mathlib.Core.Bool.{_&&_};
 ghost use Prim.Native.Nat.{_+_, _≤_};
+ghost use Rattle.plan.specs.Numbers.{mostIntegrators, mostInputs, mostNodes, mostLinks, mostCommands};
 ghost use Rattle.plan.specs.Tests.{horizonKept, countsKept};
 ghost use Rattle.plan.specs.Rules.{CountsRule};
 ghost use Rattle.plan.specs.Refusals.{isClean, unless, orElse, planFinding};
@@ -42,7 +43,7 @@ fn check_integrators<'a>(
     starts: &'a [i64; INTEGRATORS],
     quanta: &'a [i64; INTEGRATORS],
 ) -> Finding
-    requires { ⌜ n ≤ 32 ⌝ }
+    requires { ⌜ n ≤ mostIntegrators ⌝ }
     ensures { λ r. ⌜ r ≡ integratorsCheck n (now (starts .entry)) (now (quanta .entry)) ⌝ }
 {
     let mut i = 0;
@@ -57,7 +58,7 @@ fn check_integrators<'a>(
 
 // Refusal 6, the inputs.
 fn check_inputs(m: usize, firsts: &[i64; INPUTS]) -> Finding
-    requires { ⌜ m ≤ 8 ⌝ }
+    requires { ⌜ m ≤ mostInputs ⌝ }
     ensures { λ r. ⌜ r ≡ inputsCheck m (now (firsts .entry)) ⌝ }
 {
     let mut j = 0;
@@ -80,7 +81,7 @@ fn check_nodes<'a>(
     lows: &'a [i64; NODES],
     highs: &'a [i64; NODES],
 ) -> Finding
-    requires { ⌜ (base ≤ 40) × (k ≤ 16) ⌝ }
+    requires { ⌜ (base ≤ mostIntegrators + mostInputs) × (k ≤ mostNodes) ⌝ }
     ensures { λ r. ⌜ r ≡ nodesCheck base k (now (kinds .entry)) (now (a .entry)) (now (b .entry)) (now (lows .entry)) (now (highs .entry)) ⌝ }
 {
     let mut j = 0;
@@ -102,7 +103,7 @@ fn check_links<'a>(
     sources: &'a [usize; LINKS],
     coefficients: &'a [i64; LINKS],
 ) -> Finding
-    requires { ⌜ links ≤ 256 ⌝ }
+    requires { ⌜ links ≤ mostLinks ⌝ }
     ensures { λ r. ⌜ r ≡ linksCheck n all links (now (targets .entry)) (now (sources .entry)) (now (coefficients .entry)) ⌝ }
 {
     let mut e = 0;
@@ -133,7 +134,7 @@ fn check_nodes_and_links<'a>(
     sources: &'a [usize; LINKS],
     coefficients: &'a [i64; LINKS],
 ) -> Finding
-    requires { ⌜ (n + m ≤ 40) × (k ≤ 16) × (links ≤ 256) ⌝ }
+    requires { ⌜ (n + m ≤ mostIntegrators + mostInputs) × (k ≤ mostNodes) × (links ≤ mostLinks) ⌝ }
     ensures { λ r. ⌜ r ≡ orElse (nodesCheck (n + m) k (now (kinds .entry)) (now (a .entry)) (now (b .entry)) (now (lows .entry)) (now (highs .entry)))
         (linksCheck n (n + m + k) links (now (targets .entry)) (now (sources .entry)) (now (coefficients .entry))) ⌝ }
 {
@@ -155,7 +156,7 @@ fn check_commands<'a>(
     inputs: &'a [usize; COMMANDS],
     values: &'a [i64; COMMANDS],
 ) -> Finding
-    requires { ⌜ commands ≤ 64 ⌝ }
+    requires { ⌜ commands ≤ mostCommands ⌝ }
     ensures { λ r. ⌜ r ≡ commandsCheck horizon m commands (now (ticks .entry)) (now (inputs .entry)) (now (values .entry)) ⌝ }
 {
     let mut e = 0;

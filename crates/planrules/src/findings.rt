@@ -1,23 +1,33 @@
 // Document 01's number and entry of a finding.
 ghost use mathlib.Core.Path.{_≡_};
 ghost use Rattle.plan.specs.Refusals.{numberOf, entryOf};
+use plan::ACCEPTED;
 use plan::Finding;
+use plan::REFUSED_COMMAND;
+use plan::REFUSED_HORIZON;
+use plan::REFUSED_INPUT;
+use plan::REFUSED_INTEGRATOR;
+use plan::REFUSED_LINK;
+use plan::REFUSED_NODE;
+use plan::REFUSED_OFFSETS;
+use plan::REFUSED_SHORT;
+use plan::REFUSED_SIZES;
 
-// Document 01's number of a finding, 0 for none.
+// Document 01's number of a finding.
 pub fn number_of(finding: Finding) -> usize
     ensures { λ r. ⌜ r ≡ numberOf finding ⌝ }
 {
     match finding {
-        Finding::Clean => 0,
-        Finding::Short => 1,
-        Finding::Offsets => 2,
-        Finding::Sizes => 3,
-        Finding::Horizon => 4,
-        Finding::Integrator(_) => 5,
-        Finding::Input(_) => 6,
-        Finding::Node(_) => 7,
-        Finding::Link(_) => 8,
-        Finding::Command(_) => 9,
+        Finding::Clean => ACCEPTED,
+        Finding::Short => REFUSED_SHORT,
+        Finding::Offsets => REFUSED_OFFSETS,
+        Finding::Sizes => REFUSED_SIZES,
+        Finding::Horizon => REFUSED_HORIZON,
+        Finding::Integrator(_) => REFUSED_INTEGRATOR,
+        Finding::Input(_) => REFUSED_INPUT,
+        Finding::Node(_) => REFUSED_NODE,
+        Finding::Link(_) => REFUSED_LINK,
+        Finding::Command(_) => REFUSED_COMMAND,
     }
 }
 

@@ -10,10 +10,10 @@ ghost use Rattle.plan.specs.Rules.{PlanRules};
 ghost use Rattle.plan.specs.Encoding.{lengthFrom, offsetFrom, pairEntry};
 ghost use Rattle.planwriter.specs.Header.{Limited};
 ghost use Rattle.planwriter.specs.Plans.{writtenLength, writtenBuffer};
-use entryrules::HEADER_LENGTH;
-use entryrules::SECTIONS;
 use entryrules::entry_size;
+use plan::HEADER_LENGTH;
 use plan::Plan;
+use plan::SECTIONS;
 use sectionwriters::write_commands;
 use sectionwriters::write_inputs;
 use sectionwriters::write_integrators;
@@ -31,7 +31,7 @@ fn write_pair(buf: &mut [u8], offset: usize, size: usize)
 }
 
 // The bytes of section k, by the counts of the five sections.
-fn section_length(counts: &[usize; 5], k: usize) -> usize
+fn section_length(counts: &[usize; SECTIONS], k: usize) -> usize
     requires { ⌜ (k < sections) × Limited (now counts) ⌝ }
     ensures { λ r. ⌜ r ≡ lengthFrom (now (counts .entry)) k ⌝ }
 {
@@ -39,7 +39,7 @@ fn section_length(counts: &[usize; 5], k: usize) -> usize
 }
 
 // Where section k starts; of the number behind the last section, the length of the file.
-fn section_offset(counts: &[usize; 5], k: usize) -> usize
+fn section_offset(counts: &[usize; SECTIONS], k: usize) -> usize
     requires { ⌜ (k ≤ sections) × Limited (now counts) ⌝ }
     ensures { λ r. ⌜ r ≡ offsetFrom (now (counts .entry)) k ⌝ }
 {
@@ -53,7 +53,7 @@ fn section_offset(counts: &[usize; 5], k: usize) -> usize
 }
 
 // The header's pairs, one for each section.
-fn write_pairs(buf: &mut [u8], counts: &[usize; 5])
+fn write_pairs(buf: &mut [u8], counts: &[usize; SECTIONS])
     requires { ⌜ (8 * sections ≤ length (now buf)) × Limited (now counts) ⌝ }
     ensures { λ _. ⌜ now (buf .exit) ≡ written (joined (pairEntry (now (counts .entry))) sections) (now (buf .entry)) ⌝ }
 {
@@ -67,7 +67,7 @@ fn write_pairs(buf: &mut [u8], counts: &[usize; 5])
 }
 
 // The header: the horizon, then the pairs.
-fn write_header(buf: &mut [u8], horizon: u32, counts: &[usize; 5])
+fn write_header(buf: &mut [u8], horizon: u32, counts: &[usize; SECTIONS])
     requires { ⌜ (headerLength ≤ length (now buf)) × Limited (now counts) ⌝ }
     ensures { λ _. ⌜ now (buf .exit) ≡ written (horizon ∷ joined (pairEntry (now (counts .entry))) sections) (now (buf .entry)) ⌝ }
 {
