@@ -4,11 +4,18 @@ ghost use mathlib.Core.Path.{_≡_};
 ghost use Prim.Native.Nat.{_*_, _≤_};
 ghost use lib.IntN.{pos};
 ghost use lib.ListN.{length, replicate};
+ghost use Rattle.plan.specs.Numbers.{mostIntegrators, mostInputs, mostNodes, mostLinks, mostCommands};
+ghost use Rattle.plan.specs.Numbers.{integratorSize, inputSize, nodeSize, linkSize, commandSize};
 ghost use Rattle.planfile.specs.Columns.{wordsOf, signedsOf, unsignedsOf};
+use plan::COMMAND_SIZE;
 use plan::COMMANDS;
+use plan::INPUT_SIZE;
 use plan::INPUTS;
+use plan::INTEGRATOR_SIZE;
 use plan::INTEGRATORS;
+use plan::LINK_SIZE;
 use plan::LINKS;
+use plan::NODE_SIZE;
 use plan::NODES;
 use words::read_i32;
 use words::read_u32;
@@ -20,27 +27,27 @@ pub fn read_integrators(
     starts: &mut [i64; INTEGRATORS],
     quanta: &mut [i64; INTEGRATORS],
 )
-    requires { ⌜ (n ≤ 32) × (8 * n ≤ length (now part)) ⌝ }
-    requires { ⌜ (now starts ≡ replicate 32 (pos 0)) × (now quanta ≡ replicate 32 (pos 0)) ⌝ }
-    ensures { λ _. ⌜ now (starts .exit) ≡ signedsOf 32 8 n (now (part .entry)) 0 ⌝ }
-    ensures { λ _. ⌜ now (quanta .exit) ≡ unsignedsOf 32 8 n (now (part .entry)) 1 ⌝ }
+    requires { ⌜ (n ≤ mostIntegrators) × (integratorSize * n ≤ length (now part)) ⌝ }
+    requires { ⌜ (now starts ≡ replicate mostIntegrators (pos 0)) × (now quanta ≡ replicate mostIntegrators (pos 0)) ⌝ }
+    ensures { λ _. ⌜ now (starts .exit) ≡ signedsOf mostIntegrators integratorSize n (now (part .entry)) 0 ⌝ }
+    ensures { λ _. ⌜ now (quanta .exit) ≡ unsignedsOf mostIntegrators integratorSize n (now (part .entry)) 1 ⌝ }
 {
     let mut i = 0;
     while i < n {
-        starts[i] = read_i32(part, 8 * i);
-        quanta[i] = read_u32(part, 8 * i + 4) as i64;
+        starts[i] = read_i32(part, INTEGRATOR_SIZE * i);
+        quanta[i] = read_u32(part, INTEGRATOR_SIZE * i + 4) as i64;
         i += 1;
     }
 }
 
 // "4 bytes: signed first value"
 pub fn read_inputs(part: &[u8], m: usize, firsts: &mut [i64; INPUTS])
-    requires { ⌜ (m ≤ 8) × (4 * m ≤ length (now part)) × (now firsts ≡ replicate 8 (pos 0)) ⌝ }
-    ensures { λ _. ⌜ now (firsts .exit) ≡ signedsOf 8 4 m (now (part .entry)) 0 ⌝ }
+    requires { ⌜ (m ≤ mostInputs) × (inputSize * m ≤ length (now part)) × (now firsts ≡ replicate mostInputs (pos 0)) ⌝ }
+    ensures { λ _. ⌜ now (firsts .exit) ≡ signedsOf mostInputs inputSize m (now (part .entry)) 0 ⌝ }
 {
     let mut j = 0;
     while j < m {
-        firsts[j] = read_i32(part, 4 * j);
+        firsts[j] = read_i32(part, INPUT_SIZE * j);
         j += 1;
     }
 }
@@ -55,22 +62,22 @@ pub fn read_nodes(
     lows: &mut [i64; NODES],
     highs: &mut [i64; NODES],
 )
-    requires { ⌜ (k ≤ 16) × (20 * k ≤ length (now part)) ⌝ }
-    requires { ⌜ (now kinds ≡ replicate 16 0) × (now a ≡ replicate 16 0) × (now b ≡ replicate 16 0) ⌝ }
-    requires { ⌜ (now lows ≡ replicate 16 (pos 0)) × (now highs ≡ replicate 16 (pos 0)) ⌝ }
-    ensures { λ _. ⌜ now (kinds .exit) ≡ wordsOf 16 20 k (now (part .entry)) 0 ⌝ }
-    ensures { λ _. ⌜ now (a .exit) ≡ wordsOf 16 20 k (now (part .entry)) 1 ⌝ }
-    ensures { λ _. ⌜ now (b .exit) ≡ wordsOf 16 20 k (now (part .entry)) 2 ⌝ }
-    ensures { λ _. ⌜ now (lows .exit) ≡ signedsOf 16 20 k (now (part .entry)) 3 ⌝ }
-    ensures { λ _. ⌜ now (highs .exit) ≡ signedsOf 16 20 k (now (part .entry)) 4 ⌝ }
+    requires { ⌜ (k ≤ mostNodes) × (nodeSize * k ≤ length (now part)) ⌝ }
+    requires { ⌜ (now kinds ≡ replicate mostNodes 0) × (now a ≡ replicate mostNodes 0) × (now b ≡ replicate mostNodes 0) ⌝ }
+    requires { ⌜ (now lows ≡ replicate mostNodes (pos 0)) × (now highs ≡ replicate mostNodes (pos 0)) ⌝ }
+    ensures { λ _. ⌜ now (kinds .exit) ≡ wordsOf mostNodes nodeSize k (now (part .entry)) 0 ⌝ }
+    ensures { λ _. ⌜ now (a .exit) ≡ wordsOf mostNodes nodeSize k (now (part .entry)) 1 ⌝ }
+    ensures { λ _. ⌜ now (b .exit) ≡ wordsOf mostNodes nodeSize k (now (part .entry)) 2 ⌝ }
+    ensures { λ _. ⌜ now (lows .exit) ≡ signedsOf mostNodes nodeSize k (now (part .entry)) 3 ⌝ }
+    ensures { λ _. ⌜ now (highs .exit) ≡ signedsOf mostNodes nodeSize k (now (part .entry)) 4 ⌝ }
 {
     let mut j = 0;
     while j < k {
-        kinds[j] = read_u32(part, 20 * j) as usize;
-        a[j] = read_u32(part, 20 * j + 4) as usize;
-        b[j] = read_u32(part, 20 * j + 8) as usize;
-        lows[j] = read_i32(part, 20 * j + 12);
-        highs[j] = read_i32(part, 20 * j + 16);
+        kinds[j] = read_u32(part, NODE_SIZE * j) as usize;
+        a[j] = read_u32(part, NODE_SIZE * j + 4) as usize;
+        b[j] = read_u32(part, NODE_SIZE * j + 8) as usize;
+        lows[j] = read_i32(part, NODE_SIZE * j + 12);
+        highs[j] = read_i32(part, NODE_SIZE * j + 16);
         j += 1;
     }
 }
@@ -83,17 +90,17 @@ pub fn read_links(
     sources: &mut [usize; LINKS],
     coefficients: &mut [i64; LINKS],
 )
-    requires { ⌜ (links ≤ 256) × (12 * links ≤ length (now part)) ⌝ }
-    requires { ⌜ (now targets ≡ replicate 256 0) × (now sources ≡ replicate 256 0) × (now coefficients ≡ replicate 256 (pos 0)) ⌝ }
-    ensures { λ _. ⌜ now (targets .exit) ≡ wordsOf 256 12 links (now (part .entry)) 0 ⌝ }
-    ensures { λ _. ⌜ now (sources .exit) ≡ wordsOf 256 12 links (now (part .entry)) 1 ⌝ }
-    ensures { λ _. ⌜ now (coefficients .exit) ≡ signedsOf 256 12 links (now (part .entry)) 2 ⌝ }
+    requires { ⌜ (links ≤ mostLinks) × (linkSize * links ≤ length (now part)) ⌝ }
+    requires { ⌜ (now targets ≡ replicate mostLinks 0) × (now sources ≡ replicate mostLinks 0) × (now coefficients ≡ replicate mostLinks (pos 0)) ⌝ }
+    ensures { λ _. ⌜ now (targets .exit) ≡ wordsOf mostLinks linkSize links (now (part .entry)) 0 ⌝ }
+    ensures { λ _. ⌜ now (sources .exit) ≡ wordsOf mostLinks linkSize links (now (part .entry)) 1 ⌝ }
+    ensures { λ _. ⌜ now (coefficients .exit) ≡ signedsOf mostLinks linkSize links (now (part .entry)) 2 ⌝ }
 {
     let mut e = 0;
     while e < links {
-        targets[e] = read_u32(part, 12 * e) as usize;
-        sources[e] = read_u32(part, 12 * e + 4) as usize;
-        coefficients[e] = read_i32(part, 12 * e + 8);
+        targets[e] = read_u32(part, LINK_SIZE * e) as usize;
+        sources[e] = read_u32(part, LINK_SIZE * e + 4) as usize;
+        coefficients[e] = read_i32(part, LINK_SIZE * e + 8);
         e += 1;
     }
 }
@@ -106,17 +113,17 @@ pub fn read_commands(
     inputs: &mut [usize; COMMANDS],
     values: &mut [i64; COMMANDS],
 )
-    requires { ⌜ (commands ≤ 64) × (12 * commands ≤ length (now part)) ⌝ }
-    requires { ⌜ (now ticks ≡ replicate 64 0) × (now inputs ≡ replicate 64 0) × (now values ≡ replicate 64 (pos 0)) ⌝ }
-    ensures { λ _. ⌜ now (ticks .exit) ≡ wordsOf 64 12 commands (now (part .entry)) 0 ⌝ }
-    ensures { λ _. ⌜ now (inputs .exit) ≡ wordsOf 64 12 commands (now (part .entry)) 1 ⌝ }
-    ensures { λ _. ⌜ now (values .exit) ≡ signedsOf 64 12 commands (now (part .entry)) 2 ⌝ }
+    requires { ⌜ (commands ≤ mostCommands) × (commandSize * commands ≤ length (now part)) ⌝ }
+    requires { ⌜ (now ticks ≡ replicate mostCommands 0) × (now inputs ≡ replicate mostCommands 0) × (now values ≡ replicate mostCommands (pos 0)) ⌝ }
+    ensures { λ _. ⌜ now (ticks .exit) ≡ wordsOf mostCommands commandSize commands (now (part .entry)) 0 ⌝ }
+    ensures { λ _. ⌜ now (inputs .exit) ≡ wordsOf mostCommands commandSize commands (now (part .entry)) 1 ⌝ }
+    ensures { λ _. ⌜ now (values .exit) ≡ signedsOf mostCommands commandSize commands (now (part .entry)) 2 ⌝ }
 {
     let mut e = 0;
     while e < commands {
-        ticks[e] = read_u32(part, 12 * e) as u32;
-        inputs[e] = read_u32(part, 12 * e + 4) as usize;
-        values[e] = read_i32(part, 12 * e + 8);
+        ticks[e] = read_u32(part, COMMAND_SIZE * e) as u32;
+        inputs[e] = read_u32(part, COMMAND_SIZE * e + 4) as usize;
+        values[e] = read_i32(part, COMMAND_SIZE * e + 8);
         e += 1;
     }
 }
