@@ -23,7 +23,7 @@ use plan::Nodes;
 use plan::Plan;
 use words::read_u32;
 
-// Each section is handed to its reader as a part of the file.
+// Each section is handed to its reader as a part of the file, with arrays of zeros to fill.
 pub fn decode(file: &[u8]) -> Plan
     requires { ⌜ Directory (now file) ⌝ }
     ensures { λ r. ⌜ r ≡ planIn (now (file .entry)) ⌝ }

@@ -1,5 +1,5 @@
-// The section readers. Each is handed its section, a part of the file that starts inside it, and fills the columns of its entries; the arrays
-// come in all 0, so the unused entries stay 0.
+// The section readers. Each is handed its section, as a part of the file, with the count of its entries, and fills the columns of the entries; the
+// arrays come in all 0, so the unused entries stay 0.
 ghost use mathlib.Core.Path.{_≡_};
 ghost use Prim.Native.Nat.{_*_, _≤_};
 ghost use lib.IntN.{pos};
@@ -27,10 +27,10 @@ pub fn read_integrators(
     starts: &mut [i64; INTEGRATORS],
     quanta: &mut [i64; INTEGRATORS],
 )
-    requires { ⌜ (n ≤ mostIntegrators) × (integratorSize * n ≤ length (now part)) ⌝ }
-    requires { ⌜ (now starts ≡ replicate mostIntegrators (pos 0)) × (now quanta ≡ replicate mostIntegrators (pos 0)) ⌝ }
-    ensures { λ _. ⌜ now (starts .exit) ≡ signedsOf mostIntegrators integratorSize n (now (part .entry)) 0 ⌝ }
-    ensures { λ _. ⌜ now (quanta .exit) ≡ unsignedsOf mostIntegrators integratorSize n (now (part .entry)) 1 ⌝ }
+    requires counted { ⌜ (n ≤ mostIntegrators) × (integratorSize * n ≤ length (now part)) ⌝ }
+    requires zeroed { ⌜ (now starts ≡ replicate mostIntegrators (pos 0)) × (now quanta ≡ replicate mostIntegrators (pos 0)) ⌝ }
+    ensures starts { λ _. ⌜ now (starts .exit) ≡ signedsOf mostIntegrators integratorSize n (now (part .entry)) 0 ⌝ }
+    ensures quanta { λ _. ⌜ now (quanta .exit) ≡ unsignedsOf mostIntegrators integratorSize n (now (part .entry)) 1 ⌝ }
 {
     let mut i = 0;
     while i < n {
@@ -42,7 +42,8 @@ pub fn read_integrators(
 
 // "4 bytes: signed first value"
 pub fn read_inputs(part: &[u8], m: usize, firsts: &mut [i64; INPUTS])
-    requires { ⌜ (m ≤ mostInputs) × (inputSize * m ≤ length (now part)) × (now firsts ≡ replicate mostInputs (pos 0)) ⌝ }
+    requires counted { ⌜ (m ≤ mostInputs) × (inputSize * m ≤ length (now part)) ⌝ }
+    requires zeroed { ⌜ now firsts ≡ replicate mostInputs (pos 0) ⌝ }
     ensures { λ _. ⌜ now (firsts .exit) ≡ signedsOf mostInputs inputSize m (now (part .entry)) 0 ⌝ }
 {
     let mut j = 0;
@@ -62,14 +63,14 @@ pub fn read_nodes(
     lows: &mut [i64; NODES],
     highs: &mut [i64; NODES],
 )
-    requires { ⌜ (k ≤ mostNodes) × (nodeSize * k ≤ length (now part)) ⌝ }
-    requires { ⌜ (now kinds ≡ replicate mostNodes 0) × (now a ≡ replicate mostNodes 0) × (now b ≡ replicate mostNodes 0) ⌝ }
-    requires { ⌜ (now lows ≡ replicate mostNodes (pos 0)) × (now highs ≡ replicate mostNodes (pos 0)) ⌝ }
-    ensures { λ _. ⌜ now (kinds .exit) ≡ wordsOf mostNodes nodeSize k (now (part .entry)) 0 ⌝ }
-    ensures { λ _. ⌜ now (a .exit) ≡ wordsOf mostNodes nodeSize k (now (part .entry)) 1 ⌝ }
-    ensures { λ _. ⌜ now (b .exit) ≡ wordsOf mostNodes nodeSize k (now (part .entry)) 2 ⌝ }
-    ensures { λ _. ⌜ now (lows .exit) ≡ signedsOf mostNodes nodeSize k (now (part .entry)) 3 ⌝ }
-    ensures { λ _. ⌜ now (highs .exit) ≡ signedsOf mostNodes nodeSize k (now (part .entry)) 4 ⌝ }
+    requires counted { ⌜ (k ≤ mostNodes) × (nodeSize * k ≤ length (now part)) ⌝ }
+    requires zeroed { ⌜ (now kinds ≡ replicate mostNodes 0) × (now a ≡ replicate mostNodes 0) × (now b ≡ replicate mostNodes 0)
+        × (now lows ≡ replicate mostNodes (pos 0)) × (now highs ≡ replicate mostNodes (pos 0)) ⌝ }
+    ensures kinds { λ _. ⌜ now (kinds .exit) ≡ wordsOf mostNodes nodeSize k (now (part .entry)) 0 ⌝ }
+    ensures a { λ _. ⌜ now (a .exit) ≡ wordsOf mostNodes nodeSize k (now (part .entry)) 1 ⌝ }
+    ensures b { λ _. ⌜ now (b .exit) ≡ wordsOf mostNodes nodeSize k (now (part .entry)) 2 ⌝ }
+    ensures lows { λ _. ⌜ now (lows .exit) ≡ signedsOf mostNodes nodeSize k (now (part .entry)) 3 ⌝ }
+    ensures highs { λ _. ⌜ now (highs .exit) ≡ signedsOf mostNodes nodeSize k (now (part .entry)) 4 ⌝ }
 {
     let mut j = 0;
     while j < k {
@@ -90,11 +91,11 @@ pub fn read_links(
     sources: &mut [usize; LINKS],
     coefficients: &mut [i64; LINKS],
 )
-    requires { ⌜ (links ≤ mostLinks) × (linkSize * links ≤ length (now part)) ⌝ }
-    requires { ⌜ (now targets ≡ replicate mostLinks 0) × (now sources ≡ replicate mostLinks 0) × (now coefficients ≡ replicate mostLinks (pos 0)) ⌝ }
-    ensures { λ _. ⌜ now (targets .exit) ≡ wordsOf mostLinks linkSize links (now (part .entry)) 0 ⌝ }
-    ensures { λ _. ⌜ now (sources .exit) ≡ wordsOf mostLinks linkSize links (now (part .entry)) 1 ⌝ }
-    ensures { λ _. ⌜ now (coefficients .exit) ≡ signedsOf mostLinks linkSize links (now (part .entry)) 2 ⌝ }
+    requires counted { ⌜ (links ≤ mostLinks) × (linkSize * links ≤ length (now part)) ⌝ }
+    requires zeroed { ⌜ (now targets ≡ replicate mostLinks 0) × (now sources ≡ replicate mostLinks 0) × (now coefficients ≡ replicate mostLinks (pos 0)) ⌝ }
+    ensures targets { λ _. ⌜ now (targets .exit) ≡ wordsOf mostLinks linkSize links (now (part .entry)) 0 ⌝ }
+    ensures sources { λ _. ⌜ now (sources .exit) ≡ wordsOf mostLinks linkSize links (now (part .entry)) 1 ⌝ }
+    ensures coefficients { λ _. ⌜ now (coefficients .exit) ≡ signedsOf mostLinks linkSize links (now (part .entry)) 2 ⌝ }
 {
     let mut e = 0;
     while e < links {
@@ -113,11 +114,11 @@ pub fn read_commands(
     inputs: &mut [usize; COMMANDS],
     values: &mut [i64; COMMANDS],
 )
-    requires { ⌜ (commands ≤ mostCommands) × (commandSize * commands ≤ length (now part)) ⌝ }
-    requires { ⌜ (now ticks ≡ replicate mostCommands 0) × (now inputs ≡ replicate mostCommands 0) × (now values ≡ replicate mostCommands (pos 0)) ⌝ }
-    ensures { λ _. ⌜ now (ticks .exit) ≡ wordsOf mostCommands commandSize commands (now (part .entry)) 0 ⌝ }
-    ensures { λ _. ⌜ now (inputs .exit) ≡ wordsOf mostCommands commandSize commands (now (part .entry)) 1 ⌝ }
-    ensures { λ _. ⌜ now (values .exit) ≡ signedsOf mostCommands commandSize commands (now (part .entry)) 2 ⌝ }
+    requires counted { ⌜ (commands ≤ mostCommands) × (commandSize * commands ≤ length (now part)) ⌝ }
+    requires zeroed { ⌜ (now ticks ≡ replicate mostCommands 0) × (now inputs ≡ replicate mostCommands 0) × (now values ≡ replicate mostCommands (pos 0)) ⌝ }
+    ensures ticks { λ _. ⌜ now (ticks .exit) ≡ wordsOf mostCommands commandSize commands (now (part .entry)) 0 ⌝ }
+    ensures inputs { λ _. ⌜ now (inputs .exit) ≡ wordsOf mostCommands commandSize commands (now (part .entry)) 1 ⌝ }
+    ensures values { λ _. ⌜ now (values .exit) ≡ signedsOf mostCommands commandSize commands (now (part .entry)) 2 ⌝ }
 {
     let mut e = 0;
     while e < commands {

@@ -13,6 +13,7 @@ pub struct FilePlan {
     pub plan: Plan,
 }
 
+// A refused file: its finding, and the idle plan.
 fn refused(finding: Finding) -> FilePlan
     ensures { λ r. ⌜ r ≡ refusedWith finding ⌝ }
 {

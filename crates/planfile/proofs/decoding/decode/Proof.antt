@@ -61,8 +61,7 @@ read-inputs-requires c κs =
     let all = counted (c .before .before) in
     let count = all .before .before .before .count-in2 .ensures in
     let part = c .before .section-in2 .ensures .0 in
-    let room = section-room _ 1 count part (start all .pre) (omega arith) in
-    (room .0, room .1, refl)
+    (section-room _ 1 count part (start all .pre) (omega arith), refl)
 
 section-in-requires-3 : tie.Need-section-in-requires-3
 section-in-requires-3 c κs = (start (counted (behind-0 c)) .pre, omega arith)
@@ -72,7 +71,7 @@ read-nodes-requires c κs =
     let all = counted (behind-0 (c .before .before .before .before .before .before)) in
     let count = all .before .before .count-in3 .ensures in
     let part = c .before .before .before .before .before .section-in3 .ensures .0 in
-    (section-room _ 2 count part (start all .pre) (omega arith), ((refl, refl, refl), (refl, refl)))
+    (section-room _ 2 count part (start all .pre) (omega arith), (refl, refl, refl, refl, refl))
 
 section-in-requires-4 : tie.Need-section-in-requires-4
 section-in-requires-4 c κs = (start (counted (behind-0 (behind-1 c))) .pre, omega arith)
