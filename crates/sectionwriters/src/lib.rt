@@ -1,4 +1,5 @@
-// The section writers: each writes the entries of its section, one behind the other, at the start of the part of the buffer that it is lent.
+// The section writers: each writes the entries of its section, one behind the other, at the start of the part of the buffer that it is lent. They ask
+// for room and that each number fits its word of 32 bits.
 ghost use mathlib.Core.Path.{_≡_};
 ghost use mathlib.Core.List.{[], _∷_};
 ghost use Prim.Native.Nat.{_*_, _<_, _≤_, _^_};
@@ -61,7 +62,8 @@ pub fn write_integrators<'a>(
     starts: &'a [i64; INTEGRATORS],
     quanta: &'a [i64; INTEGRATORS],
 )
-    requires { ⌜ (integratorSize * n ≤ length (now buf)) × (n ≤ mostIntegrators) × Signed32 n (now starts) × Signed32 n (now quanta) ⌝ }
+    requires counted { ⌜ (n ≤ mostIntegrators) × (integratorSize * n ≤ length (now buf)) ⌝ }
+    requires fitting { ⌜ Signed32 n (now starts) × Signed32 n (now quanta) ⌝ }
     ensures { λ _. ⌜ now (buf .exit) ≡ written (joined (integratorEntry (now (starts .entry)) (now (quanta .entry))) n) (now (buf .entry)) ⌝ }
 {
     let mut i = 0;
@@ -73,7 +75,8 @@ pub fn write_integrators<'a>(
 
 // The section of the inputs.
 pub fn write_inputs<'a>(buf: &mut [u8], m: usize, firsts: &'a [i64; INPUTS])
-    requires { ⌜ (inputSize * m ≤ length (now buf)) × (m ≤ mostInputs) × Signed32 m (now firsts) ⌝ }
+    requires counted { ⌜ (m ≤ mostInputs) × (inputSize * m ≤ length (now buf)) ⌝ }
+    requires fitting { ⌜ Signed32 m (now firsts) ⌝ }
     ensures { λ _. ⌜ now (buf .exit) ≡ written (joined (inputEntry (now (firsts .entry))) m) (now (buf .entry)) ⌝ }
 {
     let mut j = 0;
@@ -93,8 +96,8 @@ pub fn write_nodes<'a>(
     lows: &'a [i64; NODES],
     highs: &'a [i64; NODES],
 )
-    requires { ⌜ (nodeSize * k ≤ length (now buf)) × (k ≤ mostNodes) × Unsigned32 k (now kinds) × Unsigned32 k (now a) × Unsigned32 k (now b)
-        × Signed32 k (now lows) × Signed32 k (now highs) ⌝ }
+    requires counted { ⌜ (k ≤ mostNodes) × (nodeSize * k ≤ length (now buf)) ⌝ }
+    requires fitting { ⌜ Unsigned32 k (now kinds) × Unsigned32 k (now a) × Unsigned32 k (now b) × Signed32 k (now lows) × Signed32 k (now highs) ⌝ }
     ensures { λ _. ⌜ now (buf .exit) ≡ written (joined (nodeEntry (now (kinds .entry)) (now (a .entry)) (now (b .entry))
         (now (lows .entry)) (now (highs .entry))) k) (now (buf .entry)) ⌝ }
 {
@@ -120,8 +123,8 @@ pub fn write_links<'a>(
     sources: &'a [usize; LINKS],
     coefficients: &'a [i64; LINKS],
 )
-    requires { ⌜ (linkSize * links ≤ length (now buf)) × (links ≤ mostLinks) × Unsigned32 links (now targets) × Unsigned32 links (now sources)
-        × Signed32 links (now coefficients) ⌝ }
+    requires counted { ⌜ (links ≤ mostLinks) × (linkSize * links ≤ length (now buf)) ⌝ }
+    requires fitting { ⌜ Unsigned32 links (now targets) × Unsigned32 links (now sources) × Signed32 links (now coefficients) ⌝ }
     ensures { λ _. ⌜ now (buf .exit) ≡ written (joined (tripleEntry (now (targets .entry)) (now (sources .entry)) (now (coefficients .entry))) links)
         (now (buf .entry)) ⌝ }
 {
@@ -145,8 +148,8 @@ pub fn write_commands<'a>(
     inputs: &'a [usize; COMMANDS],
     values: &'a [i64; COMMANDS],
 )
-    requires { ⌜ (commandSize * commands ≤ length (now buf)) × (commands ≤ mostCommands) × Unsigned32 commands (now ticks) × Unsigned32 commands (now inputs)
-        × Signed32 commands (now values) ⌝ }
+    requires counted { ⌜ (commands ≤ mostCommands) × (commandSize * commands ≤ length (now buf)) ⌝ }
+    requires fitting { ⌜ Unsigned32 commands (now ticks) × Unsigned32 commands (now inputs) × Signed32 commands (now values) ⌝ }
     ensures { λ _. ⌜ now (buf .exit) ≡ written (joined (tripleEntry (now (ticks .entry)) (now (inputs .entry)) (now (values .entry))) commands)
         (now (buf .entry)) ⌝ }
 {

@@ -163,7 +163,7 @@ write-integrators-requires c κs =
     let p = start .args .t1 in
     let room = section-room (stage-header before) (omega arith) (offset .section-offset2 .ensures) in
     let f = fitting p (start .pre) in
-    (room, counts-of p (start .pre .counts) .n, f .starts, f .quanta)
+    ((counts-of p (start .pre .counts) .n, room), (f .starts, f .quanta))
 
 section-offset-requires-3 : tie.Need-section-offset-requires-3
 unfolding counts
@@ -188,7 +188,7 @@ write-inputs-requires c κs =
     let p = start .args .t1 in
     let room = section-room (stage-integrators before) (omega arith) (offset .section-offset3 .ensures) in
     let f = fitting p (start .pre) in
-    (room, counts-of p (start .pre .counts) .m, f .firsts)
+    ((counts-of p (start .pre .counts) .m, room), f .firsts)
 
 section-offset-requires-4 : tie.Need-section-offset-requires-4
 unfolding counts
@@ -213,7 +213,7 @@ write-nodes-requires c κs =
     let p = start .args .t1 in
     let room = section-room (stage-inputs before) (omega arith) (offset .section-offset4 .ensures) in
     let f = fitting p (start .pre) in
-    (room, counts-of p (start .pre .counts) .k, f .kinds, f .a, f .b, f .lows, f .highs)
+    ((counts-of p (start .pre .counts) .k, room), (f .kinds, f .a, f .b, f .lows, f .highs))
 
 section-offset-requires-5 : tie.Need-section-offset-requires-5
 unfolding counts
@@ -238,7 +238,7 @@ write-links-requires c κs =
     let p = start .args .t1 in
     let room = section-room (stage-nodes before) (omega arith) (offset .section-offset5 .ensures) in
     let f = fitting p (start .pre) in
-    (room, counts-of p (start .pre .counts) .links, f .targets, f .sources, f .coefficients)
+    ((counts-of p (start .pre .counts) .links, room), (f .targets, f .sources, f .coefficients))
 
 section-offset-requires-6 : tie.Need-section-offset-requires-6
 unfolding counts
@@ -263,7 +263,7 @@ write-commands-requires c κs =
     let p = start .args .t1 in
     let room = section-room (stage-links before) (omega arith) (offset .section-offset6 .ensures) in
     let f = fitting p (start .pre) in
-    (room, counts-of p (start .pre .counts) .commands, f .ticks, f .inputs, f .values)
+    ((counts-of p (start .pre .counts) .commands, room), (f .ticks, f .inputs, f .values))
 
 same-length : tie.Need-same-length
 same-length c = stage-commands (c .before .before) .begun .size

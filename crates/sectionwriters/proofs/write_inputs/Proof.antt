@@ -46,11 +46,11 @@ element-copy-out-write-input c = search needs
 write-input-requires : tie.Need-write-input-requires Inv-loop μ-loop
 write-input-requires c κs =
     let inside = c .before .before in
-    let p = inside .before .before .before .pre in
+    let p = inside .before .before .before .pre .1 in
     let j = inside .before .loop .j in
     let h = inside .loop-test .taken in
     let l = length-behind (inside .before .loop .buf) (4 * j) in
-    (omega arith, rd-small (p .2) j h)
+    (omega arith, rd-small p j h)
 
 add-j : tie.Need-add-j Inv-loop μ-loop
 add-j c = search needs
@@ -65,7 +65,7 @@ loop-again c =
     let start = inside .before .before .before in
     let b = inside .before .loop in
     let h = inside .loop-test .taken in
-    let e = rw (rd-at (start .pre .2) (b .j) h) at (done .write-input .ensures) in
+    let e = rw (rd-at (start .pre .1) (b .j) h) at (done .write-input .ensures) in
     let more = entry (entries start) 1 (λ _. refl) (now (start .args .buf)) (b .j) (4 * b .j) (b .inv .1) (omega arith) (omega arith) e in
     (omega arith, more)
 

@@ -52,11 +52,11 @@ element-copy-out-write-integrator-2 c = search needs
 write-integrator-requires : tie.Need-write-integrator-requires Inv-loop μ-loop
 write-integrator-requires c κs =
     let inside = c .before .before .before in
-    let p = inside .before .before .before .pre in
+    let p = inside .before .before .before .pre .1 in
     let i = inside .before .loop .i in
     let h = inside .loop-test .taken in
     let l = length-behind (inside .before .loop .buf) (8 * i) in
-    (omega arith, rd-small (p .2) i h, rd-small (p .3) i h)
+    (omega arith, rd-small (p .0) i h, rd-small (p .1) i h)
 
 add-i : tie.Need-add-i Inv-loop μ-loop
 add-i c = search needs
@@ -71,7 +71,7 @@ loop-again c =
     let start = inside .before .before .before in
     let b = inside .before .loop in
     let h = inside .loop-test .taken in
-    let e = rw (rd-at (start .pre .2) (b .i) h, rd-at (start .pre .3) (b .i) h) at (done .write-integrator .ensures) in
+    let e = rw (rd-at (start .pre .1 .0) (b .i) h, rd-at (start .pre .1 .1) (b .i) h) at (done .write-integrator .ensures) in
     let more = entry (entries start) 2 (λ _. refl) (now (start .args .buf)) (b .i) (8 * b .i) (b .inv .1) (omega arith) (omega arith) e in
     (omega arith, more)
 

@@ -58,11 +58,11 @@ element-copy-out-write-triple-3 c = search needs
 write-triple-requires : tie.Need-write-triple-requires Inv-loop μ-loop
 write-triple-requires c κs =
     let inside = c .before .before .before .before in
-    let p = inside .before .before .before .pre in
+    let p = inside .before .before .before .pre .1 in
     let e = inside .before .loop .e in
     let h = inside .loop-test .taken in
     let l = length-behind (inside .before .loop .buf) (12 * e) in
-    (omega arith, p .2 .small e h, p .3 .small e h, rd-small (p .4) e h)
+    (omega arith, p .0 .small e h, p .1 .small e h, rd-small (p .2) e h)
 
 add-e : tie.Need-add-e Inv-loop μ-loop
 add-e c = search needs
@@ -77,7 +77,7 @@ loop-again c =
     let start = inside .before .before .before in
     let b = inside .before .loop in
     let h = inside .loop-test .taken in
-    let e = rw (rd-at (start .pre .4) (b .e) h) at (done .write-triple .ensures) in
+    let e = rw (rd-at (start .pre .1 .2) (b .e) h) at (done .write-triple .ensures) in
     let more = entry (entries start) 3 (λ _. refl) (now (start .args .buf)) (b .e) (12 * b .e) (b .inv .1) (omega arith) (omega arith) e in
     (omega arith, more)
 

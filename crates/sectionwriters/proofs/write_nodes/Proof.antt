@@ -70,11 +70,11 @@ element-copy-out-write-node-5 c = search needs
 write-node-requires : tie.Need-write-node-requires Inv-loop μ-loop
 write-node-requires c κs =
     let inside = c .before .before .before .before .before .before in
-    let p = inside .before .before .before .pre in
+    let p = inside .before .before .before .pre .1 in
     let j = inside .before .loop .j in
     let h = inside .loop-test .taken in
     let l = length-behind (inside .before .loop .buf) (20 * j) in
-    (omega arith, p .2 .small j h, p .3 .small j h, p .4 .small j h, rd-small (p .5) j h, rd-small (p .6) j h)
+    (omega arith, p .0 .small j h, p .1 .small j h, p .2 .small j h, rd-small (p .3) j h, rd-small (p .4) j h)
 
 add-j : tie.Need-add-j Inv-loop μ-loop
 add-j c = search needs
@@ -89,7 +89,7 @@ loop-again c =
     let start = inside .before .before .before in
     let b = inside .before .loop in
     let h = inside .loop-test .taken in
-    let e = rw (rd-at (start .pre .5) (b .j) h, rd-at (start .pre .6) (b .j) h) at (done .write-node .ensures) in
+    let e = rw (rd-at (start .pre .1 .3) (b .j) h, rd-at (start .pre .1 .4) (b .j) h) at (done .write-node .ensures) in
     let more = entry (entries start) 5 (λ _. refl) (now (start .args .buf)) (b .j) (20 * b .j) (b .inv .1) (omega arith) (omega arith) e in
     (omega arith, more)
 
