@@ -13,34 +13,38 @@ use words::read_u32;
 // The ASCII code of a digit.
 const DIGIT: u8 = 48;
 
-// The digits of n: those of n / 10 first.
-pub fn write_number(buf: &mut [u8], n: u64) -> usize
-    requires { ⌜ length (decimal n) ≤ length (now buf) ⌝ }
-    ensures { λ r. ⌜ Printed (decimal n) (now (buf .entry)) r (now (buf .exit)) ⌝ }
+// The digits of a number: those of its tenth first.
+pub fn write_number(buf: &mut [u8], number: u64) -> usize
+    requires { ⌜ length (decimal number) ≤ length (now buf) ⌝ }
+    ensures { λ r. ⌜ Printed (decimal number) (now (buf .entry)) r (now (buf .exit)) ⌝ }
 {
-    if n < 10 {
-        buf[0] = DIGIT + n as u8;
+    if number < 10 {
+        buf[0] = DIGIT + number as u8;
         return 1;
     }
-    let front = write_number(buf, n / 10);
-    buf[front] = DIGIT + (n % 10) as u8;
+    let front = write_number(buf, number / 10);
+    buf[front] = DIGIT + (number % 10) as u8;
     front + 1
 }
 
 // The size of a number that may be below 0.
-fn magnitude(z: i64) -> u64
-    ensures { λ r. ⌜ r ≡ natAbs z ⌝ }
+fn magnitude(value: i64) -> u64
+    ensures { λ r. ⌜ r ≡ natAbs value ⌝ }
 {
-    if z < 0 { (-1 - z) as u64 + 1 } else { z as u64 }
+    if value < 0 {
+        (-1 - value) as u64 + 1
+    } else {
+        value as u64
+    }
 }
 
 // A number that may be below 0.
-pub fn write_signed(buf: &mut [u8], z: i64) -> usize
-    requires { ⌜ length (signedDecimal z) ≤ length (now buf) ⌝ }
-    ensures { λ r. ⌜ Printed (signedDecimal z) (now (buf .entry)) r (now (buf .exit)) ⌝ }
+pub fn write_signed(buf: &mut [u8], value: i64) -> usize
+    requires { ⌜ length (signedDecimal value) ≤ length (now buf) ⌝ }
+    ensures { λ r. ⌜ Printed (signedDecimal value) (now (buf .entry)) r (now (buf .exit)) ⌝ }
 {
-    let size = magnitude(z);
-    if z < 0 {
+    let size = magnitude(value);
+    if value < 0 {
         buf[0] = b'-';
         return 1 + write_number(&mut buf[1..], size);
     }
@@ -48,21 +52,21 @@ pub fn write_signed(buf: &mut [u8], z: i64) -> usize
 }
 
 // From byte `at` on, a number and what ends it: a space or the line's end. What is answered is the place behind it.
-fn write_field(buf: &mut [u8], at: usize, n: u64, end: u8) -> usize
-    requires { ⌜ at + length (field (decimal n) end) ≤ length (now buf) ⌝ }
-    ensures { λ r. ⌜ PrintedAt at (field (decimal n) end) (now (buf .entry)) r (now (buf .exit)) ⌝ }
+fn write_field(buf: &mut [u8], at: usize, number: u64, end: u8) -> usize
+    requires { ⌜ at + length (field (decimal number) end) ≤ length (now buf) ⌝ }
+    ensures { λ r. ⌜ PrintedAt at (field (decimal number) end) (now (buf .entry)) r (now (buf .exit)) ⌝ }
 {
-    let last = at + write_number(&mut buf[at..], n);
+    let last = at + write_number(&mut buf[at..], number);
     buf[last] = end;
     last + 1
 }
 
 // The same of a number that may be below 0.
-fn write_signed_field(buf: &mut [u8], at: usize, z: i64, end: u8) -> usize
-    requires { ⌜ at + length (field (signedDecimal z) end) ≤ length (now buf) ⌝ }
-    ensures { λ r. ⌜ PrintedAt at (field (signedDecimal z) end) (now (buf .entry)) r (now (buf .exit)) ⌝ }
+fn write_signed_field(buf: &mut [u8], at: usize, value: i64, end: u8) -> usize
+    requires { ⌜ at + length (field (signedDecimal value) end) ≤ length (now buf) ⌝ }
+    ensures { λ r. ⌜ PrintedAt at (field (signedDecimal value) end) (now (buf .entry)) r (now (buf .exit)) ⌝ }
 {
-    let last = at + write_signed(&mut buf[at..], z);
+    let last = at + write_signed(&mut buf[at..], value);
     buf[last] = end;
     last + 1
 }
@@ -94,14 +98,14 @@ pub fn write_lines(buf: &mut [u8], events: &[u8], count: usize) -> usize
     at
 }
 
-// The bytes of a word.
-fn write_word(buf: &mut [u8], word: &[u8]) -> usize
-    requires { ⌜ length (now word) ≤ length (now buf) ⌝ }
-    ensures { λ r. ⌜ Printed (now (word .entry)) (now (buf .entry)) r (now (buf .exit)) ⌝ }
+// A fixed text, byte for byte.
+fn write_text(buf: &mut [u8], text: &[u8]) -> usize
+    requires { ⌜ length (now text) ≤ length (now buf) ⌝ }
+    ensures { λ r. ⌜ Printed (now (text .entry)) (now (buf .entry)) r (now (buf .exit)) ⌝ }
 {
     let mut i = 0;
-    while i < word.len() {
-        buf[i] = word[i];
+    while i < text.len() {
+        buf[i] = text[i];
         i += 1;
     }
     i
@@ -112,7 +116,7 @@ pub fn write_end(buf: &mut [u8], status: u64, clock: u64, instants: u64, updates
     requires { ⌜ length (endLine status clock instants updates) ≤ length (now buf) ⌝ }
     ensures { λ r. ⌜ Printed (endLine status clock instants updates) (now (buf .entry)) r (now (buf .exit)) ⌝ }
 {
-    let first = write_word(buf, b"end ");
+    let first = write_text(buf, b"end ");
     let second = write_field(buf, first, status, b' ');
     let third = write_field(buf, second, clock, b' ');
     let fourth = write_field(buf, third, instants, b' ');
@@ -124,7 +128,7 @@ pub fn write_refusal(buf: &mut [u8], number: u64, entry: u64) -> usize
     requires { ⌜ length (refusalLine number entry) ≤ length (now buf) ⌝ }
     ensures { λ r. ⌜ Printed (refusalLine number entry) (now (buf .entry)) r (now (buf .exit)) ⌝ }
 {
-    let first = write_word(buf, b"refused ");
+    let first = write_text(buf, b"refused ");
     let second = write_field(buf, first, number, b' ');
     write_field(buf, second, entry, b'\n')
 }

@@ -30,22 +30,22 @@ fn write_pair(buf: &mut [u8], offset: usize, size: usize)
     write_u32(buf, 4, size as u64);
 }
 
-// The bytes of section k, by the counts of the five sections.
-fn section_length(counts: &[usize; SECTIONS], k: usize) -> usize
-    requires { ⌜ (k < sections) × Limited (now counts) ⌝ }
-    ensures { λ r. ⌜ r ≡ lengthFrom (now (counts .entry)) k ⌝ }
+// The bytes of a section, by the counts of the five sections.
+fn section_length(counts: &[usize; SECTIONS], section: usize) -> usize
+    requires { ⌜ (section < sections) × Limited (now counts) ⌝ }
+    ensures { λ r. ⌜ r ≡ lengthFrom (now (counts .entry)) section ⌝ }
 {
-    entry_size(k) as usize * counts[k]
+    entry_size(section) as usize * counts[section]
 }
 
-// Where section k starts; of the number behind the last section, the length of the file.
-fn section_offset(counts: &[usize; SECTIONS], k: usize) -> usize
-    requires { ⌜ (k ≤ sections) × Limited (now counts) ⌝ }
-    ensures { λ r. ⌜ r ≡ offsetFrom (now (counts .entry)) k ⌝ }
+// Where a section starts; of the number behind the last section, the length of the file.
+fn section_offset(counts: &[usize; SECTIONS], section: usize) -> usize
+    requires { ⌜ (section ≤ sections) × Limited (now counts) ⌝ }
+    ensures { λ r. ⌜ r ≡ offsetFrom (now (counts .entry)) section ⌝ }
 {
     let mut offset = HEADER_LENGTH;
     let mut i = 0;
-    while i < k {
+    while i < section {
         offset += section_length(counts, i);
         i += 1;
     }
@@ -57,12 +57,12 @@ fn write_pairs(buf: &mut [u8], counts: &[usize; SECTIONS])
     requires { ⌜ (8 * sections ≤ length (now buf)) × Limited (now counts) ⌝ }
     ensures { λ _. ⌜ now (buf .exit) ≡ written (joined (pairEntry (now (counts .entry))) sections) (now (buf .entry)) ⌝ }
 {
-    let mut k = 0;
-    while k < SECTIONS {
-        let offset = section_offset(counts, k);
-        let size = section_length(counts, k);
-        write_pair(&mut buf[8 * k..], offset, size);
-        k += 1;
+    let mut section = 0;
+    while section < SECTIONS {
+        let offset = section_offset(counts, section);
+        let size = section_length(counts, section);
+        write_pair(&mut buf[8 * section..], offset, size);
+        section += 1;
     }
 }
 

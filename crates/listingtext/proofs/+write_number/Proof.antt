@@ -1,4 +1,4 @@
--- `text::write_number` meets its contract: the digits of n / 10, and the last digit behind them. The measure is n. Assumes nothing.
+-- `listingtext::write_number` meets its contract: the digits of its tenth, and the last digit behind them. The measure is the number. Assumes nothing.
 use mathlib.Core.Path.{_≡_, ap, _∙_}
 use mathlib.Core.List.{[], _∷_, _++_}
 use Prim.Native.Nat.{ℕ, _/_, _%_, _<_}
@@ -26,16 +26,16 @@ abbrev claims : ℕ → lts.Claims
 claims t = (and 1 write-number-kinds.ps (falls 1 write-number-kinds.ps _<_ μ-write-number t) write-number.Pre, write-number.Post)
 
 module _ (t : ℕ) where
-  -- behind the call: the digits of n / 10 are written, and there is room for one more
+  -- behind the call: the digits of the number's tenth are written, and there is room for one more
   module _ (c : lts.After-slice-known2 (claims t) (write-number-at t) write-number.Post) where
     abbrev start : lts.Start (claims t) (write-number-at t) write-number.Post
     start = c .before .before .before .before .before .before
 
-    more : decimal (start .args .n) ≡ decimal (start .args .n / 10) ++ (digit (start .args .n % 10) ∷ [])
-    more = decimal-more (start .args .n) (c .before .before .before .before .if1 .left)
+    more : decimal (start .args .number) ≡ decimal (start .args .number / 10) ++ (digit (start .args .number % 10) ∷ [])
+    more = decimal-more (start .args .number) (c .before .before .before .before .if1 .left)
 
-    room : length (decimal (start .args .n / 10)) < length (start .args .buf .now)
-    room = omega (arith, ap length more ∙ length-append (decimal (start .args .n / 10)) _, start .pre .1)
+    room : length (decimal (start .args .number / 10)) < length (start .args .buf .now)
+    room = omega (arith, ap length more ∙ length-append (decimal (start .args .number / 10)) _, start .pre .1)
 
   cast-buf : lts.Need-cast-buf (claims t) (write-number-at t) write-number.Post
   cast-buf c = omega arith
@@ -44,7 +44,7 @@ module _ (t : ℕ) where
   add-buf c = omega arith
 
   slice-write-buf : lts.Need-slice-write-buf (claims t) (write-number-at t) write-number.Post
-  slice-write-buf c = omega (arith, decimal-some (c .before .before .args .n))
+  slice-write-buf c = omega (arith, decimal-some (c .before .before .args .number))
 
   same-length : lts.Need-same-length (claims t) (write-number-at t) write-number.Post
   same-length c = length-set (c .before .before .args .buf .now) 0 _
@@ -53,14 +53,14 @@ module _ (t : ℕ) where
   returns c =
       let a = c .before .before .args in
       let small = c .if1 .taken in
-      let room : 0 < length (a .buf .now) = omega (arith, decimal-some (a .n), c .before .before .pre) in
-      rw (decimal-one (a .n) small) (then-byte (nothing (a .buf .now)) (digit (a .n)) room)
+      let room : 0 < length (a .buf .now) = omega (arith, decimal-some (a .number), c .before .before .pre) in
+      rw (decimal-one (a .number) small) (then-byte (nothing (a .buf .now)) (digit (a .number)) room)
 
   write-number-requires : lts.Need-write-number-requires (claims t) (write-number-at t) write-number.Post
   write-number-requires c κs =
       let s = c .before .before .before in
-      let more = decimal-more (s .args .n) (c .before .if1 .left) in
-      let size = ap length more ∙ length-append (decimal (s .args .n / 10)) _ in
+      let more = decimal-more (s .args .number) (c .before .if1 .left) in
+      let size = ap length more ∙ length-append (decimal (s .args .number / 10)) _ in
       (omega (arith, s .pre .0, c .before .if1 .left), omega (arith, s .pre .1, size))
 
   cast-buf-2 : lts.Need-cast-buf-2 (claims t) (write-number-at t) write-number.Post
@@ -82,7 +82,7 @@ module _ (t : ℕ) where
   returns-2 c =
       let a = start c .args in
       let front = c .before .before .write-number .ensures in
-      rw (more c) (then-byte front (digit (a .n % 10)) (omega (arith, front .size, room c)))
+      rw (more c) (then-byte front (digit (a .number % 10)) (omega (arith, front .size, room c)))
 
 pub +write-number-spec : {M : Type 1} → statement M
 +write-number-spec =

@@ -1,4 +1,4 @@
--- `text::write_end` meets its contract: the word, and the numbers one behind the other. Assumes nothing.
+-- `listingtext::write_end` meets its contract: the word, and the numbers one behind the other. Assumes nothing.
 use mathlib.Core.List.{List, _++_}
 use Prim.Native.Nat.{ℕ}
 use Rattle.listingtext.specs.Decimal.{decimal}
@@ -28,8 +28,8 @@ module _ (c : tie.After-slice-known2) where
   abbrev start : tie.Start
   start = c .before .before .before .before .before .before
 
-  one : Printed endWord (start .args .buf .now) (c .before .before .write-word .result) (c .before .before .write-word .last .0)
-  one = c .before .before .write-word .ensures
+  one : Printed endWord (start .args .buf .now) (c .before .before .write-text .result) (c .before .before .write-text .last .0)
+  one = c .before .before .write-text .ensures
 
 module _ (c : tie.After-slice-known3) where
   abbrev first : tie.After-slice-known2
@@ -54,12 +54,12 @@ module _ (c : tie.After-slice-known5) where
       (c .before .before .write-field3 .last .0)
   four = then-text (three third) (c .before .before .write-field3 .ensures)
 
-slice-aggregate-write-word : tie.Need-slice-aggregate-write-word
-slice-aggregate-write-word c = search needs
+slice-aggregate-write-text : tie.Need-slice-aggregate-write-text
+slice-aggregate-write-text c = search needs
 
-write-word-requires : tie.Need-write-word-requires
+write-text-requires : tie.Need-write-text-requires
 unfolding endLine
-write-word-requires c κs =
+write-text-requires c κs =
     let s = c .before .before .before in
     front-fits endWord (field (decimal (s .args .status)) space)
     (front-fits (upToStatus s) _ (front-fits (upToClock s) _ (front-fits (upToInstants s) _ (s .pre))))
@@ -103,8 +103,8 @@ pub write-end-spec : {M : Type 1} → statement M
 write-end-spec =
     tie.close
     (tie.spec
-    slice-aggregate-write-word
-    write-word-requires
+    slice-aggregate-write-text
+    write-text-requires
     write-field-requires
     write-field-requires-2
     write-field-requires-3

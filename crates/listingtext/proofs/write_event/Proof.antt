@@ -1,4 +1,4 @@
--- `text::write_event` meets its contract: the three parts of the line, each behind those before it. Assumes nothing.
+-- `listingtext::write_event` meets its contract: the three parts of the line, each behind those before it. Assumes nothing.
 use mathlib.Core.Path.{_≡_}
 use mathlib.Core.List.{List, _++_}
 use Prim.Native.Nat.{ℕ}

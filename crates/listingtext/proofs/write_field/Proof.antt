@@ -1,4 +1,4 @@
--- `text::write_field` meets its contract: the number, and the byte behind it. Assumes nothing.
+-- `listingtext::write_field` meets its contract: the number, and the byte behind it. Assumes nothing.
 use mathlib.Core.List.{[], _∷_}
 use Prim.Native.Nat.{_+_, _≤_, _<_}
 use native.Mathlib.Omega.{arith}
@@ -24,22 +24,22 @@ write-number-requires : tie.Need-write-number-requires
 write-number-requires c κs =
     let start = c .before .before in
     let a = start .args in
-    omega (arith, length-behind (a .buf .now) (a .at), length-append (decimal (a .n)) (a .end ∷ []), start .pre)
+    omega (arith, length-behind (a .buf .now) (a .at), length-append (decimal (a .number)) (a .end ∷ []), start .pre)
 
 -- ---- behind the call: the number is written, and there is room for what ends it
 module _ (c : tie.After-slice-known2) where
   abbrev start : tie.Start
   start = c .before .before .before .before .before
 
-  room : start .args .at + (length (decimal (start .args .n)) + 1) ≤ length (start .args .buf .now)
-  room = omega (arith, length-append (decimal (start .args .n)) (start .args .end ∷ []), start .pre)
+  room : start .args .at + (length (decimal (start .args .number)) + 1) ≤ length (start .args .buf .now)
+  room = omega (arith, length-append (decimal (start .args .number)) (start .args .end ∷ []), start .pre)
 
-  number : PrintedAt (start .args .at) (decimal (start .args .n)) (start .args .buf .now) (start .args .at + c .before .before .write-number .result)
+  number : PrintedAt (start .args .at) (decimal (start .args .number)) (start .args .buf .now) (start .args .at + c .before .before .write-number .result)
       (back (start .args .buf .now) (start .args .at) (c .before .before .write-number .last .0))
   number = in-part (start .args .at) (omega (arith, room)) (c .before .before .write-number .ensures)
 
   inside : (start .args .at + c .before .before .write-number .result < length (start .args .buf .now))
-      × (start .args .at + length (decimal (start .args .n)) ≤ length (start .args .buf .now))
+      × (start .args .at + length (decimal (start .args .number)) ≤ length (start .args .buf .now))
   inside = (omega (arith, room, number .size), omega (arith, room))
 
 add-last : tie.Need-add-last

@@ -1,4 +1,4 @@
--- `text::write_lines` meets its contract: the lines of the first i events are written. Assumes nothing.
+-- `listingtext::write_lines` meets its contract: the lines of the first i events are written. Assumes nothing.
 use mathlib.Core.Path.{_≡_, _∙_}
 use mathlib.Core.List.{List, _++_}
 use Prim.Native.Nat.{ℕ, _+_, _-_, _≤_}

@@ -1,4 +1,4 @@
--- `text::write_refusal` meets its contract: the word, and the numbers one behind the other. Assumes nothing.
+-- `listingtext::write_refusal` meets its contract: the word, and the numbers one behind the other. Assumes nothing.
 use mathlib.Core.List.{List, _++_}
 use Prim.Native.Nat.{ℕ}
 use Rattle.listingtext.specs.Decimal.{decimal}
@@ -22,8 +22,8 @@ module _ (c : tie.After-slice-known2) where
   abbrev start : tie.Start
   start = c .before .before .before .before .before .before
 
-  one : Printed refusedWord (start .args .buf .now) (c .before .before .write-word .result) (c .before .before .write-word .last .0)
-  one = c .before .before .write-word .ensures
+  one : Printed refusedWord (start .args .buf .now) (c .before .before .write-text .result) (c .before .before .write-text .last .0)
+  one = c .before .before .write-text .ensures
 
 module _ (c : tie.After-slice-known3) where
   abbrev first : tie.After-slice-known2
@@ -32,12 +32,12 @@ module _ (c : tie.After-slice-known3) where
   two : Printed (upToNumber (start first)) (start first .args .buf .now) (c .before .before .write-field .result) (c .before .before .write-field .last .0)
   two = then-text (one first) (c .before .before .write-field .ensures)
 
-slice-aggregate-write-word : tie.Need-slice-aggregate-write-word
-slice-aggregate-write-word c = search needs
+slice-aggregate-write-text : tie.Need-slice-aggregate-write-text
+slice-aggregate-write-text c = search needs
 
-write-word-requires : tie.Need-write-word-requires
+write-text-requires : tie.Need-write-text-requires
 unfolding refusalLine
-write-word-requires c κs =
+write-text-requires c κs =
     let s = c .before .before .before in
     front-fits refusedWord (field (decimal (s .args .number)) space)
     (front-fits (upToNumber s) _ (s .pre))
@@ -67,8 +67,8 @@ pub write-refusal-spec : {M : Type 1} → statement M
 write-refusal-spec =
     tie.close
     (tie.spec
-    slice-aggregate-write-word
-    write-word-requires
+    slice-aggregate-write-text
+    write-text-requires
     write-field-requires
     write-field-requires-2
     same-length

@@ -1,4 +1,4 @@
--- `text::write_signed` meets its contract: '-' and the size behind it, or the number. Assumes nothing.
+-- `listingtext::write_signed` meets its contract: '-' and the size behind it, or the number. Assumes nothing.
 use mathlib.Core.Path.{_≡_, sym, ap, _∙_}
 use mathlib.Core.List.{[], _∷_}
 use Prim.Native.Nat.{ℕ, _+_, _≤_}
@@ -20,8 +20,8 @@ magnitude-requires : tie.Need-magnitude-requires
 magnitude-requires c κs = search needs
 
 -- what the code reads of the number
-bits : (c : tie.Start) → rd (c .args .z) ≡ c .args .z
-bits c = toZ-ofZ (c .fits .z)
+bits : (c : tie.Start) → rd (c .args .value) ≡ c .args .value
+bits c = toZ-ofZ (c .fits .value)
 
 -- ---- below 0
 module _ (c : tie.Then1) where
@@ -31,9 +31,9 @@ module _ (c : tie.Then1) where
   abbrev size : ℕ
   size = c .before .magnitude .result
 
-  text : signedDecimal (start .args .z) ≡ minus ∷ decimal size
+  text : signedDecimal (start .args .value) ≡ minus ∷ decimal size
   text =
-      signed-below (start .args .z) (rw (bits start) at (c .if1 .taken))
+      signed-below (start .args .value) (rw (bits start) at (c .if1 .taken))
       ∙ ap (λ (n : ℕ). minus ∷ decimal n) (sym (c .before .magnitude .ensures ∙ ap natAbs (bits start)))
 
   room : length (minus ∷ decimal size) ≤ length (start .args .buf .now)
@@ -55,10 +55,10 @@ module _ (c : tie.After-slice-known2) where
       (in-part 1 (omega (arith, room signed, length-set (start signed .args .buf .now) 0 minus)) (c .before .before .write-number .ensures))
 
 -- ---- from 0 on
-plain : (c : tie.Else1) → signedDecimal (c .before .before .before .args .z) ≡ decimal (c .before .magnitude .result)
+plain : (c : tie.Else1) → signedDecimal (c .before .before .before .args .value) ≡ decimal (c .before .magnitude .result)
 plain c =
     let start = c .before .before .before in
-    signed-from (start .args .z) (rw (bits start) at (c .if1 .left))
+    signed-from (start .args .value) (rw (bits start) at (c .if1 .left))
     ∙ ap decimal (sym (c .before .magnitude .ensures ∙ ap natAbs (bits start)))
 
 slice-write-buf : tie.Need-slice-write-buf

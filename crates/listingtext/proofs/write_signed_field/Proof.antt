@@ -1,4 +1,4 @@
--- `text::write_signed_field` meets its contract: the number, and the byte behind it. Assumes nothing.
+-- `listingtext::write_signed_field` meets its contract: the number, and the byte behind it. Assumes nothing.
 use mathlib.Core.Path.{_≡_}
 use mathlib.Core.List.{[], _∷_}
 use Prim.Native.Nat.{_+_, _≤_, _<_}
@@ -15,8 +15,8 @@ use Rattle.listingtext.proofs.write_signed_field.Statement.{statement}
 use Rattle.listingtext.proofs.write_signed_field.Tie as tie
 
 -- what the code reads of the number
-bits : (c : tie.Start) → rd (c .args .z) ≡ c .args .z
-bits c = toZ-ofZ (c .fits .z)
+bits : (c : tie.Start) → rd (c .args .value) ≡ c .args .value
+bits c = toZ-ofZ (c .fits .value)
 
 sub-write-signed : tie.Need-sub-write-signed
 sub-write-signed c = search needs
@@ -31,22 +31,22 @@ write-signed-requires : tie.Need-write-signed-requires
 write-signed-requires c κs =
     let start = c .before .before in
     let a = start .args in
-    rw (bits start) (omega (arith, length-behind (a .buf .now) (a .at), length-append (signedDecimal (a .z)) (a .end ∷ []), start .pre))
+    rw (bits start) (omega (arith, length-behind (a .buf .now) (a .at), length-append (signedDecimal (a .value)) (a .end ∷ []), start .pre))
 
 -- ---- behind the call: the number is written, and there is room for what ends it
 module _ (c : tie.After-slice-known2) where
   abbrev start : tie.Start
   start = c .before .before .before .before .before
 
-  room : start .args .at + (length (signedDecimal (start .args .z)) + 1) ≤ length (start .args .buf .now)
-  room = omega (arith, length-append (signedDecimal (start .args .z)) (start .args .end ∷ []), start .pre)
+  room : start .args .at + (length (signedDecimal (start .args .value)) + 1) ≤ length (start .args .buf .now)
+  room = omega (arith, length-append (signedDecimal (start .args .value)) (start .args .end ∷ []), start .pre)
 
-  number : PrintedAt (start .args .at) (signedDecimal (start .args .z)) (start .args .buf .now) (start .args .at + c .before .before .write-signed .result)
+  number : PrintedAt (start .args .at) (signedDecimal (start .args .value)) (start .args .buf .now) (start .args .at + c .before .before .write-signed .result)
       (back (start .args .buf .now) (start .args .at) (c .before .before .write-signed .last .0))
   number = in-part (start .args .at) (omega (arith, room)) (rw (bits start) at (c .before .before .write-signed .ensures))
 
   inside : (start .args .at + c .before .before .write-signed .result < length (start .args .buf .now))
-      × (start .args .at + length (signedDecimal (start .args .z)) ≤ length (start .args .buf .now))
+      × (start .args .at + length (signedDecimal (start .args .value)) ≤ length (start .args .buf .now))
   inside = (omega (arith, room, number .size), omega (arith, room))
 
 add-last : tie.Need-add-last

@@ -1,4 +1,4 @@
--- `listings::begin` meets its contract: an accepted file prints nothing yet, another its refusal. Assumes nothing.
+-- `listingturns::begin` meets its contract: an accepted file prints nothing yet, another its refusal. Assumes nothing.
 use native.Mathlib.Omega.{arith}
 use denote.Ref.{now}
 use Rattle.listingturns.specs.Laws.Fits.{refusal-fits}

@@ -1,4 +1,4 @@
--- `listings::take_turn` meets its contract: the run is accepted, its lines are written, and behind the last of them the end line. Assumes
+-- `listingturns::take_turn` meets its contract: the run is accepted, its lines are written, and behind the last of them the end line. Assumes
 -- nothing.
 use mathlib.Core.List.{List}
 use Prim.Native.Nat.{ℕ}

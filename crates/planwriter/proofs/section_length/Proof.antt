@@ -18,7 +18,7 @@ element-copy-out-result c = search needs
 mul-result-2 : tie.Need-mul-result-2
 mul-result-2 c =
     let start = c .before .before in
-    let limit = length-limit (now (start .args .counts)) (start .pre .1) (start .args .k) (start .pre .0) in
+    let limit = length-limit (now (start .args .counts)) (start .pre .1) (start .args .section) (start .pre .0) in
     rw (c .before .entry-size .ensures .0) (omega (arith, limit))
 
 returns : tie.Need-returns

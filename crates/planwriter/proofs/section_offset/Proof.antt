@@ -10,10 +10,10 @@ use Rattle.planwriter.proofs.section_offset.Statement.{statement}
 use Rattle.planwriter.proofs.section_offset.Tie as tie
 
 abbrev Inv-loop : tie.InvT-loop
-Inv-loop counts k offset₀ i₀ offset i = (i ≤ k) × (offset ≡ offsetFrom counts i)
+Inv-loop counts section offset₀ i₀ offset i = (i ≤ section) × (offset ≡ offsetFrom counts i)
 
 abbrev μ-loop : tie.MeasureT-loop
-μ-loop counts k offset₀ i₀ offset i = k - i
+μ-loop counts section offset₀ i₀ offset i = section - i
 
 loop-holds : tie.Need-loop-holds Inv-loop μ-loop
 loop-holds c = (omega arith, sym (offset-none (now (c .args .counts))))
@@ -42,7 +42,7 @@ loop-again c =
 returns : tie.Need-returns Inv-loop μ-loop
 returns c =
     let b = c .before .loop in
-    let e : b .i ≡ c .before .before .args .k = omega arith in
+    let e : b .i ≡ c .before .before .args .section = omega arith in
     b .inv .1 ∙ ap (offsetFrom (now (c .before .before .args .counts))) e
 
 pub section-offset-spec : {M : Type 1} → statement M

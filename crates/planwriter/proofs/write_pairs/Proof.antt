@@ -1,4 +1,4 @@
--- The loop's invariant: the first k pairs are written, and the rest is as it was.
+-- The loop's invariant: the pairs of the sections below this one are written, and the rest is as it was.
 use mathlib.Core.Path.{refl}
 use Prim.Native.Nat.{_-_, _*_, _≤_}
 use native.Mathlib.Omega.{arith}
@@ -14,10 +14,10 @@ use Rattle.planwriter.proofs.write_pairs.Statement.{statement}
 use Rattle.planwriter.proofs.write_pairs.Tie as tie
 
 abbrev Inv-loop : tie.InvT-loop
-Inv-loop buf₀ counts k₀ buf k = (k ≤ sections) × Begun (joined (pairEntry counts) k) buf₀ buf
+Inv-loop buf₀ counts section₀ buf section = (section ≤ sections) × Begun (joined (pairEntry counts) section) buf₀ buf
 
 abbrev μ-loop : tie.MeasureT-loop
-μ-loop buf₀ counts k₀ buf k = sections - k
+μ-loop buf₀ counts section₀ buf section = sections - section
 
 loop-holds : tie.Need-loop-holds Inv-loop μ-loop
 loop-holds c = let a = c .before .args in (omega arith, none (pairEntry (now (a .counts))) (now (a .buf)))
@@ -45,12 +45,12 @@ write-pair-requires c κs =
     let inside = c .before .before .before in
     let start = inside .before .before .before in
     let cs = now (start .args .counts) in
-    let k = inside .before .loop .k in
+    let k = inside .before .loop .section in
     let l = length-behind (inside .before .loop .buf) (8 * k) in
     omega (arith, offset-limit cs (start .pre .1) k (omega arith), length-limit cs (start .pre .1) k (omega arith))
 
-add-k : tie.Need-add-k Inv-loop μ-loop
-add-k c = search needs
+add-section : tie.Need-add-section Inv-loop μ-loop
+add-section c = search needs
 
 loop-less : tie.Need-loop-less Inv-loop μ-loop
 loop-less c = search needs
@@ -64,7 +64,7 @@ loop-again c =
     let offset = done .before .before .before .section-offset .ensures in
     let size = done .before .before .section-length .ensures in
     let e = rw (offset, size) at (done .write-pair .ensures) in
-    let more = entry (pairEntry (now (a .counts))) 2 (λ _. refl) (now (a .buf)) (b .k) (8 * b .k) (b .inv .1) (omega arith) (omega arith) e in
+    let more = entry (pairEntry (now (a .counts))) 2 (λ _. refl) (now (a .buf)) (b .section) (8 * b .section) (b .inv .1) (omega arith) (omega arith) e in
     (omega arith, more)
 
 same-length : tie.Need-same-length Inv-loop μ-loop
@@ -90,7 +90,7 @@ write-pairs-spec =
     part-write-pair-start
     part-write-pair-end
     write-pair-requires
-    add-k
+    add-section
     loop-less
     loop-again
     same-length

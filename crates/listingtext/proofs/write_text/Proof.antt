@@ -1,17 +1,17 @@
--- `text::write_word` meets its contract: the first i bytes of the word are written. Assumes nothing.
+-- `listingtext::write_text` meets its contract: the first i bytes of the text are written. Assumes nothing.
 use Prim.Native.Nat.{_-_, _≤_}
 use native.Mathlib.Omega.{arith}
 use lib.ListN.{length, take}
 use Rattle.listingtext.specs.Printed.{Printed}
 use Rattle.listingtext.specs.Laws.Printing.{nothing, length-printed, then-element, whole}
-use Rattle.listingtext.proofs.write_word.Statement.{statement}
-use Rattle.listingtext.proofs.write_word.Tie as tie
+use Rattle.listingtext.proofs.write_text.Statement.{statement}
+use Rattle.listingtext.proofs.write_text.Tie as tie
 
 abbrev Inv-loop : tie.InvT-loop
-Inv-loop buf₀ word i₀ buf i = (i ≤ length word) × Printed (take i word) buf₀ i buf
+Inv-loop buf₀ text i₀ buf i = (i ≤ length text) × Printed (take i text) buf₀ i buf
 
 abbrev μ-loop : tie.MeasureT-loop
-μ-loop buf₀ word i₀ buf i = length word - i
+μ-loop buf₀ text i₀ buf i = length text - i
 
 loop-holds : tie.Need-loop-holds Inv-loop μ-loop
 loop-holds c = (omega arith, nothing (c .args .buf .now))
@@ -35,16 +35,16 @@ loop-again c =
     let l = c .before .before .loop in
     let start = c .before .before .before in
     let inside = c .before .loop-test .taken in
-    (omega arith, then-element (start .args .word .now) (l .inv .1) inside (omega (arith, start .pre)))
+    (omega arith, then-element (start .args .text .now) (l .inv .1) inside (omega (arith, start .pre)))
 
 same-length : tie.Need-same-length Inv-loop μ-loop
 same-length c = length-printed (c .before .loop .inv .1) (omega (arith, c .before .loop .inv .1 .size, c .before .before .pre))
 
 returns : tie.Need-returns Inv-loop μ-loop
-returns c = whole (c .before .before .args .word .now) (c .before .loop .inv .1) (c .loop-test .left)
+returns c = whole (c .before .before .args .text .now) (c .before .loop .inv .1) (c .loop-test .left)
 
-pub write-word-spec : {M : Type 1} → statement M
-write-word-spec =
+pub write-text-spec : {M : Type 1} → statement M
+write-text-spec =
     tie.close
     (tie.spec
     Inv-loop
