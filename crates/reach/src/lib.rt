@@ -130,8 +130,10 @@ pub struct Reach {
     pub nodes: u32,
 }
 
+// What changes of these sources reach: the lower and the upper half of their entries, joined.
 pub fn reached_by(changed: u64, table: &[u64; SOURCES]) -> Reach
-    ensures { λ r. ⌜ (r .integrators ≡ entriesOf (now (table .entry)) changed % 2 ^ 32) × (r .nodes ≡ entriesOf (now (table .entry)) changed / 2 ^ 32) ⌝ }
+    ensures integrators { λ r. ⌜ r .integrators ≡ entriesOf (now (table .entry)) changed % 2 ^ 32 ⌝ }
+    ensures nodes { λ r. ⌜ r .nodes ≡ entriesOf (now (table .entry)) changed / 2 ^ 32 ⌝ }
 {
     let entries = entries_of(changed, table);
     let integrators = (entries % 4294967296) as u32;
