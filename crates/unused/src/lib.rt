@@ -6,12 +6,12 @@ use machine::Running;
 use plan::Plan;
 
 // Values, positions, quanta and slopes.
-fn signed_unused(xs: &[i64], count: usize) -> bool
-    ensures { λ r. ⌜ r ≡ unusedInt count (now (xs .entry)) ⌝ }
+fn signed_unused(entries: &[i64], count: usize) -> bool
+    ensures { λ r. ⌜ r ≡ unusedInt count (now (entries .entry)) ⌝ }
 {
     let mut i = count;
-    while i < xs.len() {
-        if xs[i] != 0 {
+    while i < entries.len() {
+        if entries[i] != 0 {
             return false;
         }
         i += 1;
@@ -20,12 +20,12 @@ fn signed_unused(xs: &[i64], count: usize) -> bool
 }
 
 // Ticks.
-fn ticks_unused(xs: &[u32], count: usize) -> bool
-    ensures { λ r. ⌜ r ≡ unusedNat count (now (xs .entry)) ⌝ }
+fn ticks_unused(entries: &[u32], count: usize) -> bool
+    ensures { λ r. ⌜ r ≡ unusedNat count (now (entries .entry)) ⌝ }
 {
     let mut i = count;
-    while i < xs.len() {
-        if xs[i] != 0 {
+    while i < entries.len() {
+        if entries[i] != 0 {
             return false;
         }
         i += 1;
@@ -34,12 +34,12 @@ fn ticks_unused(xs: &[u32], count: usize) -> bool
 }
 
 // Kinds, and numbers of sources, integrators and inputs.
-fn numbers_unused(xs: &[usize], count: usize) -> bool
-    ensures { λ r. ⌜ r ≡ unusedNat count (now (xs .entry)) ⌝ }
+fn numbers_unused(entries: &[usize], count: usize) -> bool
+    ensures { λ r. ⌜ r ≡ unusedNat count (now (entries .entry)) ⌝ }
 {
     let mut i = count;
-    while i < xs.len() {
-        if xs[i] != 0 {
+    while i < entries.len() {
+        if entries[i] != 0 {
             return false;
         }
         i += 1;
@@ -47,69 +47,70 @@ fn numbers_unused(xs: &[usize], count: usize) -> bool
     true
 }
 
-pub fn plan_unused(p: Plan) -> bool
-    ensures { λ r. ⌜ r ≡ planUnused p ⌝ }
+// Every column of a plan, each by the count of its section.
+pub fn plan_unused(plan: Plan) -> bool
+    ensures { λ r. ⌜ r ≡ planUnused plan ⌝ }
 {
-    if !signed_unused(&p.integrators.starts, p.counts.n) {
+    if !signed_unused(&plan.integrators.starts, plan.counts.n) {
         return false;
     }
-    if !signed_unused(&p.integrators.quanta, p.counts.n) {
+    if !signed_unused(&plan.integrators.quanta, plan.counts.n) {
         return false;
     }
-    if !signed_unused(&p.inputs.firsts, p.counts.m) {
+    if !signed_unused(&plan.inputs.firsts, plan.counts.m) {
         return false;
     }
-    if !numbers_unused(&p.nodes.kinds, p.counts.k) {
+    if !numbers_unused(&plan.nodes.kinds, plan.counts.k) {
         return false;
     }
-    if !numbers_unused(&p.nodes.a, p.counts.k) {
+    if !numbers_unused(&plan.nodes.a, plan.counts.k) {
         return false;
     }
-    if !numbers_unused(&p.nodes.b, p.counts.k) {
+    if !numbers_unused(&plan.nodes.b, plan.counts.k) {
         return false;
     }
-    if !signed_unused(&p.nodes.lows, p.counts.k) {
+    if !signed_unused(&plan.nodes.lows, plan.counts.k) {
         return false;
     }
-    if !signed_unused(&p.nodes.highs, p.counts.k) {
+    if !signed_unused(&plan.nodes.highs, plan.counts.k) {
         return false;
     }
-    if !numbers_unused(&p.links.targets, p.counts.links) {
+    if !numbers_unused(&plan.links.targets, plan.counts.links) {
         return false;
     }
-    if !numbers_unused(&p.links.sources, p.counts.links) {
+    if !numbers_unused(&plan.links.sources, plan.counts.links) {
         return false;
     }
-    if !signed_unused(&p.links.coefficients, p.counts.links) {
+    if !signed_unused(&plan.links.coefficients, plan.counts.links) {
         return false;
     }
-    if !ticks_unused(&p.commands.ticks, p.counts.commands) {
+    if !ticks_unused(&plan.commands.ticks, plan.counts.commands) {
         return false;
     }
-    if !numbers_unused(&p.commands.inputs, p.counts.commands) {
+    if !numbers_unused(&plan.commands.inputs, plan.counts.commands) {
         return false;
     }
-    signed_unused(&p.commands.values, p.counts.commands)
+    signed_unused(&plan.commands.values, plan.counts.commands)
 }
 
 // The running figures of n integrators and m inputs.
-pub fn figures_unused(n: usize, m: usize, r: Running) -> bool
-    ensures { λ u. ⌜ u ≡ figuresUnused n m r ⌝ }
+pub fn figures_unused(n: usize, m: usize, run: Running) -> bool
+    ensures { λ r. ⌜ r ≡ figuresUnused n m run ⌝ }
 {
-    if !signed_unused(&r.x, n) {
+    if !signed_unused(&run.x, n) {
         return false;
     }
-    if !signed_unused(&r.q, n) {
+    if !signed_unused(&run.q, n) {
         return false;
     }
-    if !signed_unused(&r.s, n) {
+    if !signed_unused(&run.s, n) {
         return false;
     }
-    if !ticks_unused(&r.l, n) {
+    if !ticks_unused(&run.l, n) {
         return false;
     }
-    if !ticks_unused(&r.d, n) {
+    if !ticks_unused(&run.d, n) {
         return false;
     }
-    signed_unused(&r.inputs, m)
+    signed_unused(&run.inputs, m)
 }

@@ -18,10 +18,10 @@ use Rattle.unused.proofs.signed_unused.Statement.{statement}
 use Rattle.unused.proofs.signed_unused.Tie as tie
 
 abbrev Inv-loop : tie.InvT-loop
-Inv-loop xs count i₀ i = unusedInt i xs ≡ unusedInt count xs
+Inv-loop entries count i₀ i = unusedInt i entries ≡ unusedInt count entries
 
 abbrev μ-loop : tie.MeasureT-loop
-μ-loop xs count i₀ i = length xs - i
+μ-loop entries count i₀ i = length entries - i
 
 loop-holds : tie.Need-loop-holds Inv-loop μ-loop
 loop-holds c = refl
@@ -33,9 +33,9 @@ shared-slice-copy-out-if1 : tie.Need-shared-slice-copy-out-if1 Inv-loop μ-loop
 shared-slice-copy-out-if1 c = search needs
 
 -- what the comparison looks at
-by-bits : (c : tie.After-if12 Inv-loop μ-loop) → let l = c .before .before in let z = intAt (now (l .before .args .xs)) (l .loop .i) in
+by-bits : (c : tie.After-if12 Inv-loop μ-loop) → let l = c .before .before in let z = intAt (now (l .before .args .entries)) (l .loop .i) in
     eqb ∣ z ∣ 0 ≡ eqb (ofZ w64 z) 0
-by-bits c = let l = c .before .before in zero-bits (intAt (now (l .before .args .xs)) (l .loop .i)) (sfits-of (c .if12 .given))
+by-bits c = let l = c .before .before in zero-bits (intAt (now (l .before .args .entries)) (l .loop .i)) (sfits-of (c .if12 .given))
 
 returns : tie.Need-returns Inv-loop μ-loop
 unfolding unusedInt

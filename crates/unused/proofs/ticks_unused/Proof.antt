@@ -11,10 +11,10 @@ use Rattle.unused.proofs.ticks_unused.Statement.{statement}
 use Rattle.unused.proofs.ticks_unused.Tie as tie
 
 abbrev Inv-loop : tie.InvT-loop
-Inv-loop xs count i₀ i = unusedNat i xs ≡ unusedNat count xs
+Inv-loop entries count i₀ i = unusedNat i entries ≡ unusedNat count entries
 
 abbrev μ-loop : tie.MeasureT-loop
-μ-loop xs count i₀ i = length xs - i
+μ-loop entries count i₀ i = length entries - i
 
 loop-holds : tie.Need-loop-holds Inv-loop μ-loop
 loop-holds c = refl
