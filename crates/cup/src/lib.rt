@@ -38,8 +38,8 @@ use values::source_values;
 // Reads a plan file: the number, 0 where it is accepted, and the lowest faulty entry.
 #[no_mangle]
 pub extern "C" fn cup_read(file: &[u8], faulty: &mut usize) -> usize
-    ensures { λ r. ⌜ r ≡ numberOf (findingOf (now (file .entry))) ⌝ }
-    ensures { λ _. ⌜ now (faulty .exit) ≡ entryOf (findingOf (now (file .entry))) ⌝ }
+    ensures answer { λ r. ⌜ r ≡ numberOf (findingOf (now (file .entry))) ⌝ }
+    ensures faulty { λ _. ⌜ now (faulty .exit) ≡ entryOf (findingOf (now (file .entry))) ⌝ }
 {
     let reading = read_plan(file);
     let found = reading.finding;
@@ -51,9 +51,9 @@ pub extern "C" fn cup_read(file: &[u8], faulty: &mut usize) -> usize
 // is above 4.
 #[no_mangle]
 pub extern "C" fn cup_section(file: &[u8], number: usize, offset: &mut usize) -> usize
-    ensures { λ r. ⌜ r ≡ length (sectionOf (now (file .entry)) number) ⌝ }
-    ensures { λ _. ⌜ now (offset .exit) ≡ sectionStart (now (file .entry)) number ⌝ }
-    ensures { λ r. ⌜ part (now (file .entry)) (now (offset .exit)) r ≡ sectionOf (now (file .entry)) number ⌝ }
+    ensures answer { λ r. ⌜ r ≡ length (sectionOf (now (file .entry)) number) ⌝ }
+    ensures offset { λ _. ⌜ now (offset .exit) ≡ sectionStart (now (file .entry)) number ⌝ }
+    ensures part { λ r. ⌜ part (now (file .entry)) (now (offset .exit)) r ≡ sectionOf (now (file .entry)) number ⌝ }
 {
     // An accepted file has an integrator, so its first section is not empty.
     let integrators = section(file, 0).len();
@@ -69,9 +69,9 @@ pub extern "C" fn cup_section(file: &[u8], number: usize, offset: &mut usize) ->
 // and the buffer keeps every byte.
 #[no_mangle]
 pub extern "C" fn cup_rewrite(file: &[u8], buffer: &mut [u8], written: &mut usize) -> usize
-    ensures { λ r. ⌜ r ≡ rewriteNumber (now (file .entry)) (length (now (buffer .entry))) ⌝ }
-    ensures { λ _. ⌜ now (written .exit) ≡ rewriteLength (now (file .entry)) (length (now (buffer .entry))) ⌝ }
-    ensures { λ _. ⌜ now (buffer .exit) ≡ rewriteBuffer (now (file .entry)) (now (buffer .entry)) ⌝ }
+    ensures answer { λ r. ⌜ r ≡ rewriteNumber (now (file .entry)) (length (now (buffer .entry))) ⌝ }
+    ensures written { λ _. ⌜ now (written .exit) ≡ rewriteLength (now (file .entry)) (length (now (buffer .entry))) ⌝ }
+    ensures buffer { λ _. ⌜ now (buffer .exit) ≡ rewriteBuffer (now (file .entry)) (now (buffer .entry)) ⌝ }
 {
     let reading = read_plan(file);
     let found = reading.finding;
@@ -99,8 +99,8 @@ pub extern "C" fn cup_load(file: &[u8]) -> Loaded
 // The public call `write`.
 #[no_mangle]
 pub extern "C" fn cup_write(state: State, buffer: &mut [u8]) -> Written
-    ensures { λ r. ⌜ r ≡ writeOf state (now (buffer .entry)) ⌝ }
-    ensures { λ _. ⌜ now (buffer .exit) ≡ bufferOfWrite state (now (buffer .entry)) ⌝ }
+    ensures answer { λ r. ⌜ r ≡ writeOf state (now (buffer .entry)) ⌝ }
+    ensures buffer { λ _. ⌜ now (buffer .exit) ≡ bufferOfWrite state (now (buffer .entry)) ⌝ }
 {
     write(state, buffer)
 }
@@ -178,8 +178,8 @@ pub extern "C" fn cup_tables(state: State) -> Tables
 // The public call `run_lazy`.
 #[no_mangle]
 pub extern "C" fn cup_run_lazy(state: State, budget: u64, buffer: &mut [u8]) -> Ran
-    ensures { λ r. ⌜ r ≡ runOf Lazy state budget (now (buffer .entry)) ⌝ }
-    ensures { λ _. ⌜ now (buffer .exit) ≡ bufferOfRun Lazy state budget (now (buffer .entry)) ⌝ }
+    ensures answer { λ r. ⌜ r ≡ runOf Lazy state budget (now (buffer .entry)) ⌝ }
+    ensures buffer { λ _. ⌜ now (buffer .exit) ≡ bufferOfRun Lazy state budget (now (buffer .entry)) ⌝ }
 {
     run_lazy(state, budget, buffer)
 }
@@ -187,8 +187,8 @@ pub extern "C" fn cup_run_lazy(state: State, budget: u64, buffer: &mut [u8]) -> 
 // The public call `run_eager`.
 #[no_mangle]
 pub extern "C" fn cup_run_eager(state: State, budget: u64, buffer: &mut [u8]) -> Ran
-    ensures { λ r. ⌜ r ≡ runOf Eager state budget (now (buffer .entry)) ⌝ }
-    ensures { λ _. ⌜ now (buffer .exit) ≡ bufferOfRun Eager state budget (now (buffer .entry)) ⌝ }
+    ensures answer { λ r. ⌜ r ≡ runOf Eager state budget (now (buffer .entry)) ⌝ }
+    ensures buffer { λ _. ⌜ now (buffer .exit) ≡ bufferOfRun Eager state budget (now (buffer .entry)) ⌝ }
 {
     run_eager(state, budget, buffer)
 }

@@ -29,8 +29,8 @@ pub struct Turn {
 // Before the first turn: "a declined plan prints "refused", number, entry", and no turn follows.
 pub fn begin(file: &[u8], text: &mut [u8]) -> Turn
     requires { ⌜ 14 ≤ length (now text) ⌝ }
-    ensures { λ r. ⌜ r ≡ firstOf (now (file .entry)) ⌝ }
-    ensures { λ _. ⌜ now (text .exit) ≡ over (firstText (now (file .entry))) (now (text .entry)) ⌝ }
+    ensures answer { λ r. ⌜ r ≡ firstOf (now (file .entry)) ⌝ }
+    ensures text { λ _. ⌜ now (text .exit) ≡ over (firstText (now (file .entry))) (now (text .entry)) ⌝ }
 {
     let loaded = load(file);
     let state = loaded.state;
@@ -52,10 +52,11 @@ pub fn begin(file: &[u8], text: &mut [u8]) -> Turn
 // One run: "prints each event as tick, source, value", and where the status is 1 or 2 "then "end", status, clock, instants, updates". A
 // sound state and these lengths suffice for the run to be accepted and for the text to fit.
 pub fn take_turn(state: State, events: &mut [u8], text: &mut [u8]) -> Turn
-    requires { ⌜ Sound state × (30720 ≤ length (now events)) × (66600 ≤ length (now text)) ⌝ }
-    ensures { λ r. ⌜ r ≡ turnOf state ⌝ }
-    ensures { λ _. ⌜ now (events .exit) ≡ over (ranEvents Lazy state 64) (now (events .entry)) ⌝ }
-    ensures { λ _. ⌜ now (text .exit) ≡ over (turnText state) (now (text .entry)) ⌝ }
+    requires sound { ⌜ Sound state ⌝ }
+    requires room { ⌜ (30720 ≤ length (now events)) × (66600 ≤ length (now text)) ⌝ }
+    ensures answer { λ r. ⌜ r ≡ turnOf state ⌝ }
+    ensures events { λ _. ⌜ now (events .exit) ≡ over (ranEvents Lazy state 64) (now (events .entry)) ⌝ }
+    ensures text { λ _. ⌜ now (text .exit) ≡ over (turnText state) (now (text .entry)) ⌝ }
 {
     let ran = run_lazy(state, BUDGET, events);
     let lines = write_lines(text, events, ran.written / EVENT_BYTES);

@@ -71,7 +71,7 @@ returns-2 c = search needs
 
 take-turn-requires : tie.Need-take-turn-requires Inv-loop μ-loop
 take-turn-requires c κs =
-    let l = c .before .before .before .before .before .before .before .before .loop in (l .inv .1 .1 .sound, omega (arith, l .inv .0), omega (arith, l .inv .1 .0))
+    let l = c .before .before .before .before .before .before .before .before .loop in (l .inv .1 .1 .sound, (omega (arith, l .inv .0), omega (arith, l .inv .1 .0)))
 
 -- ---- behind a turn: the loop's variables before it, what was tested, and the turn
 module _ (c : tie.After-slice-known3 Inv-loop μ-loop) where

@@ -16,8 +16,8 @@ write-lines-requires : tie.Need-write-lines-requires
 write-lines-requires c κs =
     let ran = c .before .before .before .before .before in
     let start = ran .before .before .before .before in
-    lines-ready (start .args .state) (start .pre .0) (now (start .args .events)) (start .pre .1) (ran .run-lazy .ensures .0) (ran .run-lazy .ensures .1)
-    (start .pre .2)
+    lines-ready (start .args .state) (start .pre .0) (now (start .args .events)) (start .pre .1 .0) (ran .run-lazy .ensures .0) (ran .run-lazy .ensures .1)
+    (start .pre .1 .1)
 
 same-length : tie.Need-same-length
 same-length c = search needs
@@ -39,8 +39,8 @@ module _ (c : tie.After-write-lines) where
 returns : tie.Need-returns
 returns c =
     let w = c .before .before .before .before .before in
-    turn-paused (start w .args .state) (start w .pre .0) (buffer w) (start w .pre .1) (ran w .run-lazy .ensures .0) (ran w .run-lazy .ensures .1)
-    (start w .pre .2) (w .write-lines .ensures) (c .if1 .taken)
+    turn-paused (start w .args .state) (start w .pre .0) (buffer w) (start w .pre .1 .0) (ran w .run-lazy .ensures .0) (ran w .run-lazy .ensures .1)
+    (start w .pre .1 .1) (w .write-lines .ensures) (c .if1 .taken)
 
 cast-clock : tie.Need-cast-clock
 cast-clock c = search needs
@@ -48,8 +48,8 @@ cast-clock c = search needs
 sub-write-end : tie.Need-sub-write-end
 sub-write-end c =
     let w = c .before .before .before .before .before .before in
-    end-place (start w .args .state) (start w .pre .0) (buffer w) (start w .pre .1) (ran w .run-lazy .ensures .0) (ran w .run-lazy .ensures .1)
-    (start w .pre .2) (w .write-lines .ensures)
+    end-place (start w .args .state) (start w .pre .0) (buffer w) (start w .pre .1 .0) (ran w .run-lazy .ensures .0) (ran w .run-lazy .ensures .1)
+    (start w .pre .1 .1) (w .write-lines .ensures)
 
 part-write-end-start : tie.Need-part-write-end-start
 part-write-end-start c = omega (arith, sub-write-end c)
@@ -60,15 +60,15 @@ part-write-end-end c = search needs
 write-end-requires : tie.Need-write-end-requires
 write-end-requires c κs =
     let w = c .before .before .before .before .before .before .before in
-    end-ready (start w .args .state) (start w .pre .0) (buffer w) (start w .pre .1) (ran w .run-lazy .ensures .0) (ran w .run-lazy .ensures .1)
-    (start w .pre .2) (w .write-lines .ensures)
+    end-ready (start w .args .state) (start w .pre .0) (buffer w) (start w .pre .1 .0) (ran w .run-lazy .ensures .0) (ran w .run-lazy .ensures .1)
+    (start w .pre .1 .1) (w .write-lines .ensures)
 
 add-t15 : tie.Need-add-t15
 add-t15 c =
     let w = c .before .before .before .before .before .before .before .before .before .before in
     let size =
-    turn-length (start w .args .state) (start w .pre .0) (buffer w) (start w .pre .1) (ran w .run-lazy .ensures .0) (ran w .run-lazy .ensures .1)
-    (start w .pre .2) (w .write-lines .ensures)
+    turn-length (start w .args .state) (start w .pre .0) (buffer w) (start w .pre .1 .0) (ran w .run-lazy .ensures .0) (ran w .run-lazy .ensures .1)
+    (start w .pre .1 .1) (w .write-lines .ensures)
     (c .before .before .write-end .ensures) in
     omega (arith, size, start w .good)
 
@@ -81,8 +81,8 @@ same-length-4 c = search needs
 returns-2 : tie.Need-returns-2
 returns-2 c =
     let w = c .before .before .before .before .before .before .before .before .before .before in
-    turn-stopped (start w .args .state) (start w .pre .0) (buffer w) (start w .pre .1) (ran w .run-lazy .ensures .0) (ran w .run-lazy .ensures .1)
-    (start w .pre .2) (w .write-lines .ensures)
+    turn-stopped (start w .args .state) (start w .pre .0) (buffer w) (start w .pre .1 .0) (ran w .run-lazy .ensures .0) (ran w .run-lazy .ensures .1)
+    (start w .pre .1 .1) (w .write-lines .ensures)
     (c .before .before .write-end .ensures) (c .before .before .before .before .before .if1 .left)
 
 pub take-turn-spec : {M : Type 1} → statement M
