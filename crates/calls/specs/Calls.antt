@@ -8,6 +8,8 @@ use Prim.Native.Nat.{ℕ, _+_, _*_}
 use lib.IntN.{pos}
 use lib.Dec.{leb, ltb, eqb}
 use lib.ListN.{length, drop}
+use Rattle.plan.specs.Numbers.{largestBudget, eventSize, acceptance, refusedUnsound, refusedBudget, refusedRunBuffer}
+use Rattle.plan.specs.Numbers.{refusedWriteBuffer, refusedIntegratorNumber}
 use Rattle.plan.specs.Format.{planIn}
 use Rattle.plan.specs.Refusals.{numberOf, entryOf, findingOf, accepted}
 use Rattle.plan.specs.Encoding.{fileLength, encode}
@@ -38,31 +40,31 @@ loadOf file =
 
 -- ---- plan writer: 10, 13
 unfoldable pub writeNumber : State → ℕ → ℕ
-writeNumber st room = cond (isSound st) (cond (leb (fileLength (st .plan)) room) 0 13) 10
+writeNumber st room = cond (isSound st) (cond (leb (fileLength (st .plan)) room) acceptance refusedWriteBuffer) refusedUnsound
 
 -- "The writer writes the state's plan and returns the length; bytes after it keep their value."
 unfoldable pub writeOf : State → List ℕ → Written
 writeOf st buffer =
     record {
       number = writeNumber st (length buffer);
-      length = cond (eqb (writeNumber st (length buffer)) 0) (fileLength (st .plan)) 0;
+      length = cond (eqb (writeNumber st (length buffer)) acceptance) (fileLength (st .plan)) 0;
       state = st;
     }
 
 unfoldable pub bufferOfWrite : State → List ℕ → List ℕ
-bufferOfWrite st buffer = cond (eqb (writeNumber st (length buffer)) 0) (over (encode (st .plan)) buffer) buffer
+bufferOfWrite st buffer = cond (eqb (writeNumber st (length buffer)) acceptance) (over (encode (st .plan)) buffer) buffer
 
 -- ---- runs: 10, 11, 12
 -- "A run's buffer is shorter than budget×(n+m)×12 bytes": the room that a run asks
 unfoldable pub roomOf : Plan → ℕ → ℕ
-roomOf p budget = budget * (p .counts .n + p .counts .m) * 12
+roomOf p budget = budget * (p .counts .n + p .counts .m) * eventSize
 
 -- what is left to decline once the state is sound: "A run's budget is above 1,024", then the buffer
 unfoldable pub declineOf : Plan → ℕ → ℕ → ℕ
-declineOf p budget room = cond (leb budget 1024) (cond (leb (roomOf p budget) room) 0 12) 11
+declineOf p budget room = cond (leb budget largestBudget) (cond (leb (roomOf p budget) room) acceptance refusedRunBuffer) refusedBudget
 
 unfoldable pub runNumber : State → ℕ → ℕ → ℕ
-runNumber st budget room = cond (isSound st) (declineOf (st .plan) budget room) 10
+runNumber st budget room = cond (isSound st) (declineOf (st .plan) budget room) refusedUnsound
 
 module _ (engine : Engine) (st : State) (budget : ℕ) where
   -- the state after an accepted run, and the bytes of its events
@@ -75,7 +77,7 @@ module _ (engine : Engine) (st : State) (budget : ℕ) where
   -- "answers status, integrator (0 unless range) and bytes written from the buffer's start; later bytes keep their value"
   unfoldable pub runOf : List ℕ → Ran
   runOf buffer =
-      let accepts = eqb (runNumber st budget (length buffer)) 0 in
+      let accepts = eqb (runNumber st budget (length buffer)) acceptance in
       record {
         number = runNumber st budget (length buffer);
         status = cond accepts (statusOf (st .plan) (ranState .run)) 0;
@@ -85,17 +87,17 @@ module _ (engine : Engine) (st : State) (budget : ℕ) where
       }
 
   unfoldable pub bufferOfRun : List ℕ → List ℕ
-  bufferOfRun buffer = cond (eqb (runNumber st budget (length buffer)) 0) (over ranEvents buffer) buffer
+  bufferOfRun buffer = cond (eqb (runNumber st budget (length buffer)) acceptance) (over ranEvents buffer) buffer
 
 -- ---- position call: 10, 14
 unfoldable pub positionNumber : State → ℕ → ℕ
-positionNumber st i = cond (isSound st) (cond (ltb i (st .plan .counts .n)) 0 14) 10
+positionNumber st i = cond (isSound st) (cond (ltb i (st .plan .counts .n)) acceptance refusedIntegratorNumber) refusedUnsound
 
 -- "Position call: x+s×(c−l) for a numbered integrator."
 unfoldable pub positionedOf : State → ℕ → Positioned
 positionedOf st i =
     record {
       number = positionNumber st i;
-      value = cond (eqb (positionNumber st i) 0) (positionOf (st .run) i) (pos 0);
+      value = cond (eqb (positionNumber st i) acceptance) (positionOf (st .run) i) (pos 0);
       state = st;
     }

@@ -9,7 +9,7 @@ use lib.Dec.{eqb}
 use lib.ListN.{length}
 use Rattle.integers.specs.Parts.{∣_∣}
 use Rattle.bitset.specs.Counts.{countOf}
-use Rattle.plan.specs.Numbers.{M, never}
+use Rattle.plan.specs.Numbers.{M, largestHorizon, never, largestBudget, listingBudget, mostIntegrators, mostCommands, longestFile}
 use Rattle.plan.specs.Format.{offsetIn, lengthIn}
 use Rattle.plan.specs.Lists.{natAt, intAt}
 use Rattle.plan.specs.Refusals.{sectionOf, sectionStart}
@@ -35,7 +35,7 @@ pub record RunLimits (answer : Ran) : Type 0 where
 -- of an accepted file
 pub record AcceptedLimits (file : List ℕ) : Type 0 where
   pub shortest : 52 ≤ length file
-  pub longest : length file ≤ 4492
+  pub longest : length file ≤ longestFile
   -- of a section view: how long it is, and that it ends inside the file
   pub view : (number : ℕ) → number ≤ 4 → length (sectionOf file number) ≤ 3072
   pub view-end : (number : ℕ) → number ≤ 4 → sectionStart file number + length (sectionOf file number) ≤ length file
@@ -50,7 +50,7 @@ pub record FileLimits (file : List ℕ) : Type 0 where
 
 -- of what the other calls answer on any state
 pub record AnswerLimits (st : State) : Type 0 where
-  pub write : (buffer : List ℕ) → (writeOf st buffer .number ≤ 14) × (writeOf st buffer .length ≤ 4492)
+  pub write : (buffer : List ℕ) → (writeOf st buffer .number ≤ 14) × (writeOf st buffer .length ≤ longestFile)
   pub written : (buffer : List ℕ) → writeOf st buffer .number ≡ 0 → 52 ≤ writeOf st buffer .length
   pub position : (i : ℕ) → (positionedOf st i .number ≤ 14) × (∣ positionedOf st i .value ∣ < 2 ^ 31)
   pub run : (engine : Engine) (budget : ℕ) (buffer : List ℕ) → RunLimits (runOf engine st budget buffer)
@@ -90,7 +90,7 @@ module _ (p : Plan) (r : Running) where
     pub above : (t : ℕ) → r .clocks .clock ≤ t → t < natAt (r .d) i → lowerLevel p (r .q) i <ℤ positionAt r t i
     pub below : (t : ℕ) → r .clocks .clock ≤ t → t < natAt (r .d) i → positionAt r t i <ℤ upperLevel p (r .q) i
     pub slope : ∣ intAt (r .s) i ∣ ≤ 56 * 2 ^ 38
-    pub due : (natAt (r .d) i ≡ never) ⊎ (natAt (r .d) i ≤ 2000000000 + (2 ^ 31 - 1))
+    pub due : (natAt (r .d) i ≡ never) ⊎ (natAt (r .d) i ≤ largestHorizon + (2 ^ 31 - 1))
     -- of one that moves: a tick, which never is not
     pub moving : (intAt (r .s) i ≡ pos 0 → ⊥) → natAt (r .d) i < never
     -- up to the due tick
@@ -111,12 +111,12 @@ module _ (p : Plan) (r : Running) where
     pub rates : RateLimits p (r .q) (r .inputs)
     pub integrators : (i : ℕ) → i < p .counts .n → IntegratorLimits i
     pub tick : statusOf p r ≡ 0 → (r .clocks .clock < tickOf p r) × (tickOf p r ≤ p .horizon)
-    pub next : r .clocks .next ≤ 64
-    pub instants : r .clocks .instants ≤ 2000000000
-    pub updates : r .clocks .updates ≤ 32 * 2000000000
+    pub next : r .clocks .next ≤ mostCommands
+    pub instants : r .clocks .instants ≤ largestHorizon
+    pub updates : r .clocks .updates ≤ mostIntegrators * largestHorizon
     -- the bytes of an instant's events, of a run's, and of the listing program's runs
     pub instant : length (eventsOf p r) ≤ 480
     pub bytes : (engine : Engine) (budget : ℕ) → length (events p engine budget r) ≤ roomOf p budget
-    pub room : (budget : ℕ) → budget ≤ 1024 → roomOf p budget ≤ 491520
-    pub listing : roomOf p 64 ≤ 30720
+    pub room : (budget : ℕ) → budget ≤ largestBudget → roomOf p budget ≤ 491520
+    pub listing : roomOf p listingBudget ≤ 30720
     pub printed : PrintedLimits

@@ -6,6 +6,7 @@ use mathlib.Core.List.{List, [], _∷_, _++_}
 use Prim.Native.Nat.{ℕ, _+_, _-_}
 use lib.Dec.{leb, eqb}
 use lib.ListN.{take}
+use Rattle.plan.specs.Numbers.{acceptance}
 use Rattle.machine.specs.declared.State.{State}
 use Rattle.machine.specs.declared.Engine.{Engine}
 use Rattle.machine.specs.declared.Engine.the-variants.{Lazy}
@@ -27,7 +28,7 @@ bufferOf st c = bufferOfRun (c .engine) st (c .budget) (c .buffer)
 
 -- what a call feeds the plain machine: its budget, and "a declined call feeds it nothing"
 unfoldable pub fedBy : State → Call → ℕ
-fedBy st c = cond (eqb (answerOf st c .number) 0) (c .budget) 0
+fedBy st c = cond (eqb (answerOf st c .number) acceptance) (c .budget) 0
 
 -- the state after a list of calls
 unfoldable pub afterCalls : State → List Call → State

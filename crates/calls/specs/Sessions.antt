@@ -7,6 +7,7 @@ use mathlib.Core.List.{List, [], _∷_, _++_}
 use Prim.Native.Nat.{ℕ, _+_}
 use lib.Dec.{eqb}
 use lib.ListN.{take}
+use Rattle.plan.specs.Numbers.{acceptance}
 use Rattle.machine.specs.declared.State.{State}
 use Rattle.calls.specs.Calls.{runOf, bufferOfRun}
 use Rattle.calls.specs.Lists.{Call, answerOf, bufferOf}
@@ -37,7 +38,7 @@ lastState st (made ∷ later) = lastState (made .answer .state) later
 -- "the budgets of a list's accepted run calls added up"
 unfoldable pub acceptedSum : List Made → ℕ
 acceptedSum [] = 0
-acceptedSum (made ∷ later) = cond (eqb (made .answer .number) 0) (made .call .budget) 0 + acceptedSum later
+acceptedSum (made ∷ later) = cond (eqb (made .answer .number) acceptance) (made .call .budget) 0 + acceptedSum later
 
 -- "the bytes that accepted calls answer as written, joined in call order"
 unfoldable pub writtenBytes : List Made → List ℕ
