@@ -1,4 +1,4 @@
--- What lies ahead of a state as the code works it out. What it is by document 01: Laws/Aheads.
+-- Model of the code: what lies ahead of a state as the code works it out. What it is by document 01: Laws/Aheads.
 use mathlib.Core.Bool.{cond}
 use mathlib.Core.List.{List}
 use Prim.Native.Nat.{ℕ, _≤_, min}

@@ -1,4 +1,4 @@
--- What a run answers, from machine.specs.Runs, and what it asks.
+-- Model of the code: what a run answers, in the words of `machine/Runs`, and what it asks.
 use Prim.Native.Nat.{ℕ, _+_, _*_, _≤_}
 use lib.ListN.{length}
 use Rattle.plan.specs.declared.Plan.{Plan}

@@ -1,4 +1,5 @@
--- A plan and running figures whose arrays are lent one by one, as the plan and the figures that they make up; and what an instant asks.
+-- Model of the code: a plan and running figures whose arrays are lent one by one, as the plan and the figures that they make up; and what
+-- an instant asks. What an instant is by document 01: Laws/Instants.
 use mathlib.Core.Path.{_≡_}
 use mathlib.Core.Bool.{true}
 use mathlib.Core.List.{List}

@@ -1,4 +1,4 @@
--- One integrator moved, and all of a mask, as the code does it. What that is by document 01: Laws/Moves.
+-- Model of the code: one integrator moved, and all of a mask, as the code does it. What that is by document 01: Laws/Moves.
 use mathlib.Core.Path.{_≡_}
 use mathlib.Core.Bool.{true}
 use mathlib.Core.List.{List}

@@ -1,4 +1,5 @@
--- The commands of a tick as the code obeys them, one after the other from the next one on. What they are by document 01: Laws/Settings.
+-- Model of the code: the commands of a tick as the code obeys them, one after the other from the next one on. What they are by document 01:
+-- Laws/Settings.
 use mathlib.Core.Bool.{cond}
 use mathlib.Core.List.{List}
 use Prim.Native.Nat.{ℕ, zero, suc, _+_, _≤_, _<_}

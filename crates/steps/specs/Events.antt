@@ -1,4 +1,4 @@
--- The events of the changed sources in a buffer. What they are by document 01: Laws/EventBytes.
+-- Model of the code: the events of the changed sources in a buffer. What they are by document 01: Laws/EventBytes.
 use mathlib.Core.Path.{_≡_}
 use mathlib.Core.Bool.{true, cond}
 use mathlib.Core.List.{List, [], _++_}

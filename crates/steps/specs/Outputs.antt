@@ -1,4 +1,4 @@
--- The outputs of the due integrators as the code sets them. What they are by document 01: Laws/Outputs.
+-- Model of the code: the outputs of the due integrators as the code sets them. What they are by document 01: Laws/Outputs.
 use mathlib.Core.List.{List}
 use Prim.Native.Nat.{ℕ, _-_}
 use lib.IntN.{ℤ, pos, _+ℤ_, _*ℤ_}

@@ -1,4 +1,4 @@
--- What lies ahead of a sound state, by document 01. Assumes nothing.
+-- Laws: what lies ahead of a sound state, by document 01. Assumes nothing.
 use mathlib.Core.Path.{_≡_, refl}
 use Rattle.bitset.specs.Mask.{maskOf}
 use Rattle.plan.specs.Laws.Counts.{counts-of}

@@ -1,4 +1,4 @@
--- The turns of a run: what its loop keeps, from the first instant to the last, and what it leaves. Assumes nothing.
+-- Laws: the turns of a run: what its loop keeps, from the first instant to the last, and what it leaves. Assumes nothing.
 use mathlib.Core.Path.{_≡_, refl, sym, ap, _∙_}
 use mathlib.Core.Bool.{true}
 use mathlib.Core.List.{List, []}

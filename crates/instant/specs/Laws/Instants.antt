@@ -1,4 +1,4 @@
--- One instant as the code takes it, step by step, is the machine's. Assumes nothing.
+-- Laws: one instant as the code takes it, step by step, is the machine's. Assumes nothing.
 use mathlib.Core.Path.{_≡_, refl, sym, ap, _∙_}
 use mathlib.Core.Bool.{Bool, true, false}
 use mathlib.Core.List.{List}

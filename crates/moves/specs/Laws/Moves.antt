@@ -1,4 +1,5 @@
--- The walk over a mask of integrators moves them as document 01 asks, and what it asks holds at an instant of a sound state. Assumes nothing.
+-- Laws: the walk over a mask of integrators moves them as document 01 asks, and what it asks holds at an instant of a sound state. Assumes
+-- nothing.
 use mathlib.Core.Path.{_≡_, refl, sym, ap, _∙_}
 use mathlib.Core.Bool.{Bool, true, false, cond, true≢false}
 use mathlib.Core.List.{List}

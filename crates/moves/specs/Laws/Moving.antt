@@ -1,4 +1,5 @@
--- Moving an integrator stores its own figures and leaves those of the others, so what is left of a mask can still be moved. Assumes nothing.
+-- Laws: moving an integrator stores its own figures and leaves those of the others, so what is left of a mask can still be moved. Assumes
+-- nothing.
 use mathlib.Core.Path.{_≡_, ap, sym, _∙_}
 use mathlib.Core.Bool.{not, Bool·not-not, and-eq-true-iff}
 use mathlib.Core.List.{List}

@@ -6,7 +6,7 @@ use Rattle.plan.specs.Laws.Answers.{accepted-rules}
 use Rattle.entryrules.specs.Laws.Trying.{not-clean}
 use Rattle.planfile.specs.Laws.Reading.{reading-finding, reading-plan, reading-accepts, reading-refuses}
 use Rattle.machine.specs.Start.{startState}
-use Rattle.simulator.specs.Answers.{load-refused, load-accepted}
+use Rattle.simulator.specs.Laws.Answers.{load-refused, load-accepted}
 use Rattle.simulator.proofs.load.Statement.{statement}
 use Rattle.simulator.proofs.load.Tie as tie
 

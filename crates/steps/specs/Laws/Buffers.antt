@@ -1,5 +1,5 @@
--- Laws of bytes that are put into a buffer from a place on: none, the buffer's length, bytes behind one another, and words that were
--- written into a part that was lent. Assumes nothing.
+-- Laws: bytes that are put into a buffer from a place on: none, the buffer's length, bytes behind one another, and words that were written
+-- into a part that was lent. Assumes nothing.
 use mathlib.Core.Path.{_≡_, _∙_}
 use mathlib.Core.List.{List, [], _++_, append-assoc, append-nil}
 use Prim.Native.Nat.{ℕ, _+_, _-_, _≤_}

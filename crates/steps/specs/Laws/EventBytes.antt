@@ -1,4 +1,4 @@
--- The events of the changed sources are those of the instant, and what writing them asks. Assumes nothing.
+-- Laws: the events of the changed sources are those of the instant, and what writing them asks. Assumes nothing.
 use mathlib.Core.Path.{_≡_, refl, sym, ap, _∙_}
 use mathlib.Core.Bool.{Bool, true, false, cond, true≢false}
 use mathlib.Core.List.{List, [], append-nil}

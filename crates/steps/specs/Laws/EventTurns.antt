@@ -1,4 +1,5 @@
--- The events of a mask are that of its lowest source and then those of the rest: the turns of the loop that writes them. Assumes nothing.
+-- Laws: the events of a mask are that of its lowest source and then those of the rest: the turns of the loop that writes them. Assumes
+-- nothing.
 use mathlib.Core.Path.{_≡_, refl, sym, ap, _∙_}
 use mathlib.Core.Bool.{Bool, true, false, cond, and-eq-true-iff}
 use mathlib.Core.List.{List, [], _++_, append-assoc, append-nil}

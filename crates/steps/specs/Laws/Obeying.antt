@@ -1,4 +1,4 @@
--- The turns of the loop that obeys the commands of a tick: one more command, one of another tick, and none left. Assumes nothing.
+-- Laws: the turns of the loop that obeys the commands of a tick: one more command, one of another tick, and none left. Assumes nothing.
 use mathlib.Core.Path.{_≡_, refl}
 use mathlib.Core.Bool.{true, false}
 use mathlib.Core.List.{List}

@@ -1,4 +1,4 @@
--- The walk over the due integrators sets the outputs that document 01 asks for, in q and at their source numbers. Assumes nothing.
+-- Laws: the walk over the due integrators sets the outputs that document 01 asks for, in q and at their source numbers. Assumes nothing.
 use mathlib.Core.Path.{_≡_, sym, _∙_}
 use mathlib.Core.List.{List}
 use Prim.Native.Nat.{ℕ, _≤_, _<_}

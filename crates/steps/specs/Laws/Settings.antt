@@ -1,5 +1,5 @@
--- The commands of a tick, obeyed one after the other from the next one on, are step 2 of an instant: the inputs' values, which inputs are
--- commanded, and the next command. Assumes nothing.
+-- Laws: the commands of a tick, obeyed one after the other from the next one on, are step 2 of an instant: the inputs' values, which inputs
+-- are commanded, and the next command. Assumes nothing.
 use mathlib.Core.Path.{_≡_, refl, sym, ap, _∙_}
 use mathlib.Core.Bool.{Bool, true, false, cond, or-false}
 use mathlib.Core.Logic.{⊎-elim}

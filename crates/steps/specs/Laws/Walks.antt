@@ -1,4 +1,4 @@
--- A walk over a mask whose step at j stores entry j, by what the entry holds, and keeps the others: what each entry holds behind it.
+-- Laws: a walk over a mask whose step at j stores entry j, by what the entry holds, and keeps the others: what each entry holds behind it.
 -- Assumes nothing.
 use mathlib.Core.Path.{_≡_, refl, sym, ap, _∙_}
 use mathlib.Core.Bool.{Bool, true, false, cond}

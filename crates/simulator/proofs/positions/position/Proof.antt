@@ -9,7 +9,7 @@ use mir.Facts.{toZ-ofZ}
 use Rattle.plan.specs.Laws.Counts.{counts-of}
 use Rattle.machine.specs.SoundTest.{isSound}
 use Rattle.machine.specs.Laws.Tested.{sound-means}
-use Rattle.simulator.specs.Answers.{position-unsound, position-above, position-ready, position-known}
+use Rattle.simulator.specs.Laws.Answers.{position-unsound, position-above, position-ready, position-known}
 use Rattle.simulator.proofs.positions.position.Statement.{statement}
 use Rattle.simulator.proofs.positions.position.Tie as tie
 

@@ -12,7 +12,7 @@ use Rattle.machine.specs.Laws.Tested.{sound-means}
 use Rattle.machine.specs.declared.State.{State}
 use Rattle.calls.specs.Calls.{roomOf}
 use Rattle.calls.specs.Proofs.StateLimits.{room-most}
-use Rattle.simulator.specs.Answers.{run-unsound, run-above, run-short, run-ready, run-accepted}
+use Rattle.simulator.specs.Laws.Answers.{run-unsound, run-above, run-short, run-ready, run-accepted}
 use Rattle.simulator.proofs.runs.run_by.Statement.{statement}
 use Rattle.simulator.proofs.runs.run_by.Tie as tie
 
