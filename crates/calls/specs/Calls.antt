@@ -15,7 +15,7 @@ use Rattle.plan.specs.Refusals.{numberOf, entryOf, findingOf, accepted}
 use Rattle.plan.specs.Encoding.{fileLength, encode}
 use Rattle.plan.specs.declared.Plan.{Plan}
 use Rattle.machine.specs.Start.{startState, idleState}
-use Rattle.machine.specs.Status.{statusOf, integratorOf}
+use Rattle.machine.specs.Status.{statusNumber, statusIntegrator, statusOf}
 use Rattle.machine.specs.Runs.{after, events, positionOf}
 use Rattle.machine.specs.SoundTest.{isSound}
 use Rattle.machine.specs.declared.State.{State}
@@ -80,8 +80,8 @@ module _ (engine : Engine) (st : State) (budget : ℕ) where
       let accepts = eqb (runNumber st budget (length buffer)) acceptance in
       record {
         number = runNumber st budget (length buffer);
-        status = cond accepts (statusOf (st .plan) (ranState .run)) 0;
-        integrator = cond accepts (integratorOf (st .plan) (ranState .run)) 0;
+        status = cond accepts (statusNumber (statusOf (st .plan) (ranState .run))) 0;
+        integrator = cond accepts (statusIntegrator (statusOf (st .plan) (ranState .run))) 0;
         written = cond accepts (length ranEvents) 0;
         state = cond accepts ranState st;
       }

@@ -22,6 +22,7 @@ use Rattle.machine.specs.Runs.{events, positionOf}
 use Rattle.machine.specs.declared.Running.{Running}
 use Rattle.machine.specs.declared.State.{State}
 use Rattle.machine.specs.declared.Engine.{Engine}
+use Rattle.machine.specs.declared.Status.the-variants.{Paused}
 use Rattle.calls.specs.Calls.{loadOf, writeOf, roomOf, runOf, positionedOf}
 use Rattle.calls.specs.declared.Ran.{Ran}
 
@@ -99,9 +100,9 @@ module _ (p : Plan) (r : Running) where
 
   -- of the numbers that the listing program prints, by their digits: tick, source and value of an event; clock, instants and updates
   pub record PrintedLimits : Type 0 where
-    pub tick : statusOf p r ≡ 0 → tickOf p r < 10 ^ 10
+    pub tick : statusOf p r ≡ Paused → tickOf p r < 10 ^ 10
     pub source : p .counts .n + p .counts .m ≤ 10 ^ 2
-    pub output : statusOf p r ≡ 0 → (i : ℕ) → i < p .counts .n → natAt (r .d) i ≡ tickOf p r → ∣ positionAt r (tickOf p r) i ∣ < 10 ^ 10
+    pub output : statusOf p r ≡ Paused → (i : ℕ) → i < p .counts .n → natAt (r .d) i ≡ tickOf p r → ∣ positionAt r (tickOf p r) i ∣ < 10 ^ 10
     pub setting : (e : ℕ) → e < p .counts .commands → ∣ intAt (p .commands .values) e ∣ < 10 ^ 10
     pub clock : r .clocks .clock < 10 ^ 10
     pub instants : r .clocks .instants < 10 ^ 10
@@ -110,7 +111,7 @@ module _ (p : Plan) (r : Running) where
   pub record StateLimits : Type 0 where
     pub rates : RateLimits p (r .q) (r .inputs)
     pub integrators : (i : ℕ) → i < p .counts .n → IntegratorLimits i
-    pub tick : statusOf p r ≡ 0 → (r .clocks .clock < tickOf p r) × (tickOf p r ≤ p .horizon)
+    pub tick : statusOf p r ≡ Paused → (r .clocks .clock < tickOf p r) × (tickOf p r ≤ p .horizon)
     pub next : r .clocks .next ≤ mostCommands
     pub instants : r .clocks .instants ≤ largestHorizon
     pub updates : r .clocks .updates ≤ mostIntegrators * largestHorizon

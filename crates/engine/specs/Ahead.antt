@@ -9,7 +9,8 @@ use Rattle.plan.specs.Numbers.{never}
 use Rattle.plan.specs.Lists.{natAt, firstFrom}
 use Rattle.machine.specs.Next.{leastDue}
 use Rattle.machine.specs.Reach.{isDue}
-use Rattle.timing.specs.Standing.{barsIn, standingOf, DueReach}
+use Rattle.machine.specs.Status.{statusBy}
+use Rattle.timing.specs.Status.{barsIn, DuePositionsReady}
 use Rattle.engine.specs.declared.ahead.Ahead.{Ahead}
 
 module _ (n commands next : ℕ) (ticks : List ℕ) (x s : List ℤ) (l d : List ℕ) where
@@ -23,10 +24,9 @@ module _ (n commands next : ℕ) (ticks : List ℕ) (x s : List ℤ) (l d : List
   pub record AheadReady : Type 0 where
     pub few : n ≤ 32
     pub listed : commands ≤ 64
-    pub reach : DueReach dueAhead tickAhead x s l
+    pub positions : DuePositionsReady dueAhead tickAhead x s l
 
 unfoldable pub aheadOf : ℕ → ℕ → ℕ → ℕ → List ℕ → List ℤ → List ℤ → List ℕ → List ℕ → Ahead
 aheadOf horizon n commands next ticks x s l d =
     let t = tickAhead n commands next ticks x s l d in let due = dueAhead n commands next ticks x s l d in
-    let standing = standingOf horizon n t (firstFrom (barsIn due t x s l) 0 n) in
-    record { tick = t; due = due; status = standing .status; integrator = standing .integrator }
+    record { tick = t; due = due; status = statusBy horizon n t (firstFrom (barsIn due t x s l) 0 n) }

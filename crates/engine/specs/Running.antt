@@ -2,7 +2,7 @@
 use Prim.Native.Nat.{ℕ, _+_, _*_, _≤_}
 use lib.ListN.{length}
 use Rattle.plan.specs.declared.Plan.{Plan}
-use Rattle.machine.specs.Status.{statusOf, integratorOf}
+use Rattle.machine.specs.Status.{statusOf}
 use Rattle.machine.specs.Runs.{after, events}
 use Rattle.machine.specs.Sound.{Sound}
 use Rattle.machine.specs.declared.Running.{Running}
@@ -10,12 +10,11 @@ use Rattle.machine.specs.declared.State.{State}
 use Rattle.machine.specs.declared.Engine.{Engine}
 use Rattle.engine.specs.declared.runs.Ended.{Ended}
 
--- "answers status, integrator (0 unless range) and bytes written", with the running figures after the run
+-- the status with its integrator, the bytes written, and the running figures after the run
 unfoldable pub endedOf : Plan → Engine → ℕ → Running → Ended
 endedOf p engine budget r =
     record {
       status = statusOf p (after p engine budget r);
-      integrator = integratorOf p (after p engine budget r);
       written = length (events p engine budget r);
       run = after p engine budget r;
     }

@@ -2,16 +2,16 @@
 ghost use mathlib.Core.Path.{_≡_};
 ghost use Rattle.engine.specs.Ahead.{aheadOf, AheadReady};
 use bitset::equal_to;
+use machine::Status;
 use plan::COMMANDS;
 use plan::INTEGRATORS;
 use timing::next_tick;
-use timing::standing_at;
+use timing::status_at;
 
 pub struct Ahead {
     pub tick: u32,
     pub due: u32,
-    pub status: usize,
-    pub integrator: usize,
+    pub status: Status,
 }
 
 pub fn look_ahead<'a>(
@@ -30,11 +30,6 @@ pub fn look_ahead<'a>(
 {
     let tick = next_tick(n, d, commands, ticks, next);
     let due = equal_to(n, d, tick);
-    let standing = standing_at(horizon, n, tick, due, x, s, l);
-    Ahead {
-        tick,
-        due,
-        status: standing.status,
-        integrator: standing.integrator,
-    }
+    let status = status_at(horizon, n, tick, due, x, s, l);
+    Ahead { tick, due, status }
 }

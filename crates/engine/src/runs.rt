@@ -9,14 +9,14 @@ use instant::take_instant;
 use machine::Engine;
 use machine::Running;
 use machine::State;
+use machine::Status;
 use rates::link_ranges;
 use reach::reach_table;
 use values::source_values;
 
-// The status of the state after a run, its integrator, the bytes written from the buffer's start, and the running figures.
+// The status of the state after a run, the bytes written from the buffer's start, and the running figures.
 pub struct Ended {
-    pub status: usize,
-    pub integrator: usize,
+    pub status: Status,
     pub written: usize,
     pub run: Running,
 }
@@ -61,18 +61,35 @@ pub fn run(st: State, engine: Engine, budget: u64, buf: &mut [u8]) -> Ended
     let mut clocks = r.clocks;
     let mut end: usize = 0;
     let mut taken: u64 = 0;
-    let mut ahead = look_ahead(
-        st.plan.horizon,
-        counts.n,
-        counts.commands,
-        clocks.next,
-        &st.plan.commands.ticks,
-        &x,
-        &s,
-        &l,
-        &d,
-    );
-    while taken < budget && ahead.status == 0 {
+    loop {
+        let ahead = look_ahead(
+            st.plan.horizon,
+            counts.n,
+            counts.commands,
+            clocks.next,
+            &st.plan.commands.ticks,
+            &x,
+            &s,
+            &l,
+            &d,
+        );
+        let status = ahead.status;
+        if budget <= taken || !status.is_paused() {
+            let after = Running {
+                x,
+                q,
+                s,
+                l,
+                d,
+                inputs,
+                clocks,
+            };
+            return Ended {
+                status,
+                written: end,
+                run: after,
+            };
+        }
         let step = take_instant(
             engine,
             st.plan.horizon,
@@ -108,32 +125,6 @@ pub fn run(st: State, engine: Engine, budget: u64, buf: &mut [u8]) -> Ended
         );
         clocks = step.clocks;
         end = step.end;
-        ahead = look_ahead(
-            st.plan.horizon,
-            counts.n,
-            counts.commands,
-            clocks.next,
-            &st.plan.commands.ticks,
-            &x,
-            &s,
-            &l,
-            &d,
-        );
         taken += 1;
-    }
-    let after = Running {
-        x,
-        q,
-        s,
-        l,
-        d,
-        inputs,
-        clocks,
-    };
-    Ended {
-        status: ahead.status,
-        integrator: ahead.integrator,
-        written: end,
-        run: after,
     }
 }

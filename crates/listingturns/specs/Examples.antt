@@ -22,7 +22,7 @@ use Rattle.machine.specs.Start.{startSlope, startDue, startOf, startState, idle
 use Rattle.machine.specs.Reach.{isDue, setsInput, isCommanded, changes, dependsWith, linkReaches, reached}
 use Rattle.machine.specs.Instant.{positionAt, inputThen, inputsThen, moves, eventBytes, eventsAt, outputs, slopeThen, xThen, dueThen}
 use Rattle.machine.specs.Instant.{takenAt, tickOf, instant, eventsOf}
-use Rattle.machine.specs.Status.{bars, barring, statusAt, statusOf, isPaused}
+use Rattle.machine.specs.Status.{statusNumber, statusPaused, bars, barring, statusBy, statusAt, statusOf, isPaused}
 use Rattle.machine.specs.Runs.{after, events}
 use Rattle.listingtext.specs.Decimal.{digitsIn, decimal, signedDecimal}
 use Rattle.listingtext.specs.Lines.{eventLine, endLine, refusalLine, lineAt, linesOf}
@@ -63,7 +63,7 @@ unfolding examples ceilDiv limited within countOf numberAt bytesOf signedOf unsi
     linksFinding commandsFinding planFinding findingOf accepted nodeOf valueWith valueOf sumOver rateOf upperLevel lowerLevel distance ticksTo
     dueTick dueOf nextCommand commandTick leastDue nextTick startSlope startDue startOf startState idleState isDue setsInput
     isCommanded changes dependsWith linkReaches reached positionAt inputThen inputsThen moves eventBytes eventsAt outputs slopeThen xThen
-    dueThen takenAt tickOf instant eventsOf bars barring statusAt statusOf isPaused after events
+    dueThen takenAt tickOf instant eventsOf bars barring statusNumber statusPaused statusBy statusAt statusOf isPaused after events
     digitsIn decimal signedDecimal eventLine endLine refusalLine lineAt linesOf loadOf ranState ranEvents eventLines closing listedBy listingOf
     turnState turnMore turnText firstText turnsFrom printedIn
 examples-right = refl & refl & refl & refl & refl & end

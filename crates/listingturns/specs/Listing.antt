@@ -7,7 +7,7 @@ use Prim.Native.Nat.{ℕ, _/_}
 use lib.Dec.{eqb}
 use lib.ListN.{length}
 use Rattle.plan.specs.declared.Plan.{Plan}
-use Rattle.machine.specs.Status.{statusOf}
+use Rattle.machine.specs.Status.{statusNumber, statusOf}
 use Rattle.machine.specs.Runs.{after, events}
 use Rattle.machine.specs.declared.Running.{Running}
 use Rattle.machine.specs.declared.Engine.the-variants.{Lazy}
@@ -20,7 +20,7 @@ eventLines bytes = linesOf bytes (length bytes / 12)
 
 -- "then "end", status, clock, instants, updates"
 unfoldable pub closing : Plan → Running → List ℕ
-closing p r = endLine (statusOf p r) (r .clocks .clock) (r .clocks .instants) (r .clocks .updates)
+closing p r = endLine (statusNumber (statusOf p r)) (r .clocks .clock) (r .clocks .instants) (r .clocks .updates)
 
 -- The lines of a lazy run from r on with a budget b, and the end line of where it ends. With the horizon for a budget the run always ends with
 -- status 1 or 2 (`ListingStops`), since each instant moves the clock on.

@@ -11,6 +11,7 @@ use Rattle.machine.specs.Runs.{after}
 use Rattle.machine.specs.Sound.{Sound}
 use Rattle.machine.specs.declared.State.{State}
 use Rattle.machine.specs.declared.Engine.the-variants.{Lazy}
+use Rattle.machine.specs.declared.Status.the-variants.{Paused}
 use Rattle.listingtext.specs.Decimal.{decimal, signedDecimal}
 use Rattle.listingtext.specs.Laws.Decimals.{readFrom}
 use Rattle.calls.specs.Calls.{loadOf}
@@ -19,7 +20,7 @@ use Rattle.listingturns.specs.Turns.{turnState, turnMore, turnText, firs
 
 -- a lazy run with the horizon for a budget ends with status 1 or 2
 abbrev pub ListingStops : Type 0
-ListingStops = (st : State) → Sound st → statusOf (st .plan) (after (st .plan) Lazy (st .plan .horizon) (st .run)) ≡ 0 → ⊥
+ListingStops = (st : State) → Sound st → statusOf (st .plan) (after (st .plan) Lazy (st .plan .horizon) (st .run)) ≡ Paused → ⊥
 
 -- The loop ends: a turn leaves a sound state of the same plan, and where another turn follows it has moved the clock on, which never
 -- passes the horizon.

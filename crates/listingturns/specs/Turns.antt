@@ -4,7 +4,7 @@ use mathlib.Core.List.{List, [], _++_}
 use Prim.Native.Nat.{ℕ, zero, suc}
 use lib.Dec.{eqb}
 use lib.ListN.{length}
-use Rattle.machine.specs.Status.{statusOf}
+use Rattle.machine.specs.Status.{isPaused}
 use Rattle.machine.specs.declared.State.{State}
 use Rattle.machine.specs.declared.Engine.the-variants.{Lazy}
 use Rattle.listingtext.specs.Lines.{refusalLine}
@@ -19,7 +19,7 @@ module _ (st : State) where
 
   -- "until status 1 or 2": another turn follows
   unfoldable pub turnMore : Bool
-  turnMore = eqb (statusOf (turnState .plan) (turnState .run)) 0
+  turnMore = isPaused (turnState .plan) (turnState .run)
 
   -- the lines of its events, and behind the last turn's the end line
   unfoldable pub turnText : List ℕ

@@ -4,7 +4,6 @@ use mathlib.Core.Bool.{cond, _||_}
 use mathlib.Core.List.{List, [], _++_}
 use Prim.Native.Nat.{ℕ, zero, suc, _+_, _-_}
 use lib.IntN.{ℤ, pos, _+ℤ_, _*ℤ_}
-use lib.Dec.{eqb}
 use Rattle.bitset.specs.Counts.{countOf}
 use Rattle.plan.specs.Numbers.{mostIntegrators}
 use Rattle.plan.specs.Lists.{intAt, row}
@@ -14,7 +13,8 @@ use Rattle.machine.specs.Due.{dueOf}
 use Rattle.machine.specs.Next.{nextCommand, nextTick}
 use Rattle.machine.specs.Reach.{isDue, reached}
 use Rattle.machine.specs.Instant.{inputsThen, eventsAt}
-use Rattle.machine.specs.Status.{statusAt, integratorAt}
+use Rattle.machine.specs.Status.{statusPaused, statusAt}
+use Rattle.machine.specs.declared.Status.{Status}
 
 -- positions at the clock, outputs, slopes and due ticks; input values; clock, next command and instants
 pub record Plain : Type 0 where
@@ -66,11 +66,8 @@ module _ (p : Plan) where
   unfoldable pub plainEventsOf : Plain → List ℕ
   plainEventsOf m = eventsAt p (plainTick m) (m .d) (plainOutputs m) (inputsThen p (m .inputs) (plainTick m))
 
-  unfoldable pub plainStatus : Plain → ℕ
+  unfoldable pub plainStatus : Plain → Status
   plainStatus m = statusAt p (m .d) (plainTick m) (plainPosition m)
-
-  unfoldable pub plainIntegrator : Plain → ℕ
-  plainIntegrator m = integratorAt p (m .d) (plainTick m) (plainPosition m)
 
   -- "the number that step 5 moves for the lazy engine, with the plain machine's due ticks": those due or reached
   unfoldable pub lazyCount : Plain → ℕ
@@ -79,11 +76,11 @@ module _ (p : Plan) where
   -- "From Start it takes B instants, or fewer if its status is first 1 or 2."
   unfoldable pub plainFrom : ℕ → Plain → Plain
   plainFrom zero m = m
-  plainFrom (suc b) m = cond (eqb (plainStatus m) 0) (plainFrom b (plainInstant m)) m
+  plainFrom (suc b) m = cond (statusPaused (plainStatus m)) (plainFrom b (plainInstant m)) m
 
   unfoldable pub plainEventsFrom : ℕ → Plain → List ℕ
   plainEventsFrom zero m = []
-  plainEventsFrom (suc b) m = cond (eqb (plainStatus m) 0) (plainEventsOf m ++ plainEventsFrom b (plainInstant m)) []
+  plainEventsFrom (suc b) m = cond (statusPaused (plainStatus m)) (plainEventsOf m ++ plainEventsFrom b (plainInstant m)) []
 
   -- fed the budget sum
   unfoldable pub plainAfter : ℕ → Plain

@@ -3,11 +3,15 @@ ghost use mathlib.Core.Path.{_≡_};
 ghost use lib.IntN.{pos};
 ghost use Rattle.plan.specs.Numbers.{M, never};
 ghost use Rattle.machine.specs.Start.{idleState};
+ghost use Rattle.machine.specs.Status.{statusNumber, statusIntegrator, statusPaused};
+use plan::FINISHED;
 use plan::INPUTS;
 use plan::INTEGRATORS;
 use plan::M;
 use plan::NEVER;
+use plan::PAUSED;
 use plan::Plan;
+use plan::RANGE;
 
 // The clock, the number of the next command, instants and updates.
 #[repr(C)]
@@ -40,6 +44,47 @@ pub struct State {
 pub enum Engine {
     Lazy,
     Eager,
+}
+
+// "Status is read from the state": paused, finished, or range with the lowest integrator that bars the next instant.
+pub enum Status {
+    Paused,
+    Finished,
+    Range(usize),
+}
+
+impl Status {
+    // 0 paused, 1 finished, 2 range
+    pub fn number(self) -> usize
+        ensures { λ r. ⌜ r ≡ statusNumber self ⌝ }
+    {
+        match self {
+            Status::Paused => PAUSED,
+            Status::Finished => FINISHED,
+            Status::Range(_) => RANGE,
+        }
+    }
+
+    // the integrator of a range, and else 0
+    pub fn integrator(self) -> usize
+        ensures { λ r. ⌜ r ≡ statusIntegrator self ⌝ }
+    {
+        match self {
+            Status::Paused => 0,
+            Status::Finished => 0,
+            Status::Range(i) => i,
+        }
+    }
+
+    pub fn is_paused(self) -> bool
+        ensures { λ r. ⌜ r ≡ statusPaused self ⌝ }
+    {
+        match self {
+            Status::Paused => true,
+            Status::Finished => false,
+            Status::Range(_) => false,
+        }
+    }
 }
 
 impl State {

@@ -44,6 +44,9 @@ fn run_by(engine: Engine, state: State, budget: u64, buf: &mut [u8]) -> Ran
         return declined(12, state);
     }
     let ended = run(state, engine, budget, buf);
+    let status = ended.status;
+    let status_number = status.number();
+    let integrator = status.integrator();
     let after = ended.run;
     let reached = State {
         run: after,
@@ -51,8 +54,8 @@ fn run_by(engine: Engine, state: State, budget: u64, buf: &mut [u8]) -> Ran
     };
     Ran {
         number: 0,
-        status: ended.status,
-        integrator: ended.integrator,
+        status: status_number,
+        integrator,
         written: ended.written,
         state: reached,
     }

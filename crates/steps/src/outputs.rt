@@ -1,7 +1,7 @@
 // 1. "The due integrators (d = t) take q = x+s×(t−l)."
 ghost use mathlib.Core.Path.{_≡_};
 ghost use Rattle.bitset.specs.Mask.{has, each};
-ghost use Rattle.timing.specs.Standing.{DueReach};
+ghost use Rattle.timing.specs.Status.{DuePositionsReady};
 ghost use Rattle.steps.specs.Outputs.{outputting, outputOne};
 use bitset::lowest;
 use bitset::rest;
@@ -19,7 +19,7 @@ pub fn set_outputs<'a>(
     q: &mut [i64; INTEGRATORS],
     values: &mut [i64; SOURCES],
 )
-    requires { ⌜ DueReach due t (now x) (now s) (now l) ⌝ }
+    requires { ⌜ DuePositionsReady due t (now x) (now s) (now l) ⌝ }
     ensures { λ _. ⌜ outputting (now (q .exit)) (now (values .exit))
         ≡ each (outputOne t (now (x .entry)) (now (s .entry)) (now (l .entry))) (has due) 32 (outputting (now (q .entry)) (now (values .entry))) ⌝ }
 {

@@ -1,5 +1,5 @@
 -- What is proved of these definitions.
 pub mod Arithmetic
 pub mod Barring
-pub mod Standings
+pub mod Statuses
 pub mod Dues

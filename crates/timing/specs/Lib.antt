@@ -1,3 +1,3 @@
 pub mod Ticks
-pub mod Standing
+pub mod Status
 pub mod Laws

@@ -2,8 +2,7 @@
 mod status;
 mod ticks;
 
-pub use status::Standing;
-pub use status::standing_at;
+pub use status::status_at;
 pub use ticks::due_tick;
 pub use ticks::least_due;
 pub use ticks::next_command;

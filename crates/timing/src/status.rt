@@ -2,18 +2,14 @@
 ghost use mathlib.Core.Path.{_≡_};
 ghost use Prim.Native.Nat.{_^_, _≤_, _<_};
 ghost use Rattle.plan.specs.Lists.{firstFrom};
-ghost use Rattle.timing.specs.Standing.{barsIn, standingOf, DueReach};
+ghost use Rattle.machine.specs.Status.{statusBy};
+ghost use Rattle.timing.specs.Status.{barsIn, DuePositionsReady};
 use crate::ticks::position;
 use bitset::lowest;
 use bitset::rest;
 use machine::State;
+use machine::Status;
 use plan::INTEGRATORS;
-
-// A status of document 01, and its integrator.
-pub struct Standing {
-    pub status: usize,
-    pub integrator: usize,
-}
 
 // The lowest of the due integrators whose value at t is beyond ±M, or n.
 fn lowest_barring<'a>(
@@ -24,7 +20,7 @@ fn lowest_barring<'a>(
     s: &'a [i64; INTEGRATORS],
     l: &'a [u32; INTEGRATORS],
 ) -> usize
-    requires { ⌜ (n ≤ 32) × (due < 2 ^ n) × DueReach due t (now x) (now s) (now l) ⌝ }
+    requires { ⌜ (n ≤ 32) × (due < 2 ^ n) × DuePositionsReady due t (now x) (now s) (now l) ⌝ }
     ensures { λ r. ⌜ r ≡ firstFrom (barsIn due t (now (x .entry)) (now (s .entry)) (now (l .entry))) 0 n ⌝ }
 {
     let mut left = due;
@@ -40,7 +36,7 @@ fn lowest_barring<'a>(
 }
 
 // "1 finished if t is never or above the horizon; else 2 range if step 1 bars the instant (with the lowest such integrator); else 0 paused."
-pub fn standing_at<'a>(
+pub fn status_at<'a>(
     horizon: u32,
     n: usize,
     t: u32,
@@ -48,31 +44,19 @@ pub fn standing_at<'a>(
     x: &'a [i64; INTEGRATORS],
     s: &'a [i64; INTEGRATORS],
     l: &'a [u32; INTEGRATORS],
-) -> Standing
-    requires { ⌜ (n ≤ 32) × (due < 2 ^ n) × ((t ≤ horizon) → DueReach due t (now x) (now s) (now l)) ⌝ }
-    ensures { λ r. ⌜ r ≡ standingOf horizon n t (firstFrom (barsIn due t (now (x .entry)) (now (s .entry)) (now (l .entry))) 0 n) ⌝ }
+) -> Status
+    requires { ⌜ (n ≤ 32) × (due < 2 ^ n) × ((t ≤ horizon) → DuePositionsReady due t (now x) (now s) (now l)) ⌝ }
+    ensures { λ r. ⌜ r ≡ statusBy horizon n t (firstFrom (barsIn due t (now (x .entry)) (now (s .entry)) (now (l .entry))) 0 n) ⌝ }
 {
     if t == State::NEVER {
-        return Standing {
-            status: 1,
-            integrator: 0,
-        };
+        return Status::Finished;
     }
     if t > horizon {
-        return Standing {
-            status: 1,
-            integrator: 0,
-        };
+        return Status::Finished;
     }
-    let barring = lowest_barring(n, due, t, x, s, l);
-    if barring < n {
-        return Standing {
-            status: 2,
-            integrator: barring,
-        };
+    let lowest = lowest_barring(n, due, t, x, s, l);
+    if lowest < n {
+        return Status::Range(lowest);
     }
-    Standing {
-        status: 0,
-        integrator: 0,
-    }
+    Status::Paused
 }

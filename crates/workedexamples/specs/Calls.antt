@@ -29,10 +29,10 @@ use Rattle.machine.specs.Start.{startSlope, startDue, startOf, startState, idle
 use Rattle.machine.specs.Reach.{isDue, setsInput, isCommanded, changes, dependsWith, linkReaches, reached}
 use Rattle.machine.specs.Instant.{positionAt, inputThen, inputsThen, moves, eventBytes, eventsAt, outputs, slopeThen, xThen, dueThen}
 use Rattle.machine.specs.Instant.{takenAt, tickOf, instant, eventsOf}
-use Rattle.machine.specs.Status.{bars, barring, statusAt, integratorAt, statusOf, integratorOf, isPaused}
+use Rattle.machine.specs.Status.{statusNumber, statusIntegrator, statusPaused, bars, barring, statusBy, statusAt, statusOf, isPaused}
 use Rattle.machine.specs.Runs.{after, events, positionOf}
 use Rattle.machine.specs.Plain.{settled, plainStart, plainTick, plainPosition, plainOutputs, plainInstant, plainEventsOf, plainStatus}
-use Rattle.machine.specs.Plain.{plainIntegrator, lazyCount, plainFrom, plainEventsFrom, plainAfter, plainEvents}
+use Rattle.machine.specs.Plain.{lazyCount, plainFrom, plainEventsFrom, plainAfter, plainEvents}
 use Rattle.plan.specs.Unused.{unusedNat, unusedInt, planUnused}
 use Rattle.machine.specs.SoundTest.{planSound, runningUnused, integratorSound, runningSound, isSound}
 use Rattle.machine.specs.declared.State.{State}
@@ -182,8 +182,8 @@ unfolding examples ceilDiv limited within countOf numberAt bytesOf signedOf unsi
     nodeWords linkWords commandWords fileWords encode nodeOf valueWith valueOf sumOver rateOf upperLevel lowerLevel distance ticksTo
     dueTick dueOf nextCommand commandTick leastDue nextTick startSlope startDue startOf startState idleState isDue setsInput
     isCommanded changes dependsWith linkReaches reached positionAt inputThen inputsThen moves eventBytes eventsAt outputs slopeThen xThen
-    dueThen takenAt tickOf instant eventsOf bars barring statusAt integratorAt statusOf integratorOf isPaused after events
-    positionOf settled plainStart plainTick plainPosition plainOutputs plainInstant plainEventsOf plainStatus plainIntegrator
+    dueThen takenAt tickOf instant eventsOf bars barring statusNumber statusIntegrator statusPaused statusBy statusAt statusOf isPaused after events
+    positionOf settled plainStart plainTick plainPosition plainOutputs plainInstant plainEventsOf plainStatus
     lazyCount plainFrom plainEventsFrom plainAfter plainEvents unusedNat unusedInt planUnused planSound runningUnused
     integratorSound runningSound isSound loadOf writeNumber writeOf bufferOfWrite roomOf declineOf runNumber ranState ranEvents
     runOf bufferOfRun positionNumber positionedOf answerOf bufferOf fedBy afterCalls budgetSum joinedBytes engineAt cutAt restAt allBy

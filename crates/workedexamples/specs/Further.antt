@@ -29,9 +29,9 @@ use Rattle.machine.specs.Start.{startSlope, startDue, startOf, startState, idle
 use Rattle.machine.specs.Reach.{isDue, setsInput, isCommanded, changes, dependsWith, linkReaches, reached}
 use Rattle.machine.specs.Instant.{positionAt, inputThen, inputsThen, moves, eventBytes, eventsAt, outputs, slopeThen, xThen, dueThen, takenAt}
 use Rattle.machine.specs.Instant.{tickOf, instant, eventsOf}
-use Rattle.machine.specs.Status.{bars, barring, statusAt, integratorAt, statusOf, integratorOf, isPaused}
+use Rattle.machine.specs.Status.{statusNumber, statusIntegrator, statusPaused, bars, barring, statusBy, statusAt, statusOf, isPaused}
 use Rattle.machine.specs.Runs.{after, events, positionOf}
-use Rattle.machine.specs.Plain.{settled, plainStart, plainTick, plainPosition, plainOutputs, plainInstant, plainStatus, plainIntegrator}
+use Rattle.machine.specs.Plain.{settled, plainStart, plainTick, plainPosition, plainOutputs, plainInstant, plainStatus}
 use Rattle.machine.specs.Plain.{plainEventsOf, plainEventsFrom, plainEvents, lazyCount, plainFrom, plainAfter}
 use Rattle.machine.specs.SoundTest.{planSound, runningUnused, integratorSound, runningSound, isSound}
 use Rattle.machine.specs.declared.Running.{Running}
@@ -173,12 +173,12 @@ pub further : List Case
 further =
     -- the cup by the plain machine: its events; status, clock and instants; positions
     case (List ℕ) (plainEvents cupPlan 64) cupEvents
-    ∷ case (List ℕ) (plainStatus cupPlan (plainAfter cupPlan 64) ∷ plainAfter cupPlan 64 .clock ∷ plainAfter cupPlan 64 .instants ∷ []) (1 ∷ 6 ∷ 2 ∷ [])
+    ∷ case (List ℕ) (statusNumber (plainStatus cupPlan (plainAfter cupPlan 64)) ∷ plainAfter cupPlan 64 .clock ∷ plainAfter cupPlan 64 .instants ∷ []) (1 ∷ 6 ∷ 2 ∷ [])
     ∷ case (List ℤ) (plainAfter cupPlan 64 .x) (pos 18 ∷ pos 24 ∷ replicate 30 (pos 0))
     -- the cup at its end: finished names no integrator; outputs, slopes and due ticks by the plain machine and by the lazy engine; and what the
     -- lazy engine moves at each of the two instants, with the plain machine's due ticks
-    ∷ case ℕ (plainIntegrator cupPlan (plainAfter cupPlan 64)) 0
-    ∷ case ℕ (integratorOf cupPlan (lazily cupPlan 64)) 0
+    ∷ case ℕ (statusIntegrator (plainStatus cupPlan (plainAfter cupPlan 64))) 0
+    ∷ case ℕ (statusIntegrator (statusOf cupPlan (lazily cupPlan 64))) 0
     ∷ case (List ℤ) (plainAfter cupPlan 64 .q) (pos 12 ∷ replicate 31 (pos 0))
     ∷ case (List ℤ) (plainAfter cupPlan 64 .s) (negsuc 2 ∷ pos 12 ∷ replicate 30 (pos 0))
     ∷ case (List ℕ) (plainAfter cupPlan 64 .d) (12 ∷ 88 ∷ replicate 30 0)
@@ -192,7 +192,7 @@ further =
     -- and at its start
     ∷ case (List ℕ) (startOf cupPlan .d) (4 ∷ 4294967295 ∷ replicate 30 0)
     ∷ case (List ℤ) (startOf cupPlan .s) (pos 3 ∷ pos 0 ∷ replicate 30 (pos 0))
-    ∷ case ℕ (statusOf cupPlan (startOf cupPlan)) 0
+    ∷ case ℕ (statusNumber (statusOf cupPlan (startOf cupPlan))) 0
     -- past a level, the level ahead is reached after one tick; towards the other one, after the whole distance
     ∷ case ℕ (dueFrom (pos 25) (pos 12) (pos 3)) 1
     ∷ case ℕ (dueFrom (pos 22) (pos 12) (pos 3)) 1
@@ -213,42 +213,42 @@ further =
     ∷ case ℤ (nodeOf 2 (negsuc 4) (pos 5) (pos 4) (pos 9)) (pos 4)
     -- a due value of −M passes, −M − 1 bars
     ∷ case ℤ (intAt (lazily (pump (negsuc 1073741822) 1 (negsuc 0) (pos 65536)) 1 .q) 0) minus-m
-    ∷ case ℕ (statusOf (pump (negsuc 1073741822) 1 (negsuc 1) (pos 65536)) (lazily (pump (negsuc 1073741822) 1 (negsuc 1) (pos 65536)) 0)) 2
+    ∷ case ℕ (statusNumber (statusOf (pump (negsuc 1073741822) 1 (negsuc 1) (pos 65536)) (lazily (pump (negsuc 1073741822) 1 (negsuc 1) (pos 65536)) 0))) 2
     -- finished goes before range: the value would be beyond M, but its tick is above the horizon
-    ∷ case ℕ (statusOf (pump (pos 1073741823) 100 (pos 9) (pos 65536)) (startOf (pump (pos 1073741823) 100 (pos 9) (pos 65536)))) 1
+    ∷ case ℕ (statusNumber (statusOf (pump (pos 1073741823) 100 (pos 9) (pos 65536)) (startOf (pump (pos 1073741823) 100 (pos 9) (pos 65536))))) 1
     -- the due integrator 0 is no operand of a node of kind 2 whose B is 0, so the integrator that the node feeds is not reached; by kind 0 it is, through
     -- a second node too
     ∷ case Bool (accepted limitFile) true
     ∷ case Bool (reached (planIn limitFile) (startOf (planIn limitFile) .d) 4 1) false
-    ∷ case ℕ (lazily (planIn limitFile) 1 .updates) 1
+    ∷ case ℕ (lazily (planIn limitFile) 1 .clocks .updates) 1
     ∷ case Bool (accepted chainFile) true
     ∷ case Bool (reached (planIn chainFile) (startOf (planIn chainFile) .d) 4 1) true
-    ∷ case ℕ (lazily (planIn chainFile) 1 .updates) 2
+    ∷ case ℕ (lazily (planIn chainFile) 1 .clocks .updates) 2
     ∷ case (List ℤ) (lazily (planIn chainFile) 1 .s) (pos 3 ∷ negsuc 8 ∷ replicate 30 (pos 0))
     -- two that are due at one tick: both outputs are set before either slope is taken
     ∷ case Bool (accepted pairFile) true
     ∷ case (List ℤ) (lazily (planIn pairFile) 1 .q) (pos 10 ∷ pos 10 ∷ replicate 30 (pos 0))
     ∷ case (List ℤ) (lazily (planIn pairFile) 1 .s) (pos 20 ∷ pos 20 ∷ replicate 30 (pos 0))
-    ∷ case ℕ (lazily (planIn pairFile) 1 .updates) 2
+    ∷ case ℕ (lazily (planIn pairFile) 1 .clocks .updates) 2
     -- range names the lowest integrator beyond ±M, not the lowest that is due, and bars that tick's command too
     ∷ case Bool (accepted rangeFile) true
     ∷ case ℕ (tickOf (planIn rangeFile) (startOf (planIn rangeFile))) 1
-    ∷ case ℕ (statusOf (planIn rangeFile) (startOf (planIn rangeFile))) 2
-    ∷ case ℕ (integratorOf (planIn rangeFile) (startOf (planIn rangeFile))) 1
-    ∷ case ℕ (lazily (planIn rangeFile) 5 .clock) 0
+    ∷ case ℕ (statusNumber (statusOf (planIn rangeFile) (startOf (planIn rangeFile)))) 2
+    ∷ case ℕ (statusIntegrator (statusOf (planIn rangeFile) (startOf (planIn rangeFile)))) 1
+    ∷ case ℕ (lazily (planIn rangeFile) 5 .clocks .clock) 0
     ∷ case ℤ (intAt (lazily (planIn rangeFile) 5 .inputs) 0) (pos 5)
     ∷ case (List ℕ) (events (planIn rangeFile) Eager 5 (startOf (planIn rangeFile))) []
-    ∷ case ℕ (plainIntegrator (planIn rangeFile) (plainAfter (planIn rangeFile) 5)) 1
+    ∷ case ℕ (statusIntegrator (plainStatus (planIn rangeFile) (plainAfter (planIn rangeFile) 5))) 1
     -- two commands at one tick are one instant, by ascending source; a command that repeats a value, at the horizon, is obeyed
     ∷ case Bool (accepted commandsFile) true
     ∷ case (List ℕ) (events (planIn commandsFile) Lazy 1 (startOf (planIn commandsFile))) (2 ∷ 0 ∷ 0 ∷ 0 ∷ 1 ∷ 0 ∷ 0 ∷ 0 ∷ 7 ∷ 0 ∷ 0 ∷ 0 ∷ 2 ∷ 0 ∷ 0 ∷ 0 ∷ 2 ∷ 0 ∷ 0 ∷ 0 ∷ 248 ∷ 255 ∷ 255 ∷ 255 ∷ [])
-    ∷ case ℕ (lazily (planIn commandsFile) 1 .next) 2
+    ∷ case ℕ (lazily (planIn commandsFile) 1 .clocks .next) 2
     ∷ case (List ℤ) (lazily (planIn commandsFile) 1 .inputs) (pos 7 ∷ negsuc 7 ∷ replicate 6 (pos 0))
-    ∷ case ℕ (lazily (planIn commandsFile) 64 .instants) 2
-    ∷ case ℕ (lazily (planIn commandsFile) 64 .clock) 10
-    ∷ case ℕ (lazily (planIn commandsFile) 64 .next) 3
-    ∷ case ℕ (lazily (planIn commandsFile) 64 .updates) 0
-    ∷ case ℕ (eagerly (planIn commandsFile) 64 .updates) 2
+    ∷ case ℕ (lazily (planIn commandsFile) 64 .clocks .instants) 2
+    ∷ case ℕ (lazily (planIn commandsFile) 64 .clocks .clock) 10
+    ∷ case ℕ (lazily (planIn commandsFile) 64 .clocks .next) 3
+    ∷ case ℕ (lazily (planIn commandsFile) 64 .clocks .updates) 0
+    ∷ case ℕ (eagerly (planIn commandsFile) 64 .clocks .updates) 2
     -- due and commanded at one tick: events by ascending source, a coefficient below 0, both new values in the slopes, each level by its
     -- own quantum
     ∷ case Bool (accepted meetFile) true
@@ -257,22 +257,22 @@ further =
     ∷ case (List ℤ) (lazily (planIn meetFile) 1 .s) (pos 5 ∷ negsuc 11 ∷ replicate 30 (pos 0))
     ∷ case (List ℕ) (lazily (planIn meetFile) 1 .d) (6 ∷ 88 ∷ replicate 30 0)
     ∷ case (List ℤ) (plainAfter (planIn meetFile) 1 .inputs) (pos 5 ∷ replicate 7 (pos 0))
-    ∷ case ℕ (lazily (planIn meetFile) 1 .updates) 2
+    ∷ case ℕ (lazily (planIn meetFile) 1 .clocks .updates) 2
     -- a product and a comparison depend on their B; a comparison on a commanded A
     ∷ case Bool (accepted operandsFile) true
-    ∷ case ℕ (lazily (planIn operandsFile) 1 .updates) 3
-    ∷ case ℕ (lazily (planIn operandsFile) 2 .updates) 4
+    ∷ case ℕ (lazily (planIn operandsFile) 1 .clocks .updates) 3
+    ∷ case ℕ (lazily (planIn operandsFile) 2 .clocks .updates) 4
     ∷ case (List ℤ) (lazily (planIn operandsFile) 1 .s) (pos 3 ∷ pos 0 ∷ negsuc 6 ∷ replicate 29 (pos 0))
     ∷ case (List ℤ) (lazily (planIn operandsFile) 2 .s) (pos 3 ∷ pos 0 ∷ pos 9 ∷ replicate 29 (pos 0))
     -- an integrator beyond M that is not due bars nothing
     ∷ case Bool (accepted beyondFile) true
-    ∷ case ℕ (statusOf (planIn beyondFile) (startOf (planIn beyondFile))) 0
-    ∷ case ℕ (lazily (planIn beyondFile) 1 .instants) 1
+    ∷ case ℕ (statusNumber (statusOf (planIn beyondFile) (startOf (planIn beyondFile)))) 0
+    ∷ case ℕ (lazily (planIn beyondFile) 1 .clocks .instants) 1
     ∷ case ℤ (positionOf (lazily (planIn beyondFile) 1) 1) (pos 1073741829)
     -- idle: its due tick is never, it is finished, and its unused entries are 0
     ∷ case ℕ (natAt (idleState .run .d) 0) 4294967295
     ∷ case ℕ (natAt (idleState .run .d) 1) 0
-    ∷ case ℕ (statusOf (idleState .plan) (idleState .run)) 1
+    ∷ case ℕ (statusNumber (statusOf (idleState .plan) (idleState .run))) 1
     ∷ case State (startState (planIn (encode idlePlan))) idleState
     -- sound states: loaded, idle, after runs; between two instants with no instant counted
     ∷ case Bool (isSound (startState cupPlan)) true
@@ -315,9 +315,9 @@ unfolding further ceilDiv limited within countOf numberAt bytesOf signedOf unsig
     planFinding findingOf accepted offsetFrom headerWords integratorWords fileWords encode unusedNat unusedInt planUnused nodeOf valueWith
     valueOf sumOver rateOf upperLevel lowerLevel distance ticksTo dueTick dueOf nextCommand commandTick leastDue nextTick startSlope
     startDue startOf startState idleState isDue setsInput isCommanded changes dependsWith linkReaches reached positionAt inputThen
-    inputsThen moves eventBytes eventsAt outputs slopeThen xThen dueThen takenAt tickOf instant eventsOf bars barring statusAt integratorAt
-    statusOf integratorOf isPaused after events positionOf settled plainStart plainTick plainPosition plainOutputs plainInstant
-    plainStatus plainIntegrator plainEventsOf plainEventsFrom plainEvents lazyCount plainFrom plainAfter planSound runningUnused integratorSound runningSound isSound
+    inputsThen moves eventBytes eventsAt outputs slopeThen xThen dueThen takenAt tickOf instant eventsOf bars barring statusNumber statusIntegrator statusPaused
+    statusBy statusAt statusOf isPaused after events positionOf settled plainStart plainTick plainPosition plainOutputs plainInstant
+    plainStatus plainEventsOf plainEventsFrom plainEvents lazyCount plainFrom plainAfter planSound runningUnused integratorSound runningSound isSound
 further-right =
     refl & refl & refl & refl & refl & refl & refl & refl & refl & refl & refl & refl & refl & refl & refl & refl & refl & refl & refl & refl &
     refl & refl & refl & refl & refl & refl & refl & refl & refl & refl & refl & refl & refl & refl & refl & refl & refl & refl & refl & refl &

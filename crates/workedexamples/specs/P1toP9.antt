@@ -28,7 +28,7 @@ use Rattle.machine.specs.Start.{startSlope, startDue, startOf, startState}
 use Rattle.machine.specs.Reach.{isDue, setsInput, isCommanded, changes, dependsWith, linkReaches, reached}
 use Rattle.machine.specs.Instant.{positionAt, inputThen, inputsThen, moves, eventBytes, eventsAt, outputs, slopeThen, xThen, dueThen, takenAt}
 use Rattle.machine.specs.Instant.{tickOf, instant, eventsOf}
-use Rattle.machine.specs.Status.{bars, barring, statusAt, statusOf, isPaused}
+use Rattle.machine.specs.Status.{statusNumber, statusPaused, bars, barring, statusBy, statusAt, statusOf, isPaused}
 use Rattle.machine.specs.Runs.{after, events, positionOf}
 use Rattle.machine.specs.SoundTest.{planSound, runningUnused, integratorSound, runningSound, isSound}
 use Rattle.machine.specs.declared.Engine.{Engine}
@@ -217,7 +217,7 @@ unfolding p1-to-p9 ceilDiv limited within countOf numberAt bytesOf signedOf unsi
     accepted offsetFrom headerWords integratorWords inputWords linkWords commandWords fileWords encode unusedNat unusedInt planUnused
     nodeOf valueWith valueOf sumOver rateOf upperLevel lowerLevel distance ticksTo dueTick dueOf nextCommand commandTick leastDue nextTick
     startSlope startDue startOf startState isDue setsInput isCommanded changes dependsWith linkReaches reached positionAt inputThen
-    inputsThen moves eventBytes eventsAt outputs slopeThen xThen dueThen takenAt tickOf instant eventsOf bars barring statusAt statusOf
+    inputsThen moves eventBytes eventsAt outputs slopeThen xThen dueThen takenAt tickOf instant eventsOf bars barring statusNumber statusPaused statusBy statusAt statusOf
     isPaused after events positionOf planSound runningUnused integratorSound runningSound isSound digitsIn decimal signedDecimal eventLine
     endLine lineAt linesOf loadOf roomOf declineOf runNumber ranState ranEvents runOf bufferOfRun positionNumber positionedOf eventLines
     closing listedBy listingOf turnState turnMore turnText firstText turnsFrom printedIn

@@ -8,7 +8,7 @@ use lib.ListN.{length, drop}
 use Rattle.words.specs.Word.{Bytes}
 use Rattle.plan.specs.Lists.{natAt, intAt}
 use Rattle.plan.specs.Encoding.{encode}
-use Rattle.machine.specs.Status.{statusOf, integratorOf}
+use Rattle.machine.specs.Status.{statusNumber, statusIntegrator, statusOf}
 use Rattle.machine.specs.Runs.{after, events}
 use Rattle.machine.specs.Sound.{Sound}
 use Rattle.machine.specs.declared.State.{State}
@@ -39,8 +39,8 @@ pub record AcceptedPromise (st : State) (buffer : List ℕ) : Type 0 where
       → (writeOf st buffer .length ≡ length (encode (st .plan))) × (writeOf st buffer .state ≡ st)
       × (bufferOfWrite st buffer ≡ encode (st .plan) ++ drop (length (encode (st .plan))) buffer)
   pub run : (engine : Engine) (budget : ℕ) → runOf engine st budget buffer .number ≡ 0
-      → (runOf engine st budget buffer .status ≡ statusOf (st .plan) (after (st .plan) engine budget (st .run)))
-      × (runOf engine st budget buffer .integrator ≡ integratorOf (st .plan) (after (st .plan) engine budget (st .run)))
+      → (runOf engine st budget buffer .status ≡ statusNumber (statusOf (st .plan) (after (st .plan) engine budget (st .run))))
+      × (runOf engine st budget buffer .integrator ≡ statusIntegrator (statusOf (st .plan) (after (st .plan) engine budget (st .run))))
       × (runOf engine st budget buffer .written ≡ length (events (st .plan) engine budget (st .run)))
       × (runOf engine st budget buffer .state ≡ record { plan = st .plan; run = after (st .plan) engine budget (st .run) })
       × (bufferOfRun engine st budget buffer

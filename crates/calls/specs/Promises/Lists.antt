@@ -12,8 +12,8 @@ use Rattle.plan.specs.Format.{planIn}
 use Rattle.plan.specs.declared.Plan.{Plan}
 use Rattle.machine.specs.Next.{nextTick}
 use Rattle.machine.specs.Instant.{moves, eventsOf}
-use Rattle.machine.specs.Status.{statusOf, integratorOf}
-use Rattle.machine.specs.Plain.{Plain, plainAfter, plainEvents, plainStatus, plainIntegrator, lazyCount}
+use Rattle.machine.specs.Status.{statusNumber, statusIntegrator, statusOf}
+use Rattle.machine.specs.Plain.{Plain, plainAfter, plainEvents, plainStatus, lazyCount}
 use Rattle.machine.specs.Updates.{growth, growthUpTo, eagerInstants, lazyMoves, movedNow}
 use Rattle.machine.specs.declared.State.{State}
 use Rattle.machine.specs.declared.Engine.{Engine}
@@ -29,8 +29,8 @@ pub record CallPromise (p : Plan) (st : State) (c : Call) (answer : Ran) (buffer
   pub short : c .budget ≤ 1024 → length (c .buffer) < c .budget * (p .counts .n + p .counts .m) * 12 → answer .number ≡ 12
   pub accepted : c .budget ≤ 1024 → c .budget * (p .counts .n + p .counts .m) * 12 ≤ length (c .buffer) → answer .number ≡ 0
   -- "Each accepted call answers the status and integrator of the state it returns."
-  pub status : answer .number ≡ 0 → answer .status ≡ statusOf p (answer .state .run)
-  pub integrator : answer .number ≡ 0 → answer .integrator ≡ integratorOf p (answer .state .run)
+  pub status : answer .number ≡ 0 → answer .status ≡ statusNumber (statusOf p (answer .state .run))
+  pub integrator : answer .number ≡ 0 → answer .integrator ≡ statusIntegrator (statusOf p (answer .state .run))
   -- "bytes written from the buffer's start; later bytes keep their value", and there are as many as before
   pub written : answer .written ≤ length (c .buffer)
   pub size : length buffer ≡ length (c .buffer)
@@ -50,7 +50,6 @@ pub record SameAsPlain (p : Plan) (st : State) (m : Plain) : Type 0 where
   pub instants : st .run .clocks .instants ≡ m .instants
   -- "that takes in status and its integrator by the rule above, the position call for every integrator"
   pub status : statusOf p (st .run) ≡ plainStatus p m
-  pub integrator : integratorOf p (st .run) ≡ plainIntegrator p m
   pub position : (i : ℕ) → i < p .counts .n → positionedOf st i ≡ record { number = 0; value = intAt (m .x) i; state = st }
   pub no-position : (i : ℕ) → p .counts .n ≤ i → positionedOf st i ≡ record { number = 14; value = pos 0; state = st }
 
@@ -66,8 +65,8 @@ pub record EndAlike (one other : State) (bytes-of-one bytes-of-other : List ℕ)
   pub clock : one .run .clocks .clock ≡ other .run .clocks .clock
   pub next : one .run .clocks .next ≡ other .run .clocks .next
   pub instants : one .run .clocks .instants ≡ other .run .clocks .instants
+  -- and its integrator
   pub status : statusOf (one .plan) (one .run) ≡ statusOf (other .plan) (other .run)
-  pub integrator : integratorOf (one .plan) (one .run) ≡ integratorOf (other .plan) (other .run)
   -- the position call, for every number
   pub position-number : (i : ℕ) → positionedOf one i .number ≡ positionedOf other i .number
   pub position : (i : ℕ) → positionedOf one i .value ≡ positionedOf other i .value

@@ -23,12 +23,13 @@ use Rattle.machine.specs.Next.{nextCommand}
 use Rattle.machine.specs.Start.{startState}
 use Rattle.machine.specs.Reach.{changes, Changed, reached, Reached}
 use Rattle.machine.specs.Instant.{positionAt, moves, Moves, tickOf, instant, eventsOf}
-use Rattle.machine.specs.Status.{statusOf, integratorOf}
+use Rattle.machine.specs.Status.{statusNumber, statusIntegrator, statusOf}
 use Rattle.machine.specs.Runs.{after, events}
-use Rattle.machine.specs.Plain.{Plain, plainStart, plainTick, plainPosition, plainInstant, plainEventsOf, plainStatus, plainIntegrator}
+use Rattle.machine.specs.Plain.{Plain, plainStart, plainTick, plainPosition, plainInstant, plainEventsOf, plainStatus}
 use Rattle.machine.specs.Plain.{plainAfter, plainEvents}
 use Rattle.machine.specs.declared.Running.{Running}
 use Rattle.machine.specs.declared.Engine.{Engine}
+use Rattle.machine.specs.declared.Status.the-variants.{Paused}
 
 -- "Integrators give q, inputs their value, nodes their value", and what each kind makes of the values of A and B
 pub record ValuePromise (p : Plan) (q u : List ℤ) : Type 0 where
@@ -176,7 +177,7 @@ pub record EventsPromise (p : Plan) (d : List ℕ) (t : ℕ) (position : ℕ →
 
 abbrev pub EventsRead : Type 0
 EventsRead =
-    (p : Plan) (r : Running) → PlanRules p → statusOf p r ≡ 0
+    (p : Plan) (r : Running) → PlanRules p → statusOf p r ≡ Paused
     → EventsPromise p (r .d) (tickOf p r) (positionAt r (tickOf p r)) (eventsOf p r)
 
 -- "1 finished if t is never or above the horizon; else 2 range if step 1 bars the instant (with the lowest such integrator); else 0 paused"
@@ -190,13 +191,13 @@ pub record StatusPromise (p : Plan) (d : List ℕ) (t : ℕ) (position : ℕ →
 
 abbrev pub StatusMeans : Type 0
 StatusMeans =
-    (p : Plan) (r : Running) → StatusPromise p (r .d) (tickOf p r) (positionAt r (tickOf p r)) (statusOf p r) (integratorOf p r)
+    (p : Plan) (r : Running) → StatusPromise p (r .d) (tickOf p r) (positionAt r (tickOf p r)) (statusNumber (statusOf p r)) (statusIntegrator (statusOf p r))
 
 -- "A run with budget b takes b instants, or fewer if the status is first 1 or 2", from any figures
 pub record RunPromise (p : Plan) (engine : Engine) (r : Running) : Type 0 where
   pub none : (after p engine 0 r ≡ r) × (events p engine 0 r ≡ [])
-  pub stopped : (b : ℕ) → (statusOf p r ≡ 0 → ⊥) → (after p engine b r ≡ r) × (events p engine b r ≡ [])
-  pub taken : (b : ℕ) → statusOf p r ≡ 0
+  pub stopped : (b : ℕ) → (statusOf p r ≡ Paused → ⊥) → (after p engine b r ≡ r) × (events p engine b r ≡ [])
+  pub taken : (b : ℕ) → statusOf p r ≡ Paused
       → (after p engine (b + 1) r ≡ after p engine b (instant p engine r))
       × (events p engine (b + 1) r ≡ eventsOf p r ++ events p engine b (instant p engine r))
 
@@ -232,9 +233,9 @@ pub record PlainStepPromise (p : Plan) (t : ℕ) (m m′ : Plain) : Type 0 where
 -- what is read from any figures: the next instant's tick, the status, the instant itself and its events
 pub record PlainPromise (p : Plan) (m : Plain) : Type 0 where
   pub tick : NextPromise p (m .d) (m .next) (plainTick p m)
-  pub status : StatusPromise p (m .d) (plainTick p m) (plainPosition p m) (plainStatus p m) (plainIntegrator p m)
+  pub status : StatusPromise p (m .d) (plainTick p m) (plainPosition p m) (statusNumber (plainStatus p m)) (statusIntegrator (plainStatus p m))
   pub step : PlanRules p → PlainStepPromise p (plainTick p m) m (plainInstant p m)
-  pub events : PlanRules p → plainStatus p m ≡ 0 → EventsPromise p (m .d) (plainTick p m) (plainPosition p m) (plainEventsOf p m)
+  pub events : PlanRules p → plainStatus p m ≡ Paused → EventsPromise p (m .d) (plainTick p m) (plainPosition p m) (plainEventsOf p m)
 
 abbrev pub PlainStarts : Type 0
 PlainStarts = (p : Plan) → PlanRules p → PlainStartPromise p (plainStart p)
@@ -245,15 +246,15 @@ PlainMeans = (p : Plan) (m : Plain) → PlainPromise p m
 -- "From Start it takes B instants, or fewer if its status is first 1 or 2": with b for B, and with one more
 pub record PlainRunPromise (p : Plan) (b : ℕ) : Type 0 where
   pub none : (plainAfter p 0 ≡ plainStart p) × (plainEvents p 0 ≡ [])
-  pub taken : plainStatus p (plainAfter p b) ≡ 0
+  pub taken : plainStatus p (plainAfter p b) ≡ Paused
       → (plainAfter p (b + 1) ≡ plainInstant p (plainAfter p b)) × (plainEvents p (b + 1) ≡ plainEvents p b ++ plainEventsOf p (plainAfter p b))
-  pub stopped : (plainStatus p (plainAfter p b) ≡ 0 → ⊥)
+  pub stopped : (plainStatus p (plainAfter p b) ≡ Paused → ⊥)
       → (plainAfter p (b + 1) ≡ plainAfter p b) × (plainEvents p (b + 1) ≡ plainEvents p b)
   -- so it takes b, all of them where it is paused then, or fewer where its status is 1 or 2; and before each that it takes it is paused
   pub most : plainAfter p b .instants ≤ b
-  pub all : plainStatus p (plainAfter p b) ≡ 0 → plainAfter p b .instants ≡ b
-  pub fewer : plainAfter p b .instants < b → (plainStatus p (plainAfter p b) ≡ 1) ⊎ (plainStatus p (plainAfter p b) ≡ 2)
-  pub paused : (i : ℕ) → i < plainAfter p b .instants → plainStatus p (plainAfter p i) ≡ 0
+  pub all : plainStatus p (plainAfter p b) ≡ Paused → plainAfter p b .instants ≡ b
+  pub fewer : plainAfter p b .instants < b → (statusNumber (plainStatus p (plainAfter p b)) ≡ 1) ⊎ (statusNumber (plainStatus p (plainAfter p b)) ≡ 2)
+  pub paused : (i : ℕ) → i < plainAfter p b .instants → plainStatus p (plainAfter p i) ≡ Paused
 
 abbrev pub PlainTakes : Type 0
 PlainTakes = (p : Plan) (b : ℕ) → PlainRunPromise p b

@@ -21,10 +21,11 @@ use Rattle.machine.specs.Laws.EventWords.{length-events, events-tick, events-so
 use Rattle.machine.specs.Laws.Inputs.{input-set, output-value, input-value}
 use Rattle.machine.specs.Laws.Reach.{changes-means}
 use Rattle.machine.specs.Laws.Status.{paused-horizon, paused-size}
+use Rattle.machine.specs.declared.Status.the-variants.{Paused}
 use Rattle.calls.specs.Promises.Machine.{EventAt, EventsPromise, EventsRead}
 
 -- with the due ticks d, the positions at t, the outputs q after it and the input values u before it
-module _ (p : Plan) (ok : PlanRules p) (d : List ℕ) (t : ℕ) (position : ℕ → ℤ) (q u : List ℤ) (zero-status : statusAt p d t position ≡ 0)
+module _ (p : Plan) (ok : PlanRules p) (d : List ℕ) (t : ℕ) (position : ℕ → ℤ) (q u : List ℤ) (paused : statusAt p d t position ≡ Paused)
     (outputs-are : (i : ℕ) → i < p .counts .n → natAt d i ≡ t → intAt q i ≡ position i) where
   limits : Counts p
   limits = counts-of p (ok .counts)
@@ -41,7 +42,7 @@ module _ (p : Plan) (ok : PlanRules p) (d : List ℕ) (t : ℕ) (position : ℕ 
   event-at i value h c e small =
       let changed = changes-means p d t i .1 c in
       record {
-        tick = events-tick p t d q inputs i h changed (omega (arith, paused-horizon p d t position zero-status, ok .horizon));
+        tick = events-tick p t d q inputs i h changed (omega (arith, paused-horizon p d t position paused, ok .horizon));
         number = events-source p t d q inputs i h changed (omega (arith, limits));
         signed = events-value p t d q inputs i h changed (rw e small) ∙ e;
       }
@@ -50,7 +51,7 @@ module _ (p : Plan) (ok : PlanRules p) (d : List ℕ) (t : ℕ) (position : ℕ 
   events-promise = record {
     due = λ i h e.
         event-at i (position i) (omega arith) (due h e) (output-value p q inputs i h ∙ outputs-are i h e)
-        (paused-size p d t position zero-status i h e);
+        (paused-size p d t position paused i h e);
     commanded = λ j e h l tick number.
         event-at (p .counts .n + j) (intAt (p .commands .values) e) (omega arith) (commanded j e refl h l tick number)
         (input-value p q inputs j h ∙ input-set p ok u t j e h l tick number)
@@ -60,7 +61,7 @@ module _ (p : Plan) (ok : PlanRules p) (d : List ℕ) (t : ℕ) (position : ℕ 
 
 pub events-read : EventsRead
 unfolding statusOf eventsOf outputs
-events-read p r ok zero-status =
+events-read p r ok paused =
     let t = tickOf p r in
-    events-promise p ok (r .d) t (positionAt r t) (outputs p r t) (r .inputs) zero-status
+    events-promise p ok (r .d) t (positionAt r t) (outputs p r t) (r .inputs) paused
     (output-due p (counts-of p (ok .counts)) (r .d) t (positionAt r t) (r .q))

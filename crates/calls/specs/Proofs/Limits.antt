@@ -16,10 +16,10 @@ use Rattle.plan.specs.Laws.Parts.{offset-lt, length-lt, section-end, length-mos
 use Rattle.plan.specs.Laws.View.{length-shown, start-shown}
 use Rattle.machine.specs.Instant.{positionAt, tickOf}
 use Rattle.machine.specs.Sound.{Sound}
-use Rattle.machine.specs.Status.{statusOf, integratorOf}
+use Rattle.machine.specs.Status.{statusOf}
 use Rattle.machine.specs.Laws.Lengths.{run-bytes}
 use Rattle.machine.specs.Laws.Positions.{position-size}
-use Rattle.machine.specs.Laws.Status.{status-most, integrator-most}
+use Rattle.machine.specs.Laws.Status.{number-most, integrator-most}
 use Rattle.machine.specs.declared.State.{State}
 use Rattle.machine.specs.declared.Engine.{Engine}
 use Rattle.calls.specs.Calls.{loadOf, writeNumber, writeOf, roomOf, runNumber, ranState, ranEvents, runOf, positionNumber}
@@ -60,12 +60,12 @@ module _ (st : State) where
   counts-by s = counts-of (st .plan) (s .plan .counts)
 
   run-limits : (engine : Engine) (budget : ℕ) (buffer : List ℕ) → RunLimits (runOf engine st budget buffer)
-  unfolding runOf statusOf integratorOf roomOf ranEvents
+  unfolding runOf statusOf roomOf ranEvents
   run-limits engine budget buffer =
       let p = st .plan in let r = ranState engine st budget .run in let t = tickOf p r in
       let number = runNumber st budget (length buffer) in let tested = run-zero st budget (length buffer) in record {
         number = run-most st budget (length buffer);
-        status = figure-most number 2 (λ e. status-most p (r .d) t (positionAt r t));
+        status = figure-most number 2 (λ e. number-most (statusOf p r));
         integrator = figure-most number 31 (λ e. integrator-most p (r .d) t (positionAt r t) (counts-by (tested e .0) .n));
         written =
             figure-most number 491520

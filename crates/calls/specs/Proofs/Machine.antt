@@ -9,7 +9,7 @@ use Rattle.plan.specs.declared.Plan.{Plan}
 use Rattle.machine.specs.Due.{upperLevel, lowerLevel, ticksTo, dueOf}
 use Rattle.machine.specs.Next.{nextTick}
 use Rattle.machine.specs.Instant.{positionAt, slopeThen, takenAt, tickOf, instant}
-use Rattle.machine.specs.Status.{statusAt, integratorAt, statusOf, integratorOf}
+use Rattle.machine.specs.Status.{statusNumber, statusIntegrator, statusAt, statusOf}
 use Rattle.machine.specs.Laws.Due.{due-still, due-moving, ticks-least, ticks-rounded, stays-above, stays-below, countdown}
 use Rattle.machine.specs.Laws.Frame.{slope-frame}
 use Rattle.machine.specs.Laws.Next.{next-due, next-command, next-never, next-one, command-earlier, command-first, command-most}
@@ -27,13 +27,14 @@ next-promise p d next =
     record { due = next-due p d next; command = next-command p d next; one = next-one p d next; no-instant = next-never p d next }
 
 pub status-promise : (p : Plan) (d : List ℕ) (t : ℕ) (position : ℕ → ℤ)
-    → StatusPromise p d t position (statusAt p d t position) (integratorAt p d t position)
+    → StatusPromise p d t position (statusNumber (statusAt p d t position)) (statusIntegrator (statusAt p d t position))
+unfolding statusNumber statusIntegrator
 status-promise p d t position =
     record {
-      finished = status-finished p d t position;
-      range = status-range p d t position;
-      paused = status-paused p d t position;
-      no-integrator = no-integrator p d t position;
+      finished = λ h. rw (status-finished p d t position h);
+      range = λ h l i k e b f. let is = status-range p d t position h l i k e b f in (rw is, rw is);
+      paused = λ h l f. rw (status-paused p d t position h l f);
+      no-integrator = no-integrator (statusAt p d t position);
     }
 
 pub next-means : NextMeans
@@ -41,7 +42,7 @@ unfolding tickOf
 next-means p r = next-promise p (r .d) (r .clocks .next)
 
 pub status-means : StatusMeans
-unfolding statusOf integratorOf
+unfolding statusOf
 status-means p r = status-promise p (r .d) (tickOf p r) (positionAt r (tickOf p r))
 
 pub reach-means : ReachMeans

@@ -11,7 +11,7 @@ use Rattle.plan.specs.Lists.{intAt}
 use Rattle.plan.specs.declared.Plan.{Plan}
 use Rattle.machine.specs.Plain.{Plain}
 use Rattle.machine.specs.Sound.{SoundRunning}
-use Rattle.machine.specs.Laws.Agreement.{Agrees, same-status, same-integrator}
+use Rattle.machine.specs.Laws.Agreement.{Agrees, same-status}
 use Rattle.machine.specs.Laws.Tested.{sound-means}
 use Rattle.machine.specs.declared.Running.{Running}
 use Rattle.machine.specs.declared.State.{State}
@@ -33,7 +33,6 @@ module _ (p : Plan) (r : Running) (ok : SoundRunning p r) where
         next = a .next;
         instants = a .instants;
         status = same-status p r ok m a;
-        integrator = same-integrator p r ok m a;
         position = λ i h. rw (sound-means (at p r) .1 ok, lt-ltb i (p .counts .n) h, a .place i h);
         no-position = λ i h. rw (sound-means (at p r) .1 ok, le-ltb i (p .counts .n) h);
       }
@@ -61,7 +60,6 @@ module _ (p : Plan) (m : Plain) (one other : State) (a : SameAsPlain p one m) (b
         next = a .next ∙ sym (b .next);
         instants = a .instants ∙ sym (b .instants);
         status = rw (a .plan, b .plan) (a .status ∙ sym (b .status));
-        integrator = rw (a .plan, b .plan) (a .integrator ∙ sym (b .integrator));
         position-number = λ i. position-settled p one m a i .0 ∙ sym (position-settled p other m b i .0);
         position = λ i. position-settled p one m a i .1 ∙ sym (position-settled p other m b i .1);
       }

@@ -3,7 +3,7 @@
 use mathlib.Core.Path.{refl}
 use Rattle.plan.specs.Laws.Counts.{counts-of}
 use Rattle.machine.specs.Plain.{settled, plainStart, plainTick, plainPosition, plainOutputs, plainInstant, plainEventsOf}
-use Rattle.machine.specs.Plain.{plainStatus, plainIntegrator, plainFrom, plainEventsFrom, plainAfter, plainEvents}
+use Rattle.machine.specs.Plain.{plainStatus, plainFrom, plainEventsFrom, plainAfter, plainEvents}
 use Rattle.machine.specs.Laws.PlainSteps.{began-s, began-d, plain-due, plain-not-due, plain-set, plain-not-set, plain-x, plain-s, plain-d}
 use Rattle.machine.specs.Laws.PlainRuns.{takes-most, takes-all, takes-fewer, paused-before, after-next, events-next, after-same}
 use Rattle.machine.specs.Laws.Taken.{output-due}
@@ -26,7 +26,7 @@ plain-starts p rules =
     }
 
 pub plain-means : PlainMeans
-unfolding plainTick plainStatus plainIntegrator plainEventsOf plainOutputs plainPosition plainInstant settled
+unfolding plainTick plainStatus plainEventsOf plainOutputs plainPosition plainInstant settled
 plain-means p m =
     let t = plainTick p m in
     record {
@@ -48,8 +48,8 @@ plain-means p m =
         next = command-means p t;
         instants = refl;
       };
-      events = λ rules zero-status.
-          events-promise p rules (m .d) t (plainPosition p m) (plainOutputs p m) (m .inputs) zero-status
+      events = λ rules paused.
+          events-promise p rules (m .d) t (plainPosition p m) (plainOutputs p m) (m .inputs) paused
           (output-due p (counts-of p (rules .counts)) (m .d) t (plainPosition p m) (m .q));
     }
 

@@ -7,10 +7,10 @@ use Rattle.calls.specs.Calls.{runOf}
 use Rattle.calls.specs.Proofs.CallNumbers.{run-zero}
 use borrow.Author.Tests.{eq-eqb}
 use Rattle.plan.specs.declared.Plan.{Plan}
-use Rattle.machine.specs.Status.{statusOf}
+use Rattle.machine.specs.Status.{statusNumber, statusOf}
 use Rattle.machine.specs.Sound.{RunningShaped, SoundRunning}
 use Rattle.machine.specs.Laws.Shapes.{after-shaped}
-use Rattle.machine.specs.Laws.Status.{is-paused}
+use Rattle.machine.specs.Laws.Status.{zero-paused, is-paused}
 use Rattle.machine.specs.Laws.Runs.{afterBy, clock-moves}
 use Rattle.machine.specs.declared.Running.{Running}
 use Rattle.machine.specs.declared.State.{State}
@@ -42,9 +42,10 @@ module _ (p : Plan) (r : Running) (ok : SoundRunning p r) (c : Call) where
       fed-is : c .budget ≡ fed p c
       fed-is = rw (eq-eqb (answerOf (at p r) c .number) 0 accepts) at (fed-by p r c ok)
 
-      by : (k : ℕ) → c .budget ≡ k → statusOf p (afterBy p (replicate k (c .engine)) r) ≡ 0 → r .clocks .clock < afterBy p (replicate k (c .engine)) r .clocks .clock
+      by : (k : ℕ) → c .budget ≡ k → statusNumber (statusOf p (afterBy p (replicate k (c .engine)) r)) ≡ 0
+          → r .clocks .clock < afterBy p (replicate k (c .engine)) r .clocks .clock
       by zero e s = absurd (omega arith)
-      by (suc k) e s = clock-moves p (c .engine) (replicate k (c .engine)) r ok (is-paused p (afterBy p (replicate (suc k) (c .engine)) r) s)
+      by (suc k) e s = clock-moves p (c .engine) (replicate k (c .engine)) r ok (is-paused p (afterBy p (replicate (suc k) (c .engine)) r) (zero-paused _ s))
 
 pub run-moves : RunMoves
 unfolding answerOf runOf

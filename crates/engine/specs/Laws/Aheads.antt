@@ -6,10 +6,10 @@ use Rattle.plan.specs.declared.Plan.{Plan}
 use Rattle.machine.specs.Next.{nextTick, commandTick}
 use Rattle.machine.specs.Reach.{isDue}
 use Rattle.machine.specs.Instant.{tickOf}
-use Rattle.machine.specs.Status.{statusOf, integratorOf}
+use Rattle.machine.specs.Status.{statusOf}
 use Rattle.machine.specs.Sound.{SoundRunning}
 use Rattle.machine.specs.declared.Running.{Running}
-use Rattle.timing.specs.Laws.Standings.{due-reach, standing-by-mask}
+use Rattle.timing.specs.Laws.Statuses.{due-ready, status-by-mask}
 use Rattle.engine.specs.Ahead.{tickAhead, dueAhead, aheadOf, AheadReady}
 
 module _ (p : Plan) (r : Running) where
@@ -24,14 +24,13 @@ module _ (p : Plan) (r : Running) where
   pub ahead-ready : SoundRunning p r → AheadReady (p .counts .n) (p .counts .commands) (r .clocks .next) (p .commands .ticks) (r .x) (r .s) (r .l) (r .d)
   ahead-ready ok =
       let counts = counts-of p (ok .plan .counts) in
-      record { few = counts .n; listed = counts .commands; reach = rw (tick-ahead, due-ahead) (due-reach p r ok refl refl) }
+      record { few = counts .n; listed = counts .commands; positions = rw (tick-ahead, due-ahead) (due-ready p r ok refl refl) }
 
   pub ahead-is : aheadOf (p .horizon) (p .counts .n) (p .counts .commands) (r .clocks .next) (p .commands .ticks) (r .x) (r .s) (r .l) (r .d)
       ≡ record {
         tick = tickOf p r;
         due = maskOf (isDue (r .d) (tickOf p r)) (p .counts .n);
         status = statusOf p r;
-        integrator = integratorOf p r;
       }
   unfolding aheadOf
-  ahead-is = rw (tick-ahead, due-ahead, standing-by-mask p r refl refl)
+  ahead-is = rw (tick-ahead, due-ahead, status-by-mask p r refl refl)

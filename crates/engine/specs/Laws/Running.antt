@@ -1,6 +1,6 @@
 -- Laws: the turns of a run: what its loop keeps, from the first instant to the last, and what it leaves. Assumes nothing.
 use mathlib.Core.Path.{_≡_, refl, sym, ap, _∙_}
-use mathlib.Core.Bool.{true}
+use mathlib.Core.Bool.{true, false, true≢false}
 use mathlib.Core.List.{List, []}
 use Prim.Native.Nat.{ℕ, _+_, _-_, _*_, _≤_, _<_}
 use native.Mathlib.Omega.{arith}
@@ -12,25 +12,26 @@ use Rattle.plan.specs.Lists.{intAt}
 use Rattle.plan.specs.Laws.Means.{within-size}
 use Rattle.plan.specs.declared.Plan.{Plan}
 use Rattle.machine.specs.Instant.{instant, eventsOf}
-use Rattle.machine.specs.Status.{statusOf, integratorOf, isPaused}
+use Rattle.machine.specs.Status.{statusPaused, statusOf, isPaused}
 use Rattle.machine.specs.Runs.{after, events}
 use Rattle.machine.specs.Sound.{SoundRunning, RunningShaped}
 use Rattle.machine.specs.Laws.Lengths.{instant-bytes}
 use Rattle.machine.specs.Laws.Runs.{run-stopped, run-taken}
 use Rattle.machine.specs.Laws.Shapes.{instant-shaped}
 use Rattle.machine.specs.Laws.Soundness.{instant-sound}
-use Rattle.machine.specs.Laws.Status.{is-paused}
+use Rattle.machine.specs.Laws.Status.{paused-true, is-paused, true-paused}
 use Rattle.machine.specs.declared.Running.{Running}
 use Rattle.machine.specs.declared.Engine.{Engine}
+use Rattle.machine.specs.declared.Status.the-variants.{Paused}
 use Rattle.values.specs.Sources.{valuesOf, firstValues, nodeStep, NodesReady}
 use Rattle.values.specs.Laws.SourceValues.{nodes-ready, first-sized, all-nodes}
 use Rattle.rates.specs.Links.{rangesOf}
 use Rattle.reach.specs.Table.{reachTable}
-use Rattle.engine.specs.Ahead.{aheadOf, AheadReady}
+use Rattle.engine.specs.Ahead.{aheadOf}
 use Rattle.steps.specs.Events.{putAt}
 use Rattle.instant.specs.Lent.{InstantReady}
 use Rattle.engine.specs.Running.{endedOf}
-use Rattle.engine.specs.Laws.Aheads.{ahead-ready, ahead-is}
+use Rattle.engine.specs.Laws.Aheads.{ahead-is}
 use Rattle.steps.specs.Laws.Buffers.{put-none, put-append, length-put}
 use Rattle.engine.specs.declared.ahead.Ahead.{Ahead}
 use Rattle.engine.specs.declared.runs.Ended.{Ended}
@@ -49,30 +50,28 @@ source-values-ready p r ok =
 
 module _ (p : Plan) (engine : Engine) (budget : ℕ) (first : Running) (buffer₀ : List ℕ) where
   -- after `taken` instants: what is left of the run ends where the whole run ends, and its events go behind byte `end`
-  pub record Progress (r : Running) (values : List ℤ) (end taken : ℕ) (ahead : Ahead) (buffer : List ℕ) : Type 0 where
+  pub record Progress (r : Running) (values : List ℤ) (end taken : ℕ) (buffer : List ℕ) : Type 0 where
     pub shaped : RunningShaped r
     pub sound : SoundRunning p r
     pub values-are : values ≡ valuesOf p (r .q) (r .inputs)
-    pub ahead-known : ahead ≡ aheadAt p r
     pub figures : after p engine (budget - taken) r ≡ after p engine budget first
     pub bytes : putAt buffer end (events p engine (budget - taken) r) ≡ putAt buffer₀ 0 (events p engine budget first)
     pub ends : end + length (events p engine (budget - taken) r) ≡ length (events p engine budget first)
     pub same-size : length buffer ≡ length buffer₀
     pub room : end + (budget - taken) * (p .counts .n + p .counts .m) * 12 ≤ length buffer
 
-  pub begun : {values : List ℤ} {ahead : Ahead} → RunningShaped first → SoundRunning p first
+  pub begun : {values : List ℤ} → RunningShaped first → SoundRunning p first
       → budget * (p .counts .n + p .counts .m) * 12 ≤ length buffer₀
       → values
       ≡ each (nodeStep (p .nodes .kinds) (p .nodes .a) (p .nodes .b) (p .nodes .lows) (p .nodes .highs) (p .counts .n + p .counts .m)) (λ _. true) (p .counts .k)
       (firstValues (p .counts .n) (p .counts .m) (first .q) (first .inputs))
-      → ahead ≡ aheadAt p first → Progress first values 0 0 ahead buffer₀
-  begun shaped ok room worked ahead-known =
+      → Progress first values 0 0 buffer₀
+  begun shaped ok room worked =
       let all : budget - 0 ≡ budget = omega arith in
       record {
         shaped = shaped;
         sound = ok;
         values-are = worked ∙ all-nodes p (first .q) (first .inputs) (ok .plan);
-        ahead-known = ahead-known;
         figures = rw all;
         bytes = rw all;
         ends = rw all (omega arith);
@@ -81,21 +80,18 @@ module _ (p : Plan) (engine : Engine) (budget : ℕ) (first : Running) (buffer�
       }
 
 module _ {p : Plan} {engine : Engine} {budget : ℕ} {first : Running} {buffer₀ : List ℕ} {r : Running}
-    {values : List ℤ} {end taken : ℕ} {ahead : Ahead} {buffer : List ℕ}
-    (now : Progress p engine budget first buffer₀ r values end taken ahead buffer) where
+    {values : List ℤ} {end taken : ℕ} {buffer : List ℕ} {ahead : Ahead}
+    (now : Progress p engine budget first buffer₀ r values end taken buffer) (ahead-known : ahead ≡ aheadAt p r) where
   status-is : ahead .status ≡ statusOf p r
-  status-is = rw (now .ahead-known, ahead-is p r)
-
-  integrator-is : ahead .integrator ≡ integratorOf p r
-  integrator-is = rw (now .ahead-known, ahead-is p r)
+  status-is = rw (ahead-known, ahead-is p r)
 
   -- ---- one more instant
-  module _ (more : taken < budget) (status : ahead .status ≡ 0) where
-    zero-status : statusOf p r ≡ 0
-    zero-status = sym status-is ∙ status
+  module _ (more : taken < budget) (yes : statusPaused (ahead .status) ≡ true) where
+    paused-now : statusOf p r ≡ Paused
+    paused-now = sym status-is ∙ true-paused (ahead .status) yes
 
     paused : isPaused p r ≡ true
-    paused = is-paused p r zero-status
+    paused = is-paused p r paused-now
 
     left : budget - taken ≡ budget - (taken + 1) + 1
     left = omega (arith, more)
@@ -107,8 +103,8 @@ module _ {p : Plan} {engine : Engine} {budget : ℕ} {first : Running} {buffer�
           shaped = now .shaped;
           sound = now .sound;
           paused = paused;
-          tick = rw (now .ahead-known, ahead-is p r);
-          due-set = rw (now .ahead-known, ahead-is p r);
+          tick = rw (ahead-known, ahead-is p r);
+          due-set = rw (ahead-known, ahead-is p r);
           ranges-are = ranges-are;
           reach-is = reach-is;
           values-are = now .values-are;
@@ -123,21 +119,17 @@ module _ {p : Plan} {engine : Engine} {budget : ℕ} {first : Running} {buffer�
       sound-then : SoundRunning p r'
       sound-then = rw taken-is (instant-sound p r (now .sound) paused engine)
 
-      pub ahead-ready-then : AheadReady (p .counts .n) (p .counts .commands) (r' .clocks .next) (p .commands .ticks) (r' .x) (r' .s) (r' .l) (r' .d)
-      ahead-ready-then = ahead-ready p r' sound-then
-
-      pub advanced : {values' : List ℤ} {end' : ℕ} {ahead' : Ahead} {buffer' : List ℕ} → values' ≡ valuesOf p (r' .q) (r' .inputs)
-          → buffer' ≡ putAt buffer end (eventsOf p r) → end' ≡ end + length (eventsOf p r) → ahead' ≡ aheadAt p r'
-          → Progress p engine budget first buffer₀ r' values' end' (taken + 1) ahead' buffer'
-      advanced values-are buffer-is end-is ahead-known =
-          let next = run-taken p engine (budget - (taken + 1)) r zero-status in
+      pub advanced : {values' : List ℤ} {end' : ℕ} {buffer' : List ℕ} → values' ≡ valuesOf p (r' .q) (r' .inputs)
+          → buffer' ≡ putAt buffer end (eventsOf p r) → end' ≡ end + length (eventsOf p r)
+          → Progress p engine budget first buffer₀ r' values' end' (taken + 1) buffer'
+      advanced values-are buffer-is end-is =
+          let next = run-taken p engine (budget - (taken + 1)) r paused-now in
           let rest = events p engine (budget - (taken + 1)) (instant p engine r) in
           let same-length = length-put buffer end (eventsOf p r) (omega (arith, room-then)) in
           record {
             shaped = rw taken-is (instant-shaped p engine r);
             sound = sound-then;
             values-are = values-are;
-            ahead-known = ahead-known;
             figures = rw (taken-is, ← next .0, ← left) (now .figures);
             bytes =
                 rw (buffer-is, end-is, taken-is, put-append buffer end (eventsOf p r) (omega (arith, room-then)) rest, ← next .1, ← left)
@@ -151,8 +143,7 @@ module _ {p : Plan} {engine : Engine} {budget : ℕ} {first : Running} {buffer�
   -- what the code answers and leaves in the buffer, where nothing is left of the run
   abbrev Done : Type 0
   Done =
-      _≡_ {A = Ended} (record { status = ahead .status; integrator = ahead .integrator; written = end; run = r })
-      (endedOf p engine budget first)
+      _≡_ {A = Ended} (record { status = ahead .status; written = end; run = r }) (endedOf p engine budget first)
       × (buffer ≡ putAt buffer₀ 0 (events p engine budget first))
 
   done : (after p engine (budget - taken) r ≡ r) × (events p engine (budget - taken) r ≡ []) → Done
@@ -160,11 +151,12 @@ module _ {p : Plan} {engine : Engine} {budget : ℕ} {first : Running} {buffer�
   done none =
       let here : r ≡ after p engine budget first = sym (none .0) ∙ now .figures in
       let written : end ≡ length (events p engine budget first) = omega (arith, now .ends, ap length (none .1)) in
-      (rw (status-is, integrator-is, written, ← here), sym (put-none buffer end) ∙ rw (none .1) at (now .bytes))
+      (rw (status-is, written, ← here), sym (put-none buffer end) ∙ rw (none .1) at (now .bytes))
 
   -- by the status
-  pub stopped : (ahead .status ≡ 0 → ⊥) → Done
-  stopped h = done (run-stopped p engine (budget - taken) r (λ e. h (status-is ∙ e)))
+  pub stopped : statusPaused (ahead .status) ≡ false → Done
+  stopped h =
+      done (run-stopped p engine (budget - taken) r (λ e. true≢false (sym (paused-true (ahead .status) (status-is ∙ e)) ∙ h)))
 
   -- by the budget
   pub spent : budget ≤ taken → Done

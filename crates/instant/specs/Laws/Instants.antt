@@ -39,8 +39,8 @@ use Rattle.machine.specs.declared.Engine.the-variants.{Lazy, Eager}
 use Rattle.values.specs.Sources.{valuesOf, nodeStep, NodesReady}
 use Rattle.values.specs.Laws.SourceValues.{nodes-ready, values-length, values-at, values-sized}
 use Rattle.values.specs.Laws.Touched as touched
-use Rattle.timing.specs.Standing.{DueReach}
-use Rattle.timing.specs.Laws.Standings.{due-reach}
+use Rattle.timing.specs.Status.{DuePositionsReady}
+use Rattle.timing.specs.Laws.Statuses.{due-ready}
 use Rattle.reach.specs.Table.{entriesOf}
 use Rattle.reach.specs.Laws.Reached as reaching
 use Rattle.steps.specs.Commands.{obeying, obeyFrom, CommandsReady}
@@ -114,8 +114,8 @@ module _ (p : Plan) (r : Running) {t due : ℕ} {ranges reach : List ℕ} {value
       rw e (omega (arith, ok .instants, ok .clock, rules .horizon, countOf-le moved 32))
 
   -- ---- 1. and 2.
-  pub outputs-ready : DueReach due t (r .x) (r .s) (r .l)
-  outputs-ready = due-reach p r (ready .sound) (ready .tick) (ready .due-set)
+  pub outputs-ready : DuePositionsReady due t (r .x) (r .s) (r .l)
+  outputs-ready = due-ready p r (ready .sound) (ready .tick) (ready .due-set)
 
   pub obeying-ready : CommandsReady (r .clocks .next) (p .counts .commands) (p .counts .n) (p .commands .inputs)
   obeying-ready = commands-ready p rules (r .clocks .next) (r .clocks .clock) (ready .sound .next)

@@ -6,8 +6,9 @@ use Prim.Native.Nat.{ℕ, _+_, _*_, _/_, _≤_}
 use native.Mathlib.Omega.{arith}
 use lib.ListN.{length, drop, length-append}
 use borrow.Author.Tests.{eq-eqb, ne-eqb}
-use Rattle.machine.specs.Status.{statusOf}
+use Rattle.machine.specs.Status.{statusNumber, statusOf, isPaused}
 use Rattle.machine.specs.Sound.{Sound}
+use Rattle.machine.specs.Laws.Status.{zero-paused, paused-zero, paused-false, is-paused}
 use Rattle.machine.specs.declared.State.{State}
 use Rattle.machine.specs.declared.Engine.the-variants.{Lazy}
 use Rattle.words.specs.Laws.Putting.{behind, back, length-behind}
@@ -54,7 +55,7 @@ module _ (st : State) (ok : Sound st) (buffer : List ℕ) (room : 30720 ≤ leng
   abbrev events : List ℕ
   events = ranEvents Lazy st 64
 
-  ran-status : ran .status ≡ statusOf (turnState st .plan) (turnState st .run)
+  ran-status : ran .status ≡ statusNumber (statusOf (turnState st .plan) (turnState st .run))
   unfolding turnState ranState
   ran-status = rw e (every-promise .accepted st buffer .run Lazy 64 accepts .0)
 
@@ -92,7 +93,7 @@ module _ (st : State) (ok : Sound st) (buffer : List ℕ) (room : 30720 ≤ leng
     pub turn-paused : ran .status ≡ 0 → TurnAs text (record { length = size; more = true; state = ran .state }) middle
     unfolding turnOf turnText turnMore
     turn-paused z =
-        let more = eq-eqb (statusOf (turnState st .plan) (turnState st .run)) 0 (sym ran-status ∙ z) in
+        let more = is-paused (turnState st .plan) (turnState st .run) (zero-paused _ (sym ran-status ∙ z)) in
         let printed = rw ran-lines at p in
         (rw (ran-state, printed .size, more, append-nil), (ran-bytes, rw (more, append-nil) (printed .bytes)))
 
@@ -126,8 +127,8 @@ module _ (st : State) (ok : Sound st) (buffer : List ℕ) (room : 30720 ≤ leng
           omega (arith, lines-inside, q .size, ap length end-is, closing-fits (turnState st .plan) (turnState st .run) (turns-end st ok .sound))
 
       pub turn-stopped : (ran .status ≡ 0 → ⊥) → TurnAs text (record { length = size + more; more = false; state = ran .state }) (back middle size part)
-      unfolding turnOf turnText turnMore
+      unfolding turnOf turnText turnMore isPaused
       turn-stopped n =
-          let last = ne-eqb (statusOf (turnState st .plan) (turnState st .run)) 0 (λ z. n (ran-status ∙ z)) in
+          let last = paused-false (statusOf (turnState st .plan) (turnState st .run)) (λ e. n (ran-status ∙ paused-zero _ e)) in
           let printed = rw (ran-lines, end-is) at (then-text p (in-part size end-place q)) in
           (rw (ran-state, printed .size, last), (ran-bytes, rw last (printed .bytes)))

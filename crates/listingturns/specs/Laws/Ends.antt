@@ -15,6 +15,7 @@ use Rattle.machine.specs.Laws.Soundness.{tick-after, instant-sound}
 use Rattle.machine.specs.Laws.Status.{is-paused, tick-horizon}
 use Rattle.machine.specs.declared.Running.{Running}
 use Rattle.machine.specs.declared.Engine.{Engine}
+use Rattle.machine.specs.declared.Status.the-variants.{Paused}
 
 module _ (p : Plan) (engine : Engine) where
   -- ---- a budget in two parts
@@ -39,14 +40,14 @@ module _ (p : Plan) (engine : Engine) where
   instant-clock r ok = tick-after p r ok
 
   -- ---- the budget that is enough: each instant moves the clock on, and none is behind the horizon
-  pub stops : (b : ℕ) (r : Running) → SoundRunning p r → p .horizon ≤ b + r .clocks .clock → statusOf p (after p engine b r) ≡ 0 → ⊥
+  pub stops : (b : ℕ) (r : Running) → SoundRunning p r → p .horizon ≤ b + r .clocks .clock → statusOf p (after p engine b r) ≡ Paused → ⊥
   unfolding after
   stops zero r ok h e =
       let l : tickOf p r ≤ p .horizon = tick-horizon p r (is-paused p r e) in omega (arith, tick-after p r ok)
   stops (suc b) r ok h e = go (isPaused p r) refl e (λ t. stops b (instant p engine r) (instant-sound p r ok t engine) (omega (arith, instant-clock r ok)))
     where
-      go : (c : Bool) → isPaused p r ≡ c → statusOf p (cond c (after p engine b (instant p engine r)) r) ≡ 0
-          → (isPaused p r ≡ true → statusOf p (after p engine b (instant p engine r)) ≡ 0 → ⊥) → ⊥
+      go : (c : Bool) → isPaused p r ≡ c → statusOf p (cond c (after p engine b (instant p engine r)) r) ≡ Paused
+          → (isPaused p r ≡ true → statusOf p (after p engine b (instant p engine r)) ≡ Paused → ⊥) → ⊥
       go true t s ih = ih t s
       go false t s ih = true≢false (sym (is-paused p r s) ∙ t)
 

@@ -8,12 +8,11 @@ use lib.Dec.{eqb}
 use lib.ListN.{length, length-append, length-take}
 use Rattle.words.specs.Word.{Bytes}
 use Rattle.plan.specs.declared.Plan.{Plan}
-use Rattle.machine.specs.Instant.{positionAt, tickOf}
-use Rattle.machine.specs.Status.{statusOf}
+use Rattle.machine.specs.Status.{statusNumber, statusOf}
 use Rattle.machine.specs.Runs.{events}
 use Rattle.machine.specs.Sound.{Sound, SoundRunning}
 use Rattle.machine.specs.Laws.Lengths.{events-are-bytes}
-use Rattle.machine.specs.Laws.Status.{status-most}
+use Rattle.machine.specs.Laws.Status.{number-most}
 use Rattle.machine.specs.declared.Running.{Running}
 use Rattle.machine.specs.declared.State.{State}
 use Rattle.machine.specs.declared.Engine.the-variants.{Lazy}
@@ -43,11 +42,11 @@ module _ (p : Plan) (r : Running) (ok : SoundRunning p r) where
       omega (arith, bytes-most, lines-most (events-are-bytes p Lazy 64 r) (length (events p Lazy 64 r) / 12) (λ i h. list .sources i (omega arith)))
 
   pub closing-fits : length (closing p r) ≤ 40
-  unfolding closing statusOf
+  unfolding closing
   closing-fits =
       let printed = state-limits p r ok .printed in
-      let status = status-most p (r .d) (tickOf p r) (positionAt r (tickOf p r)) in
-      end-most (statusOf p r) (r .clocks .clock) (r .clocks .instants) (r .clocks .updates) (omega arith) (printed .clock) (printed .instants) (printed .updates)
+      let number = statusNumber (statusOf p r) in
+      end-most number (r .clocks .clock) (r .clocks .instants) (r .clocks .updates) (omega (arith, number-most (statusOf p r))) (printed .clock) (printed .instants) (printed .updates)
 
 pub turn-fits : (st : State) → Sound st → length (turnText st) ≤ 66600
 unfolding turnText turnState ranState ranEvents

@@ -1,17 +1,16 @@
 -- The texts of the turns, joined, are the listing. Assumes nothing.
-use mathlib.Core.Path.{_≡_, refl, sym, ap}
-use mathlib.Core.Bool.{Bool, true, false, cond}
+use mathlib.Core.Path.{_≡_, refl, sym, ap, _∙_}
+use mathlib.Core.Bool.{Bool, true, false, cond, true≢false}
 use mathlib.Core.List.{List, [], _++_, append-assoc, append-nil}
 use Prim.Native.Nat.{ℕ, zero, suc, _+_, _/_, _≤_, _<_}
 use native.Mathlib.Nat.{add-comm}
 use native.Mathlib.Omega.{arith}
 use lib.Dec.{eqb}
 use lib.ListN.{length, replicate, length-append}
-use borrow.Author.Tests.{eqb-true, eqb-false}
 use Rattle.plan.specs.Lists.{joined}
 use Rattle.plan.specs.Laws.Counts.{counts-of}
 use Rattle.plan.specs.declared.Plan.{Plan}
-use Rattle.machine.specs.Status.{statusOf}
+use Rattle.machine.specs.Status.{statusOf, isPaused}
 use Rattle.machine.specs.Runs.{after, events}
 use Rattle.machine.specs.Sound.{Sound, SoundRunning}
 use Rattle.machine.specs.Laws.Runs.{afterBy, after-by, run-stopped, run-sound, clock-moves}
@@ -19,6 +18,7 @@ use Rattle.machine.specs.Laws.Status.{is-paused}
 use Rattle.machine.specs.declared.Running.{Running}
 use Rattle.machine.specs.declared.State.{State}
 use Rattle.machine.specs.declared.Engine.the-variants.{Lazy}
+use Rattle.machine.specs.declared.Status.the-variants.{Paused}
 use Rattle.listingtext.specs.Lines.{linesOf, refusalLine}
 use Rattle.listingtext.specs.Laws.Lines.{lines-append}
 use Rattle.calls.specs.Calls.{loadOf, ranState, ranEvents}
@@ -65,7 +65,7 @@ module _ (p : Plan) (r : Running) (ok : SoundRunning p r) where
       (append-assoc (eventLines (events p Lazy 64 r)) (eventLines (events p Lazy b then)) (closing p (after p Lazy b then)))
 
   -- where the status is 1 or 2 already: the end line
-  pub listed-stopped : (b : ℕ) → (statusOf p r ≡ 0 → ⊥) → listedBy p b r ≡ closing p r
+  pub listed-stopped : (b : ℕ) → (statusOf p r ≡ Paused → ⊥) → listedBy p b r ≡ closing p r
   unfolding listedBy eventLines linesOf joined
   listed-stopped b s = let run = run-stopped p Lazy b r s in rw (run .0, run .1)
 
@@ -79,11 +79,11 @@ turns-end st ok =
     record {
       sound = sound;
       plan = refl;
-      moves = λ e. (moved p r ok (eqb-true (statusOf p (after p Lazy 64 r)) 0 e), sound .clock);
+      moves = λ e. (moved p r ok e, sound .clock);
     }
   where
-    moved : (p : Plan) (r : Running) → SoundRunning p r → statusOf p (after p Lazy 64 r) ≡ 0 → r .clocks .clock < after p Lazy 64 r .clocks .clock
-    moved p r ok = rw (after-by p Lazy 64 r) (λ e. clock-moves p Lazy (replicate 63 Lazy) r ok (is-paused p (afterBy p (replicate 64 Lazy) r) e))
+    moved : (p : Plan) (r : Running) → SoundRunning p r → isPaused p (after p Lazy 64 r) ≡ true → r .clocks .clock < after p Lazy 64 r .clocks .clock
+    moved p r ok = rw (after-by p Lazy 64 r) (clock-moves p Lazy (replicate 63 Lazy) r ok)
 
 -- ---- the turns from a sound state on are the listing from there on, in every budget that is enough
 print-from : (turns : ℕ) (st : State) → Sound st → st .plan .horizon < turns + st .run .clocks .clock → (b : ℕ) → st .plan .horizon ≤ b + st .run .clocks .clock
@@ -108,7 +108,7 @@ print-from (suc turns) st ok h b l =
     go true e ih = rw (append-nil lines, ih e) (sym (listed-turn p (st .run) ok next b l))
     go false e ih =
         rw (append-nil (lines ++ closing p (turnState st .run)), listed-turn p (st .run) ok next b l)
-        (ap (λ end. lines ++ end) (sym (listed-stopped p (turnState st .run) next b (eqb-false (statusOf p (turnState st .run)) 0 e))))
+        (ap (λ end. lines ++ end) (sym (listed-stopped p (turnState st .run) next b (λ paused. true≢false (sym (is-paused p (turnState st .run) paused) ∙ e)))))
 
 pub turns-print : TurnsPrint
 unfolding printedIn firstText listingOf

@@ -14,14 +14,14 @@ use Rattle.machine.specs.Values.{rateOf}
 use Rattle.machine.specs.Due.{dueOf}
 use Rattle.machine.specs.Start.{startSlope, startDue, startOf}
 use Rattle.machine.specs.Instant.{positionAt, inputsThen, moves, outputs, slopeThen, dueThen, takenAt, tickOf, instant, eventsOf}
-use Rattle.machine.specs.Status.{statusOf, integratorOf}
+use Rattle.machine.specs.Status.{statusOf}
 use Rattle.machine.specs.Runs.{positionOf}
 use Rattle.machine.specs.Plain.{Plain, settled, plainStart, plainTick, plainPosition, plainOutputs, plainInstant, plainEventsOf}
-use Rattle.machine.specs.Plain.{plainStatus, plainIntegrator}
+use Rattle.machine.specs.Plain.{plainStatus}
 use Rattle.machine.specs.Sound.{SoundRunning}
 use Rattle.machine.specs.Laws.Soundness.{covers, tick-after}
 use Rattle.machine.specs.Laws.Next.{tick-due}
-use Rattle.machine.specs.Laws.Status.{status-same, integrator-same}
+use Rattle.machine.specs.Laws.Status.{status-same}
 use Rattle.machine.specs.Laws.Taken.{x-then}
 use Rattle.machine.specs.Laws.Moved.{slopes-then, dues-then, place-then}
 use Rattle.machine.specs.declared.Running.{Running}
@@ -67,10 +67,6 @@ module _ (p : Plan) (r : Running) (ok : SoundRunning p r) where
     pub same-status : statusOf p r ≡ plainStatus p m
     unfolding statusOf plainStatus
     same-status = status-same p (r .d) (tickOf p r) _ _ same-position ∙ rw (same-tick, a .d)
-
-    pub same-integrator : integratorOf p r ≡ plainIntegrator p m
-    unfolding integratorOf plainIntegrator
-    same-integrator = integrator-same p (r .d) (tickOf p r) _ _ same-position ∙ rw (same-tick, a .d)
 
     pub same-outputs : outputs p r (tickOf p r) ≡ plainOutputs p m
     unfolding outputs plainOutputs

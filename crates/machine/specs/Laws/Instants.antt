@@ -5,18 +5,19 @@ use mathlib.Core.Bool.{Bool, true, false, cond}
 use mathlib.Core.List.{List, [], _∷_, _++_, append-nil}
 use Prim.Native.Nat.{ℕ, zero, suc, _+_, _-_, _*_, _≤_, _<_}
 use native.Mathlib.Omega.{arith}
-use lib.Dec.{ltb, eqb}
+use lib.Dec.{ltb}
 use lib.ListN.{length, getD, take, drop, take-append-drop}
 use lib.Seq.{length-take-le, take-suc, take-all}
-use borrow.Author.Tests.{ltb-true, ltb-false, eq-eqb}
+use borrow.Author.Tests.{ltb-true, ltb-false}
 use Rattle.bitset.specs.Counts.{countOf}
 use Rattle.plan.specs.declared.Plan.{Plan}
 use Rattle.machine.specs.Start.{startOf}
 use Rattle.machine.specs.Instant.{instant, eventsOf}
-use Rattle.machine.specs.Status.{isPaused}
+use Rattle.machine.specs.Status.{statusPaused, isPaused}
 use Rattle.machine.specs.Plain.{Plain, plainStart, plainStatus, plainAfter, lazyCount}
 use Rattle.machine.specs.Updates.{growth, growthUpTo, isEager, eagerInstants, lazyMoves, movedNow}
 use Rattle.machine.specs.Sound.{SoundRunning}
+use Rattle.machine.specs.Laws.Status.{paused-true}
 use Rattle.machine.specs.Laws.Agreement.{Agrees, same-status, start-agrees}
 use Rattle.machine.specs.Laws.Growth.{instant-updates, instant-moved}
 use Rattle.machine.specs.Laws.PlainRuns.{takes-most, paused-before, taken-so-far, stopped-behind}
@@ -79,9 +80,9 @@ module _ (p : Plan) (ok : SoundRunning p (startOf p)) (engines : List Engine) wh
   state-sound k = run-sound p (take k engines) (startOf p) ok
 
   -- paused or not as the plain machine is
-  paused-as : (k : ℕ) → k ≤ length engines → isPaused p (stateAt p engines k) ≡ eqb (plainStatus p (plainAfter p k)) 0
+  paused-as : (k : ℕ) → k ≤ length engines → isPaused p (stateAt p engines k) ≡ statusPaused (plainStatus p (plainAfter p k))
   unfolding isPaused
-  paused-as k h = ap (λ s. eqb s 0) (same-status p (stateAt p engines k) (state-sound k) (plainAfter p k) (state-agrees k h))
+  paused-as k h = ap statusPaused (same-status p (stateAt p engines k) (state-sound k) (plainAfter p k) (state-agrees k h))
 
   -- ---- instant k + 1, where it is taken
   module _ (k : ℕ) (taken : k < plainAfter p (length engines) .instants) where
@@ -89,7 +90,7 @@ module _ (p : Plan) (ok : SoundRunning p (startOf p)) (engines : List Engine) wh
     inside = omega (arith, takes-most p (length engines))
 
     is-paused : isPaused p (stateAt p engines k) ≡ true
-    is-paused = paused-as k (omega (arith, inside)) ∙ eq-eqb (plainStatus p (plainAfter p k)) 0 (paused-before p k (length engines) taken)
+    is-paused = paused-as k (omega (arith, inside)) ∙ paused-true (plainStatus p (plainAfter p k)) (paused-before p k (length engines) taken)
 
     one-more : take (k + 1) engines ≡ take k engines ++ (engineOf engines (k + 1) ∷ [])
     unfolding engineOf

@@ -7,19 +7,20 @@ use mathlib.Core.List.{[], _++_, append-assoc, append-nil}
 use Prim.Native.Nat.{ℕ, zero, suc, _+_, _-_, _≤_, _<_}
 use native.Mathlib.Omega.{arith}
 use native.Mathlib.Nat.{zero-add, suc-add}
-use lib.Dec.{eqb}
-use borrow.Author.Tests.{eqb-true, eq-eqb, ne-eqb}
 use Rattle.plan.specs.declared.Plan.{Plan}
 use Rattle.machine.specs.Plain.{Plain, settled, plainStart, plainTick, plainPosition, plainInstant, plainEventsOf, plainStatus}
 use Rattle.machine.specs.Plain.{plainFrom, plainEventsFrom, plainAfter, plainEvents}
-use Rattle.machine.specs.Laws.Status.{status-most}
+use Rattle.machine.specs.Status.{statusNumber, statusPaused}
+use Rattle.machine.specs.Laws.Status.{paused-true, paused-false, true-paused}
+use Rattle.machine.specs.declared.Status.{Status}
+use Rattle.machine.specs.declared.Status.the-variants.{Paused, Finished, Range}
 
 module _ (p : Plan) where
   instant-counts : (m : Plain) → plainInstant p m .instants ≡ m .instants + 1
   unfolding plainInstant settled
   instant-counts m = refl
 
-  pub plain-stopped : (b : ℕ) (m : Plain) → eqb (plainStatus p m) 0 ≡ false → plainFrom p b m ≡ m
+  pub plain-stopped : (b : ℕ) (m : Plain) → statusPaused (plainStatus p m) ≡ false → plainFrom p b m ≡ m
   unfolding plainFrom
   plain-stopped zero m e = refl
   plain-stopped (suc b) m e = rw e
@@ -28,14 +29,14 @@ module _ (p : Plan) where
   pub plain-append : (a b : ℕ) (m : Plain) → plainFrom p (a + b) m ≡ plainFrom p b (plainFrom p a m)
   unfolding plainFrom
   plain-append zero b m = rw (zero-add b)
-  plain-append (suc a) b m = rw (suc-add a b) (go (eqb (plainStatus p m) 0) refl (plain-append a b (plainInstant p m)))
+  plain-append (suc a) b m = rw (suc-add a b) (go (statusPaused (plainStatus p m)) refl (plain-append a b (plainInstant p m)))
     where
-      go : (c : Bool) → eqb (plainStatus p m) 0 ≡ c → plainFrom p (a + b) (plainInstant p m) ≡ plainFrom p b (plainFrom p a (plainInstant p m))
+      go : (c : Bool) → statusPaused (plainStatus p m) ≡ c → plainFrom p (a + b) (plainInstant p m) ≡ plainFrom p b (plainFrom p a (plainInstant p m))
           → cond c (plainFrom p (a + b) (plainInstant p m)) m ≡ plainFrom p b (cond c (plainFrom p a (plainInstant p m)) m)
       go true e ih = ih
       go false e ih = sym (plain-stopped b m e)
 
-  events-stopped : (b : ℕ) (m : Plain) → eqb (plainStatus p m) 0 ≡ false → plainEventsFrom p b m ≡ []
+  events-stopped : (b : ℕ) (m : Plain) → statusPaused (plainStatus p m) ≡ false → plainEventsFrom p b m ≡ []
   unfolding plainEventsFrom
   events-stopped zero m e = refl
   events-stopped (suc b) m e = rw e
@@ -44,12 +45,12 @@ module _ (p : Plan) where
   events-append : (a b : ℕ) (m : Plain) → plainEventsFrom p (a + b) m ≡ plainEventsFrom p a m ++ plainEventsFrom p b (plainFrom p a m)
   unfolding plainFrom plainEventsFrom
   events-append zero b m = rw (zero-add b)
-  events-append (suc a) b m = rw (suc-add a b) (go (eqb (plainStatus p m) 0) refl (events-append a b (plainInstant p m)))
+  events-append (suc a) b m = rw (suc-add a b) (go (statusPaused (plainStatus p m)) refl (events-append a b (plainInstant p m)))
     where
       next : Plain
       next = plainInstant p m
 
-      go : (c : Bool) → eqb (plainStatus p m) 0 ≡ c
+      go : (c : Bool) → statusPaused (plainStatus p m) ≡ c
           → plainEventsFrom p (a + b) next ≡ plainEventsFrom p a next ++ plainEventsFrom p b (plainFrom p a next)
           → cond c (plainEventsOf p m ++ plainEventsFrom p (a + b) next) []
           ≡ cond c (plainEventsOf p m ++ plainEventsFrom p a next) [] ++ plainEventsFrom p b (cond c (plainFrom p a next) m)
@@ -60,7 +61,7 @@ module _ (p : Plan) where
   plain-range : (b : ℕ) (m : Plain) → (m .instants ≤ plainFrom p b m .instants) × (plainFrom p b m .instants ≤ m .instants + b)
   unfolding plainFrom
   plain-range zero m = omega arith
-  plain-range (suc b) m = go (eqb (plainStatus p m) 0) (plainFrom p b (plainInstant p m)) (plain-range b (plainInstant p m))
+  plain-range (suc b) m = go (statusPaused (plainStatus p m)) (plainFrom p b (plainInstant p m)) (plain-range b (plainInstant p m))
     where
       go : (c : Bool) (end : Plain) → (plainInstant p m .instants ≤ end .instants) × (end .instants ≤ plainInstant p m .instants + b)
           → (m .instants ≤ cond c end m .instants) × (cond c end m .instants ≤ m .instants + suc b)
@@ -68,16 +69,16 @@ module _ (p : Plan) where
       go false end ih = omega arith
 
   -- where it is still paused it took all of its budget
-  pub plain-all : (b : ℕ) (m : Plain) → plainStatus p (plainFrom p b m) ≡ 0 → plainFrom p b m .instants ≡ m .instants + b
+  pub plain-all : (b : ℕ) (m : Plain) → plainStatus p (plainFrom p b m) ≡ Paused → plainFrom p b m .instants ≡ m .instants + b
   unfolding plainFrom
   plain-all zero m e = omega arith
-  plain-all (suc b) m e = go (eqb (plainStatus p m) 0) refl (plain-all b (plainInstant p m)) e
+  plain-all (suc b) m e = go (statusPaused (plainStatus p m)) refl (plain-all b (plainInstant p m)) e
     where
-      go : (c : Bool) → eqb (plainStatus p m) 0 ≡ c
-          → (plainStatus p (plainFrom p b (plainInstant p m)) ≡ 0 → plainFrom p b (plainInstant p m) .instants ≡ plainInstant p m .instants + b)
-          → plainStatus p (cond c (plainFrom p b (plainInstant p m)) m) ≡ 0 → cond c (plainFrom p b (plainInstant p m)) m .instants ≡ m .instants + suc b
+      go : (c : Bool) → statusPaused (plainStatus p m) ≡ c
+          → (plainStatus p (plainFrom p b (plainInstant p m)) ≡ Paused → plainFrom p b (plainInstant p m) .instants ≡ plainInstant p m .instants + b)
+          → plainStatus p (cond c (plainFrom p b (plainInstant p m)) m) ≡ Paused → cond c (plainFrom p b (plainInstant p m)) m .instants ≡ m .instants + suc b
       go true f ih e = omega (arith, ih e, instant-counts m)
-      go false f ih e = absurd (false≢true (sym f ∙ eq-eqb (plainStatus p m) 0 e))
+      go false f ih e = absurd (false≢true (sym f ∙ paused-true (plainStatus p m) e))
 
   -- ---- from Start
   start-counts : plainStart p .instants ≡ 0
@@ -89,44 +90,41 @@ module _ (p : Plan) where
   unfolding plainAfter
   takes-most b = omega (arith, plain-range b (plainStart p), start-counts)
 
-  pub takes-all : (b : ℕ) → plainStatus p (plainAfter p b) ≡ 0 → plainAfter p b .instants ≡ b
+  pub takes-all : (b : ℕ) → plainStatus p (plainAfter p b) ≡ Paused → plainAfter p b .instants ≡ b
   unfolding plainAfter
   takes-all b e = omega (arith, plain-all b (plainStart p) e, start-counts)
 
-  status-two : (m : Plain) → plainStatus p m ≤ 2
-  unfolding plainStatus
-  status-two m = status-most p (m .d) (plainTick p m) (plainPosition p m)
-
   -- fewer "if its status is first 1 or 2"
-  pub takes-fewer : (b : ℕ) → plainAfter p b .instants < b → (plainStatus p (plainAfter p b) ≡ 1) ⊎ (plainStatus p (plainAfter p b) ≡ 2)
-  takes-fewer b h = go (plainStatus p (plainAfter p b)) (status-two (plainAfter p b)) (λ e. omega (arith, takes-all b e))
+  pub takes-fewer : (b : ℕ) → plainAfter p b .instants < b
+      → (statusNumber (plainStatus p (plainAfter p b)) ≡ 1) ⊎ (statusNumber (plainStatus p (plainAfter p b)) ≡ 2)
+  unfolding statusNumber
+  takes-fewer b h = go (plainStatus p (plainAfter p b)) (λ e. omega (arith, takes-all b e))
     where
-      go : (status : ℕ) → status ≤ 2 → (status ≡ 0 → ⊥) → (status ≡ 1) ⊎ (status ≡ 2)
-      go zero l n = absurd (n refl)
-      go (suc zero) l n = inl refl
-      go (suc (suc zero)) l n = inr refl
-      go (suc (suc (suc status))) l n = absurd (omega arith)
+      go : (status : Status) → (status ≡ Paused → ⊥) → (statusNumber status ≡ 1) ⊎ (statusNumber status ≡ 2)
+      go Paused n = absurd (n refl)
+      go Finished n = inl refl
+      go (Range i) n = inr refl
 
   after-more : (a b : ℕ) → plainAfter p (a + b) ≡ plainFrom p b (plainAfter p a)
   unfolding plainAfter
   after-more a b = plain-append a b (plainStart p)
 
   -- before each instant that is taken it is paused
-  pub paused-before : (i b : ℕ) → i < plainAfter p b .instants → plainStatus p (plainAfter p i) ≡ 0
-  paused-before i b h = go (eqb (plainStatus p (plainAfter p i)) 0) refl
+  pub paused-before : (i b : ℕ) → i < plainAfter p b .instants → plainStatus p (plainAfter p i) ≡ Paused
+  paused-before i b h = go (statusPaused (plainStatus p (plainAfter p i))) refl
     where
       split : b ≡ i + (b - i)
       split = omega (arith, takes-most b)
 
-      go : (c : Bool) → eqb (plainStatus p (plainAfter p i)) 0 ≡ c → plainStatus p (plainAfter p i) ≡ 0
-      go true e = eqb-true (plainStatus p (plainAfter p i)) 0 e
+      go : (c : Bool) → statusPaused (plainStatus p (plainAfter p i)) ≡ c → plainStatus p (plainAfter p i) ≡ Paused
+      go true e = true-paused (plainStatus p (plainAfter p i)) e
       go false e =
           let same : plainAfter p b ≡ plainAfter p i = ap (plainAfter p) split ∙ after-more i (b - i) ∙ plain-stopped (b - i) (plainAfter p i) e in
           absurd (omega (arith, takes-most i, ap (λ m. m .instants) same))
 
   -- and the instant leads to the next
-  pub after-next : (i : ℕ) → plainStatus p (plainAfter p i) ≡ 0 → plainAfter p (i + 1) ≡ plainInstant p (plainAfter p i)
-  unfolding plainFrom
+  pub after-next : (i : ℕ) → plainStatus p (plainAfter p i) ≡ Paused → plainAfter p (i + 1) ≡ plainInstant p (plainAfter p i)
+  unfolding plainFrom statusPaused
   after-next i e = after-more i 1 ∙ rw e
 
   events-more : (a b : ℕ) → plainEvents p (a + b) ≡ plainEvents p a ++ plainEventsFrom p b (plainAfter p a)
@@ -134,15 +132,15 @@ module _ (p : Plan) where
   events-more a b = events-append a b (plainStart p)
 
   -- with its events behind those before it
-  pub events-next : (i : ℕ) → plainStatus p (plainAfter p i) ≡ 0 → plainEvents p (i + 1) ≡ plainEvents p i ++ plainEventsOf p (plainAfter p i)
-  unfolding plainEventsFrom
+  pub events-next : (i : ℕ) → plainStatus p (plainAfter p i) ≡ Paused → plainEvents p (i + 1) ≡ plainEvents p i ++ plainEventsOf p (plainAfter p i)
+  unfolding plainEventsFrom statusPaused
   events-next i e = events-more i 1 ∙ rw (e, append-nil (plainEventsOf p (plainAfter p i)))
 
   -- where it is not paused, nothing follows
-  pub after-same : (i : ℕ) → (plainStatus p (plainAfter p i) ≡ 0 → ⊥)
+  pub after-same : (i : ℕ) → (plainStatus p (plainAfter p i) ≡ Paused → ⊥)
       → (plainAfter p (i + 1) ≡ plainAfter p i) × (plainEvents p (i + 1) ≡ plainEvents p i)
   after-same i h =
-      let e = ne-eqb (plainStatus p (plainAfter p i)) 0 h in
+      let e = paused-false (plainStatus p (plainAfter p i)) h in
       (after-more i 1 ∙ plain-stopped 1 (plainAfter p i) e, events-more i 1 ∙ rw (events-stopped 1 (plainAfter p i) e, append-nil (plainEvents p i)))
 
   -- so that many have been taken
@@ -155,8 +153,8 @@ module _ (p : Plan) where
       rw (← one-more) (omega (arith, takes-all i z))
 
   -- where fewer instants than the budget were taken, it is not paused behind them
-  pub stopped-behind : (b : ℕ) → plainAfter p b .instants < b → eqb (plainStatus p (plainAfter p (plainAfter p b .instants))) 0 ≡ false
-  stopped-behind b h = go (eqb (plainStatus p (plainAfter p k)) 0) refl
+  pub stopped-behind : (b : ℕ) → plainAfter p b .instants < b → statusPaused (plainStatus p (plainAfter p (plainAfter p b .instants))) ≡ false
+  stopped-behind b h = go (statusPaused (plainStatus p (plainAfter p k))) refl
     where
       k : ℕ
       k = plainAfter p b .instants
@@ -164,9 +162,9 @@ module _ (p : Plan) where
       split : b ≡ (k + 1) + (b - (k + 1))
       split = omega arith
 
-      go : (c : Bool) → eqb (plainStatus p (plainAfter p k)) 0 ≡ c → c ≡ false
+      go : (c : Bool) → statusPaused (plainStatus p (plainAfter p k)) ≡ c → c ≡ false
       go true e =
-          let z = eqb-true (plainStatus p (plainAfter p k)) 0 e in
+          let z = true-paused (plainStatus p (plainAfter p k)) e in
           let one-more = ap (λ m. m .instants) (after-next k z) ∙ instant-counts (plainAfter p k) in
           let whole = ap (λ m. m .instants) (ap (plainAfter p) split ∙ after-more (k + 1) (b - (k + 1))) in
           absurd (omega (arith, takes-all k z, plain-range (b - (k + 1)) (plainAfter p (k + 1))))

@@ -5,19 +5,19 @@ use mathlib.Core.Bool.{Bool, true, false, cond, true≢false}
 use mathlib.Core.List.{List, [], _∷_, _++_, append-assoc}
 use Prim.Native.Nat.{ℕ, zero, suc, _+_, _≤_, _<_}
 use native.Mathlib.Omega.{arith}
-use lib.Dec.{eqb}
 use lib.ListN.{length, replicate}
-use borrow.Author.Tests.{eq-eqb, ne-eqb}
 use Rattle.plan.specs.declared.Plan.{Plan}
 use Rattle.machine.specs.Instant.{takenAt, instant, eventsOf}
-use Rattle.machine.specs.Status.{statusOf, isPaused}
+use Rattle.machine.specs.Status.{statusPaused, statusOf, isPaused}
 use Rattle.machine.specs.Runs.{after, events}
 use Rattle.machine.specs.Plain.{Plain, plainInstant, plainStatus, plainFrom, plainEventsFrom}
 use Rattle.machine.specs.Sound.{SoundRunning}
+use Rattle.machine.specs.Laws.Status.{is-paused, paused-false}
 use Rattle.machine.specs.Laws.Soundness.{tick-after, instant-sound}
 use Rattle.machine.specs.Laws.Agreement.{Agrees, same-status, same-events, agrees-then}
 use Rattle.machine.specs.declared.Running.{Running}
 use Rattle.machine.specs.declared.Engine.{Engine}
+use Rattle.machine.specs.declared.Status.the-variants.{Paused}
 
 module _ (p : Plan) where
   unfoldable pub afterBy : List Engine → Running → Running
@@ -50,20 +50,20 @@ module _ (p : Plan) where
   events-stopped [] r e = refl
   events-stopped (engine ∷ engines) r e = rw e
 
-  -- so a run by one engine stops where the status is not 0, and else takes an instant and goes on
-  pub run-stopped : (engine : Engine) (b : ℕ) (r : Running) → (statusOf p r ≡ 0 → ⊥) → (after p engine b r ≡ r) × (events p engine b r ≡ [])
+  -- so a run by one engine stops where it is not paused, and else takes an instant and goes on
+  pub run-stopped : (engine : Engine) (b : ℕ) (r : Running) → (statusOf p r ≡ Paused → ⊥) → (after p engine b r ≡ r) × (events p engine b r ≡ [])
   unfolding isPaused
   run-stopped engine b r h =
-      let e = ne-eqb (statusOf p r) 0 h in
+      let e = paused-false (statusOf p r) h in
       (after-by engine b r ∙ after-stopped (replicate b engine) r e, events-by engine b r ∙ events-stopped (replicate b engine) r e)
 
-  pub run-taken : (engine : Engine) (b : ℕ) (r : Running) → statusOf p r ≡ 0
+  pub run-taken : (engine : Engine) (b : ℕ) (r : Running) → statusOf p r ≡ Paused
       → (after p engine (b + 1) r ≡ after p engine b (instant p engine r))
       × (events p engine (b + 1) r ≡ eventsOf p r ++ events p engine b (instant p engine r))
-  unfolding after events isPaused
+  unfolding after events
   run-taken engine b r h =
       let next : b + 1 ≡ suc b = omega arith in
-      let e = eq-eqb (statusOf p r) 0 h in
+      let e = is-paused p r h in
       (rw (next, e), rw (next, e))
 
   pub after-append : (first then : List Engine) (r : Running) → afterBy (first ++ then) r ≡ afterBy then (afterBy first r)
@@ -147,15 +147,15 @@ module _ (p : Plan) where
       go (isPaused p r) refl
       (λ e. together engines (instant p engine r) (plainInstant p m) (instant-sound p r ok e engine) (agrees-then p r ok m a engine))
     where
-      same : eqb (statusOf p r) 0 ≡ eqb (plainStatus p m) 0
-      same = ap (λ s. eqb s 0) (same-status p r ok m a)
+      same : isPaused p r ≡ statusPaused (plainStatus p m)
+      same = ap statusPaused (same-status p r ok m a)
 
       go : (b : Bool) → isPaused p r ≡ b → (isPaused p r ≡ true → Together engines (instant p engine r) (plainInstant p m))
           → Together (engine ∷ engines) r m
       go true e ih =
           let t = ih e in
-          let f : eqb (plainStatus p m) 0 ≡ true = sym same ∙ e in
+          let f : statusPaused (plainStatus p m) ≡ true = sym same ∙ e in
           record { agrees = rw (e, f) (t .agrees); bytes = rw (e, f) (ap₂ (λ xs ys. xs ++ ys) (same-events p r ok m a) (t .bytes)) }
       go false e ih =
-          let f : eqb (plainStatus p m) 0 ≡ false = sym same ∙ e in
+          let f : statusPaused (plainStatus p m) ≡ false = sym same ∙ e in
           record { agrees = rw (e, f) a; bytes = rw (e, f) }

@@ -1,5 +1,5 @@
--- Laws: what the status and its integrator are, and what a status of 0 says, for any due ticks, tick and values. Assumes nothing.
-use mathlib.Core.Path.{_≡_, refl}
+-- Laws: what the status is, its number and integrator, and what a paused one says, for any due ticks, tick and values. Assumes nothing.
+use mathlib.Core.Path.{_≡_, refl, sym}
 use mathlib.Core.Bool.{Bool, true, false, cond, not, _&&_, _||_, true≢false, or-true}
 use mathlib.Core.Logic.{_⊎_, inl, inr, _↔_}
 use mathlib.Core.List.{List}
@@ -16,9 +16,50 @@ use Rattle.plan.specs.Lists.{natAt}
 use Rattle.plan.specs.Laws.Searches.{First, first, first-unique, first-ext}
 use Rattle.plan.specs.declared.Plan.{Plan}
 use Rattle.machine.specs.Reach.{isDue}
-use Rattle.machine.specs.Status.{bars, barring, statusAt, integratorAt, statusOf, isPaused}
+use Rattle.machine.specs.Status.{statusNumber, statusIntegrator, statusPaused, bars, barring, statusBy, statusAt, statusOf, isPaused}
 use Rattle.machine.specs.Instant.{positionAt, tickOf}
 use Rattle.machine.specs.declared.Running.{Running}
+use Rattle.machine.specs.declared.Status.{Status}
+use Rattle.machine.specs.declared.Status.the-variants.{Paused, Finished, Range}
+
+-- ---- of any status
+pub number-most : (status : Status) → statusNumber status ≤ 2
+unfolding statusNumber
+number-most Paused = omega arith
+number-most Finished = omega arith
+number-most (Range i) = omega arith
+
+pub no-integrator : (status : Status) → (statusNumber status ≡ 2 → ⊥) → statusIntegrator status ≡ 0
+unfolding statusNumber statusIntegrator
+no-integrator Paused h = refl
+no-integrator Finished h = refl
+no-integrator (Range i) h = absurd (h refl)
+
+pub paused-true : (status : Status) → status ≡ Paused → statusPaused status ≡ true
+unfolding statusPaused
+paused-true status e = rw e
+
+pub paused-false : (status : Status) → (status ≡ Paused → ⊥) → statusPaused status ≡ false
+unfolding statusPaused
+paused-false Paused h = absurd (h refl)
+paused-false Finished h = refl
+paused-false (Range i) h = refl
+
+pub true-paused : (status : Status) → statusPaused status ≡ true → status ≡ Paused
+unfolding statusPaused
+true-paused Paused e = refl
+true-paused Finished e = absurd (true≢false (sym e))
+true-paused (Range i) e = absurd (true≢false (sym e))
+
+pub zero-paused : (status : Status) → statusNumber status ≡ 0 → status ≡ Paused
+unfolding statusNumber
+zero-paused Paused e = refl
+zero-paused Finished e = absurd (omega arith)
+zero-paused (Range i) e = absurd (omega arith)
+
+pub paused-zero : (status : Status) → status ≡ Paused → statusNumber status ≡ 0
+unfolding statusNumber
+paused-zero status e = rw e
 
 module _ (d : List ℕ) (t : ℕ) (value : ℕ → ℤ) (i : ℕ) where
   -- ---- integrator i bars the instant, or does not
@@ -65,55 +106,45 @@ module _ (p : Plan) (d : List ℕ) (t : ℕ) (value : ℕ → ℤ) where
   going : (t ≡ never → ⊥) → t ≤ p .horizon → (eqb t never || ltb (p .horizon) t) ≡ false
   going h l = rw (ne-eqb t never h, le-ltb (p .horizon) t l)
 
-  pub status-finished : (t ≡ never) ⊎ (p .horizon < t) → statusAt p d t value ≡ 1
-  unfolding statusAt
+  pub status-finished : (t ≡ never) ⊎ (p .horizon < t) → statusAt p d t value ≡ Finished
+  unfolding statusAt statusBy
   status-finished (inl e) = rw (eq-eqb t never e)
   status-finished (inr h) = rw (lt-ltb (p .horizon) t h, or-true (eqb t never))
 
   -- with the lowest integrator that bars it
   pub status-range : (t ≡ never → ⊥) → t ≤ p .horizon → (i : ℕ) → i < p .counts .n → natAt d i ≡ t → M < ∣ value i ∣
-      → ((j : ℕ) → j < i → natAt d j ≡ t → ∣ value j ∣ ≤ M) → (statusAt p d t value ≡ 2) × (integratorAt p d t value ≡ i)
-  unfolding integratorAt statusAt
+      → ((j : ℕ) → j < i → natAt d j ≡ t → ∣ value j ∣ ≤ M) → statusAt p d t value ≡ Range i
+  unfolding statusAt statusBy
   status-range h l i k e b f =
-      let this = barring-is i (omega arith) f (λ m. bars-true d t value i e b) in let in-range = lt-ltb i (p .counts .n) k in
-      (rw (going h l, ← this, in-range), rw (going h l, ← this, in-range))
+      let this = barring-is i (omega arith) f (λ m. bars-true d t value i e b) in
+      rw (going h l, ← this, lt-ltb i (p .counts .n) k)
 
-  pub status-paused : (t ≡ never → ⊥) → t ≤ p .horizon → ((i : ℕ) → i < p .counts .n → natAt d i ≡ t → ∣ value i ∣ ≤ M) → statusAt p d t value ≡ 0
-  unfolding statusAt
+  pub status-paused : (t ≡ never → ⊥) → t ≤ p .horizon → ((i : ℕ) → i < p .counts .n → natAt d i ≡ t → ∣ value i ∣ ≤ M)
+      → statusAt p d t value ≡ Paused
+  unfolding statusAt statusBy
   status-paused h l f = rw (going h l, le-ltb (barring p d t value) (p .counts .n) (barring-none .1 f))
 
-  pub no-integrator : (statusAt p d t value ≡ 2 → ⊥) → integratorAt p d t value ≡ 0
-  unfolding integratorAt
-  no-integrator h = rw (ne-eqb (statusAt p d t value) 2 h)
-
-  pub status-most : statusAt p d t value ≤ 2
-  unfolding statusAt
-  status-most = go (eqb t never || ltb (p .horizon) t) (ltb (barring p d t value) (p .counts .n))
-    where
-      go : (a b : Bool) → cond a 1 (cond b 2 0) ≤ 2
-      go true b = omega arith
-      go false true = omega arith
-      go false false = omega arith
-
-  pub integrator-most : p .counts .n ≤ 32 → integratorAt p d t value ≤ 31
-  unfolding integratorAt statusAt
+  pub integrator-most : p .counts .n ≤ 32 → statusIntegrator (statusAt p d t value) ≤ 31
+  unfolding statusAt statusBy statusIntegrator
   integrator-most h = go (eqb t never || ltb (p .horizon) t) (ltb (barring p d t value) (p .counts .n)) refl
     where
-      go : (a b : Bool) → ltb (barring p d t value) (p .counts .n) ≡ b → cond (eqb (cond a 1 (cond b 2 0)) 2) (barring p d t value) 0 ≤ 31
+      go : (a b : Bool) → ltb (barring p d t value) (p .counts .n) ≡ b
+          → statusIntegrator (cond a Finished (cond b (Range (barring p d t value)) Paused)) ≤ 31
       go true b e = omega arith
       go false true e = omega (arith, ltb-true (barring p d t value) (p .counts .n) e)
       go false false e = omega arith
 
-  -- ---- what a status of 0 says
-  module _ (zero-status : statusAt p d t value ≡ 0) where
+  -- ---- what a paused status says
+  module _ (paused : statusAt p d t value ≡ Paused) where
     tests : (eqb t never ≡ false) × (ltb (p .horizon) t ≡ false) × (ltb (barring p d t value) (p .counts .n) ≡ false)
-    unfolding statusAt
-    tests = go (eqb t never) (ltb (p .horizon) t) (ltb (barring p d t value) (p .counts .n)) zero-status
+    unfolding statusAt statusBy statusPaused
+    tests = go (eqb t never) (ltb (p .horizon) t) (ltb (barring p d t value) (p .counts .n)) (paused-true (statusAt p d t value) paused)
       where
-        go : (a b c : Bool) → _≡_ {A = ℕ} (cond (a || b) 1 (cond c 2 0)) 0 → (a ≡ false) × (b ≡ false) × (c ≡ false)
-        go true b c e = absurd (omega arith)
-        go false true c e = absurd (omega arith)
-        go false false true e = absurd (omega arith)
+        go : (a b c : Bool) → statusPaused (cond (a || b) Finished (cond c (Range (barring p d t value)) Paused)) ≡ true
+            → (a ≡ false) × (b ≡ false) × (c ≡ false)
+        go true b c e = absurd (true≢false (sym e))
+        go false true c e = absurd (true≢false (sym e))
+        go false false true e = absurd (true≢false (sym e))
         go false false false e = (refl, refl, refl)
 
     pub paused-horizon : t ≤ p .horizon
@@ -122,32 +153,31 @@ module _ (p : Plan) (d : List ℕ) (t : ℕ) (value : ℕ → ℤ) where
     pub paused-size : (i : ℕ) → i < p .counts .n → natAt d i ≡ t → ∣ value i ∣ ≤ M
     paused-size = barring-none .0 (ltb-false (barring p d t value) (p .counts .n) (tests .2))
 
--- ---- values that agree give one status and one integrator
+-- ---- values that agree give one status
 module _ (p : Plan) (d : List ℕ) (t : ℕ) (value value′ : ℕ → ℤ) (same : (i : ℕ) → i < p .counts .n → value i ≡ value′ i) where
   barring-same : barring p d t value ≡ barring p d t value′
   unfolding barring bars
   barring-same = first-ext (bars d t value) (bars d t value′) 0 (p .counts .n) (λ i h. rw (same i (omega arith)))
 
   pub status-same : statusAt p d t value ≡ statusAt p d t value′
-  unfolding statusAt
+  unfolding statusAt statusBy
   status-same = rw barring-same
 
-  pub integrator-same : integratorAt p d t value ≡ integratorAt p d t value′
-  unfolding integratorAt
-  integrator-same = rw (status-same, barring-same)
-
 -- ---- a paused state
-pub is-paused : (p : Plan) (r : Running) → statusOf p r ≡ 0 → isPaused p r ≡ true
-unfolding isPaused
-is-paused p r e = eq-eqb (statusOf p r) 0 e
+module _ (p : Plan) (r : Running) where
+  pub is-paused : statusOf p r ≡ Paused → isPaused p r ≡ true
+  unfolding isPaused
+  is-paused = paused-true (statusOf p r)
 
-module _ (p : Plan) (r : Running) (paused : isPaused p r ≡ true) where
-  zero-status : statusAt p (r .d) (tickOf p r) (positionAt r (tickOf p r)) ≡ 0
-  unfolding isPaused statusOf
-  zero-status = eqb-true (statusOf p r) 0 paused
+  module _ (paused : isPaused p r ≡ true) where
+    pub paused-status : statusOf p r ≡ Paused
+    unfolding isPaused
+    paused-status = true-paused (statusOf p r) paused
 
-  pub tick-horizon : tickOf p r ≤ p .horizon
-  tick-horizon = paused-horizon p (r .d) (tickOf p r) (positionAt r (tickOf p r)) zero-status
+    pub tick-horizon : tickOf p r ≤ p .horizon
+    unfolding statusOf
+    tick-horizon = paused-horizon p (r .d) (tickOf p r) (positionAt r (tickOf p r)) paused-status
 
-  pub due-size : (i : ℕ) → i < p .counts .n → natAt (r .d) i ≡ tickOf p r → ∣ positionAt r (tickOf p r) i ∣ ≤ M
-  due-size = paused-size p (r .d) (tickOf p r) (positionAt r (tickOf p r)) zero-status
+    pub due-size : (i : ℕ) → i < p .counts .n → natAt (r .d) i ≡ tickOf p r → ∣ positionAt r (tickOf p r) i ∣ ≤ M
+    unfolding statusOf
+    due-size = paused-size p (r .d) (tickOf p r) (positionAt r (tickOf p r)) paused-status

@@ -24,7 +24,7 @@ use Rattle.machine.specs.Laws.Soundness.{Takes}
 use Rattle.machine.specs.declared.Running.{Running}
 use Rattle.rates.specs.Links.{rangesOf}
 use Rattle.rates.specs.Laws.OwnRange.{own-rated, own-rate}
-use Rattle.timing.specs.Laws.Standings.{ready-at}
+use Rattle.timing.specs.Laws.Statuses.{ready-at}
 use Rattle.timing.specs.Laws.Dues.{due-ready-then, due-is-then}
 use Rattle.moves.specs.Motion.{Motion, moving, placeOf, slopeOf, dueFrom, moveOne, AllMovable}
 use Rattle.moves.specs.Laws.Moving.{Figures, figuresAt, Full, movedFigures, move-full, move-own, move-others}

@@ -20,10 +20,11 @@ use Rattle.machine.specs.SoundTest.{isSound}
 use Rattle.machine.specs.Laws.Tested.{sound-means}
 use Rattle.machine.specs.declared.State.{State}
 use Rattle.machine.specs.Instant.{positionAt}
+use Rattle.machine.specs.Status.{statusNumber, statusIntegrator}
 use Rattle.machine.specs.Runs.{events, positionOf}
 use Rattle.machine.specs.declared.Engine.{Engine}
 use Rattle.timing.specs.Ticks.{PositionReady}
-use Rattle.timing.specs.Laws.Standings.{ready-at}
+use Rattle.timing.specs.Laws.Statuses.{ready-at}
 use Rattle.steps.specs.Events.{putAt}
 use Rattle.engine.specs.Running.{endedOf, RunReady}
 use Rattle.engine.specs.declared.runs.Ended.{Ended}
@@ -95,21 +96,22 @@ module _ (engine : Engine) (st : State) (budget : ℕ) (buffer : List ℕ) where
         pub run-ready : RunReady st budget (length buffer)
         run-ready = record { sound = sound-means st .0 yes; room = room }
 
-        -- from what the engine's run answers, and the buffer that it leaves
-        pub run-accepted : {ended : Ended} {after : List ℕ} → ended ≡ endedOf (st .plan) engine budget (st .run)
+        -- from what the engine's run answers, the numbers of its status, and the buffer that it leaves
+        pub run-accepted : {ended : Ended} {status integrator : ℕ} {after : List ℕ} → ended ≡ endedOf (st .plan) engine budget (st .run)
+            → status ≡ statusNumber (ended .status) → integrator ≡ statusIntegrator (ended .status)
             → after ≡ putAt buffer 0 (events (st .plan) engine budget (st .run))
             → RanAs (record {
               number = 0;
-              status = ended .status;
-              integrator = ended .integrator;
+              status = status;
+              integrator = integrator;
               written = ended .written;
               state = record { plan = st .plan; run = ended .run };
             }) after
         unfolding runOf bufferOfRun runNumber declineOf roomOf ranState ranEvents endedOf putAt
-        run-accepted e a =
+        run-accepted e s i a =
             let within = le-leb budget 1024 few in
             let enough = le-leb (budget * (st .plan .counts .n + st .plan .counts .m) * 12) (length buffer) room in
-            (rw (e, yes, within, enough), a ∙ rw (yes, within, enough, zero-add))
+            (rw (s, i, e, yes, within, enough), a ∙ rw (yes, within, enough, zero-add))
 
 -- ---- position call
 module _ (st : State) (i : ℕ) where

@@ -20,7 +20,7 @@ use Rattle.plan.specs.Numbers.{M}
 use Rattle.plan.specs.Lists.{natAt, intAt, firstFrom}
 use Rattle.plan.specs.Laws.Searches.{first-unique, first-ext}
 use Rattle.timing.specs.Ticks.{PositionReady}
-use Rattle.timing.specs.Standing.{barsIn, DueReach}
+use Rattle.timing.specs.Status.{barsIn, DuePositionsReady}
 
 -- the value that integrator i would take at t
 abbrev pub valueAt : ℕ → List ℤ → List ℤ → List ℕ → ℕ → ℤ
@@ -74,11 +74,11 @@ module _ {n left : ℕ} (some : 0 < left) (below : left < 2 ^ n) (few : n ≤ 32
         go i true d true = rw (eqb-true i (lowestOf 32 left) d, e)
         go i false d true = refl
 
-    pub reach-lowest : DueReach left t x s l → PositionReady (intAt x (lowestOf 32 left)) (intAt s (lowestOf 32 left)) (natAt l (lowestOf 32 left)) t
-    reach-lowest r = r .ready (lowestOf 32 left) (has-lowest 32 left some wide)
+    pub ready-lowest : DuePositionsReady left t x s l → PositionReady (intAt x (lowestOf 32 left)) (intAt s (lowestOf 32 left)) (natAt l (lowestOf 32 left)) t
+    ready-lowest r = r .ready (lowestOf 32 left) (has-lowest 32 left some wide)
 
-    pub reach-rest : DueReach left t x s l → DueReach (restOf left) t x s l
-    reach-rest r = record { ready = λ i e. r .ready i (and-eq-true-iff (has left i) _ .0 (sym (has-rest 32 left i some wide) ∙ e) .0) }
+    pub ready-rest : DuePositionsReady left t x s l → DuePositionsReady (restOf left) t x s l
+    ready-rest r = record { ready = λ i e. r .ready i (and-eq-true-iff (has left i) _ .0 (sym (has-rest 32 left i some wide) ∙ e) .0) }
 
 -- none is left
 pub bars-none : (n t : ℕ) (x s : List ℤ) (l : List ℕ) {left : ℕ} → left ≡ 0 → n ≡ firstFrom (barsIn left t x s l) 0 n

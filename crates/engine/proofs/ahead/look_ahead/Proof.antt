@@ -12,16 +12,16 @@ next-tick-requires c κs = search needs
 equal-to-requires : tie.Need-equal-to-requires
 equal-to-requires c κs = search needs
 
-standing-at-requires : tie.Need-standing-at-requires
+status-at-requires : tie.Need-status-at-requires
 unfolding tickAhead dueAhead isDue
-standing-at-requires c κs =
+status-at-requires c κs =
     let start = c .before .before in
-    (start .pre .few, rw (c .equal-to .ensures) (maskOf-lt _ (start .args .n)), λ _. rw (c .equal-to .ensures, c .before .next-tick .ensures) (start .pre .reach))
+    (start .pre .few, rw (c .equal-to .ensures) (maskOf-lt _ (start .args .n)), λ _. rw (c .equal-to .ensures, c .before .next-tick .ensures) (start .pre .positions))
 
 returns : tie.Need-returns
 unfolding tickAhead dueAhead isDue aheadOf
-returns c = rw (c .standing-at .ensures, c .before .equal-to .ensures, c .before .before .next-tick .ensures)
+returns c = rw (c .status-at .ensures, c .before .equal-to .ensures, c .before .before .next-tick .ensures)
 
 pub look-ahead-spec : {M : Type 1} → statement M
 look-ahead-spec =
-    tie.close (tie.spec next-tick-requires equal-to-requires standing-at-requires returns)
+    tie.close (tie.spec next-tick-requires equal-to-requires status-at-requires returns)

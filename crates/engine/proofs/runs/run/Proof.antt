@@ -1,11 +1,14 @@
 -- The loop keeps `Progress`: what is left of the run ends where the whole run ends.
-use mathlib.Core.Path.{_≡_}
+use mathlib.Core.Path.{_≡_, sym, _∙_}
+use mathlib.Core.Bool.{true}
+use mathlib.Core.Logic.{⊎-elim}
 use Prim.Native.Nat.{_-_, _<_}
 use native.Mathlib.Omega.{arith}
 use borrow.Author.Needs.{needs}
-use borrow.Author.Tests.{eqb-true, eqb-false}
+use borrow.Author.Tests.{not-true, not-false}
 use Rattle.plan.specs.Laws.Counts.{Counts, counts-of}
 use Rattle.plan.specs.declared.Plan.{Plan}
+use Rattle.machine.specs.Status.{statusPaused}
 use Rattle.machine.specs.Sound.{SoundRunning, RunningShaped}
 use Rattle.machine.specs.declared.Running.{Running}
 use Rattle.rates.specs.Links.{rangesOf}
@@ -18,11 +21,11 @@ use Rattle.engine.proofs.runs.run.Statement.{statement}
 use Rattle.engine.proofs.runs.run.Tie as tie
 
 abbrev Inv-loop : tie.InvT-loop
-Inv-loop engine budget buf₀ st _ _ _ _ _ _ _ _ _ _ _ _ _ _ buf values x q s l d inputs clocks end taken ahead =
-    law.Progress (st .plan) engine budget (st .run) buf₀ (runningOf x q s l d inputs clocks) values end taken ahead buf
+Inv-loop engine budget buf₀ st _ _ _ _ _ _ _ _ _ _ _ _ _ buf values x q s l d inputs clocks end taken =
+    law.Progress (st .plan) engine budget (st .run) buf₀ (runningOf x q s l d inputs clocks) values end taken buf
 
 abbrev μ-loop : tie.MeasureT-loop
-μ-loop _ budget _ _ _ _ _ _ _ _ _ _ _ _ _ _ _ _ _ _ _ _ _ _ _ _ _ _ taken _ = budget - taken
+μ-loop _ budget _ _ _ _ _ _ _ _ _ _ _ _ _ _ _ _ _ _ _ _ _ _ _ _ _ taken = budget - taken
 
 module _ (c : tie.Start Inv-loop μ-loop) where
   abbrev p : Plan
@@ -57,24 +60,28 @@ before-reach c = c .before .before .before .before .before .before .before .befo
 abbrev before-values : tie.After-source-values Inv-loop μ-loop → tie.Start Inv-loop μ-loop
 before-values c = before-reach (c .before .before .before .before .before .before .before .before .before)
 
+module _ (c : tie.After-look-ahead Inv-loop μ-loop) where
+  abbrev loop : tie.At-loop Inv-loop μ-loop
+  loop = c .before .before .before .before .before .before .before
+
+  abbrev values : tie.After-source-values Inv-loop μ-loop
+  values = loop .before .before .before .before .before .before .before .before
+
 -- a turn of the loop, from the call of `take_instant` in it
-abbrev turn : tie.After-take-instant-arg15 Inv-loop μ-loop → tie.Then1 Inv-loop μ-loop
+abbrev turn : tie.After-take-instant-arg15 Inv-loop μ-loop → tie.Else2 Inv-loop μ-loop
 turn c =
     c .before .before .before .before .before .before .before .before .before .before .before .before
     .before .before .before .before .before .before .before .before .before .before .before .before .before
 
-module _ (c : tie.Then1 Inv-loop μ-loop) where
-  abbrev loop : tie.At-loop Inv-loop μ-loop
-  loop = c .before .before .before
+module _ (c : tie.Else2 Inv-loop μ-loop) where
+  abbrev ahead : tie.After-look-ahead Inv-loop μ-loop
+  ahead = c .before .before .before
 
-  abbrev values : tie.After-source-values Inv-loop μ-loop
-  values = loop .before .before .before .before .before .before .before .before .before .before .before .before .before .before .before
+  more : loop ahead .loop .taken < before-values (values ahead) .args .budget
+  more = c .before .before .if1 .left
 
-  more : loop .loop .taken < before-values values .args .budget
-  more = c .before .before .loop-test .taken
-
-  paused : loop .loop .ahead .status ≡ 0
-  paused = eqb-true (loop .loop .ahead .status) 0 (c .if1 .taken)
+  paused : statusPaused (ahead .look-ahead .result .status) ≡ true
+  paused = sym (c .before .is-paused .ensures) ∙ not-false (c .before .is-paused .result) (c .if2 .left)
 
 -- ---- before the loop
 link-ranges-requires : tie.Need-link-ranges-requires Inv-loop μ-loop
@@ -93,60 +100,53 @@ source-values-requires c κs =
     let s = before-reach (c .before .before .before .before .before .before .before .before) in
     (limits s .n, limits s .m, law.source-values-ready (p s) (r s) (sound s))
 
-look-ahead-requires : tie.Need-look-ahead-requires Inv-loop μ-loop
-look-ahead-requires c κs =
-    let s = before-values (c .before .before .before .before .before .before .before .before .before .before .before .before .before) in
-    ahead-ready (p s) (r s) (sound s)
-
 loop-holds : tie.Need-loop-holds Inv-loop μ-loop
 loop-holds c =
-    let values = c .before .before .before .before .before .before .before .before .before .before .before .before .before .before in
+    let values = c .before .before .before .before .before .before .before in
     let s = before-values values in
     law.begun (p s) (s .args .engine) (s .args .budget) (r s) (s .args .buf .now) (shaped s) (sound s) (s .pre .room)
-    (values .source-values .ensures) (c .look-ahead .ensures)
+    (values .source-values .ensures)
+
+-- ---- what lies ahead
+look-ahead-requires : tie.Need-look-ahead-requires Inv-loop μ-loop
+look-ahead-requires c κs = ahead-ready _ _ (c .before .before .before .before .before .before .loop .inv .sound)
+
+is-paused-requires : tie.Need-is-paused-requires Inv-loop μ-loop
+is-paused-requires c κs = search needs
+
+-- ---- the end, by the budget or by the status
+same-length : tie.Need-same-length Inv-loop μ-loop
+same-length c = loop (c .before) .loop .inv .same-size
+
+returns : tie.Need-returns Inv-loop μ-loop
+returns c =
+    let now = loop (c .before) .loop .inv in let ahead = c .before .look-ahead .ensures in
+    ⊎-elim (λ w. law.spent now ahead (w .taken))
+    (λ w. law.stopped now ahead (sym (w .1 .ensures) ∙ not-true (w .1 .result) (w .2 .taken))) (c .if1 .came)
 
 -- ---- a turn
 take-instant-requires : tie.Need-take-instant-requires Inv-loop μ-loop
 unfolding rangesOf reachTable
 take-instant-requires c κs =
     let t = turn c in
-    let reach = values t .before .before .before .before .before .before .before .before .before in
+    let reach = values (ahead t) .before .before .before .before .before .before .before .before .before in
     let ranges = reach .before .before .before .before .before .before .before .before in
-    law.instant-ready (loop t .loop .inv) (more t) (paused t) (ranges .link-ranges .ensures) (reach .reach-table .ensures)
-
-look-ahead-requires-2 : tie.Need-look-ahead-requires-2 Inv-loop μ-loop
-look-ahead-requires-2 c κs =
-    let step = c .before .before .before .before .before .before .before .before .before in
-    let t = turn (step .before) in
-    law.ahead-ready-then (loop t .loop .inv) (more t) (paused t) (step .take-instant .ensures .figures)
+    law.instant-ready (loop (ahead t) .loop .inv) (ahead t .look-ahead .ensures) (more t) (paused t)
+    (ranges .link-ranges .ensures) (reach .reach-table .ensures)
 
 add-taken : tie.Need-add-taken Inv-loop μ-loop
-add-taken c =
-    let t = turn (c .before .before .before .before .before .before .before .before .before .before .before) in
-    omega (arith, more t, before-values (values t) .fits .budget)
+add-taken c = let t = turn (c .before .before .before .before) in omega (arith, more t, before-values (values (ahead t)) .fits .budget)
 
 loop-less : tie.Need-loop-less Inv-loop μ-loop
-loop-less c = omega (arith, more (turn (c .before .before .before .before .before .before .before .before .before .before .before)))
+loop-less c = omega (arith, more (turn (c .before .before .before .before)))
 
 loop-again : tie.Need-loop-again Inv-loop μ-loop
 loop-again c =
-    let step = c .before .before .before .before .before .before .before .before .before .before in
+    let step = c .before .before .before in
     let t = turn (step .before) in
     let done = step .take-instant .ensures in
-    law.advanced (loop t .loop .inv) (more t) (paused t) (done .figures) (done .sources) (done .bytes) (done .place) (c .look-ahead2 .ensures)
-
--- ---- the end, by the status or by the budget
-same-length : tie.Need-same-length Inv-loop μ-loop
-same-length c = c .before .before .before .loop .inv .same-size
-
-returns : tie.Need-returns Inv-loop μ-loop
-returns c = let loop = c .before .before .before .loop in law.stopped (loop .inv) (eqb-false (loop .ahead .status) 0 (c .if1 .left))
-
-same-length-2 : tie.Need-same-length-2 Inv-loop μ-loop
-same-length-2 c = c .before .loop .inv .same-size
-
-returns-2 : tie.Need-returns-2 Inv-loop μ-loop
-returns-2 c = law.spent (c .before .loop .inv) (c .loop-test .left)
+    law.advanced (loop (ahead t) .loop .inv) (ahead t .look-ahead .ensures) (more t) (paused t)
+    (done .figures) (done .sources) (done .bytes) (done .place)
 
 pub run-spec : {M : Type 1} → statement M
 run-spec =
@@ -158,14 +158,12 @@ run-spec =
     add-reach-table
     reach-table-requires
     source-values-requires
-    look-ahead-requires
     loop-holds
-    take-instant-requires
-    look-ahead-requires-2
-    add-taken
-    loop-less
-    loop-again
+    look-ahead-requires
+    is-paused-requires
     same-length
     returns
-    same-length-2
-    returns-2)
+    take-instant-requires
+    add-taken
+    loop-less
+    loop-again)

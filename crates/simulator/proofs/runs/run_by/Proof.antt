@@ -77,15 +77,24 @@ run-requires c κs =
     let a = e .before .before .before .before .args in
     run-ready (a .engine) (a .state) (a .budget) (now (a .buf)) (sound (e .before)) (e .if2 .left) (c .before .if3 .left)
 
+number-requires : tie.Need-number-requires
+number-requires c κs = search needs
+
+integrator-requires : tie.Need-integrator-requires
+integrator-requires c κs = search needs
+
 same-length : tie.Need-same-length
 same-length c = search needs
 
 returns-4 : tie.Need-returns-4
 returns-4 c =
-    let ran = c .before .before .before .before in
+    let integrator = c .before .before in
+    let number = integrator .before in
+    let ran = number .before .before .before in
     let room = ran .before .before in
     let e = room .before .before in
-    run-accepted _ _ _ _ (sound (e .before)) (e .if2 .left) (room .if3 .left) (ran .run .ensures .0) (ran .run .ensures .1)
+    run-accepted _ _ _ _ (sound (e .before)) (e .if2 .left) (room .if3 .left) (ran .run .ensures .0) (number .number .ensures)
+    (integrator .integrator .ensures) (ran .run .ensures .1)
 
 pub run-by-spec : {M : Type 1} → statement M
 run-by-spec =
@@ -102,5 +111,7 @@ run-by-spec =
     declined-requires-3
     returns-3
     run-requires
+    number-requires
+    integrator-requires
     same-length
     returns-4)

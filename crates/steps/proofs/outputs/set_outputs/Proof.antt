@@ -11,8 +11,8 @@ use Rattle.integers.specs.Laws.Signed64.{rd}
 use Rattle.bitset.specs.Mask.{has, each}
 use Rattle.bitset.specs.Laws.Visiting.{rest-lt, lowest-lt, each-turn, each-done}
 use Rattle.plan.specs.Lists.{intAt}
-use Rattle.timing.specs.Standing.{DueReach}
-use Rattle.timing.specs.Laws.Barring.{valueAt, reach-lowest, reach-rest}
+use Rattle.timing.specs.Status.{DuePositionsReady}
+use Rattle.timing.specs.Laws.Barring.{valueAt, ready-lowest, ready-rest}
 use Rattle.steps.specs.Outputs.{outputting, outputOne}
 use Rattle.steps.proofs.outputs.set_outputs.Statement.{statement}
 use Rattle.steps.proofs.outputs.set_outputs.Tie as tie
@@ -20,7 +20,7 @@ use Rattle.steps.proofs.outputs.set_outputs.Tie as tie
 abbrev Inv-loop : tie.InvT-loop
 Inv-loop due t x s l q₀ values₀ left₀ q values left =
     let f = outputOne t x s l in
-    (left < 2 ^ 32) × DueReach left t x s l × (each f (has left) 32 (outputting q values) ≡ each f (has due) 32 (outputting q₀ values₀))
+    (left < 2 ^ 32) × DuePositionsReady left t x s l × (each f (has left) 32 (outputting q values) ≡ each f (has due) 32 (outputting q₀ values₀))
 
 abbrev μ-loop : tie.MeasureT-loop
 μ-loop due t x s l q₀ values₀ left₀ q values left = left
@@ -69,7 +69,7 @@ position-requires c κs =
     let x : SFits w64 (intAt (now (a .x)) (e .result)) = sfits-of (c .before .before .position-arg .given) in
     let s : SFits w64 (intAt (now (a .s)) (e .result)) = sfits-of (c .before .position-arg2 .given) in
     rw (toZ-ofZ x, toZ-ofZ s, e .ensures)
-    (reach-lowest {n = 32} (omega arith) (m .loop .inv .0) (omega arith) _ _ _ _ (m .loop .inv .1))
+    (ready-lowest {n = 32} (omega arith) (m .loop .inv .0) (omega arith) _ _ _ _ (m .loop .inv .1))
 
 mul-value : tie.Need-mul-value Inv-loop μ-loop
 mul-value c = omega (arith, in-range (c .before .before .before .before))
@@ -98,7 +98,7 @@ loop-again c =
     let m = v .before .before .before .before .before .before .loop in
     let a = v .before .before .before .before .before .before .before .args in (
       omega (arith, c .rest .ensures, rest-lt (m .left) (omega arith)),
-      rw (c .rest .ensures) (reach-rest {n = 32} (omega arith) (m .inv .0) (omega arith) _ _ _ _ (m .inv .1)),
+      rw (c .rest .ensures) (ready-rest {n = 32} (omega arith) (m .inv .0) (omega arith) _ _ _ _ (m .inv .1)),
       rw (value v)
           (each-turn (outputOne (a .t) (now (a .x)) (now (a .s)) (now (a .l))) 32 (m .left) (i .result) _ (outputting (m .q) (m .values)) _
           (omega arith) (m .inv .0) (i .ensures) (c .rest .ensures) (m .inv .2)),

@@ -1,4 +1,4 @@
--- `dynamics::lowest_barring` meets its contract: the lowest that bars the instant is among those left, till it is the lowest left.
+-- `timing::lowest_barring` meets its contract: the lowest that bars the instant is among those left, till it is the lowest left.
 -- Assumes nothing.
 use borrow.Author.Needs.{needs, sfits-of}
 use mathlib.Core.Path.{_≡_, refl, _∙_}
@@ -19,15 +19,15 @@ use Rattle.bitset.specs.Mask.{lowestOf}
 use Rattle.bitset.specs.Laws.Visiting.{rest-lt}
 use Rattle.plan.specs.Numbers.{M}
 use Rattle.plan.specs.Lists.{intAt, firstFrom}
-use Rattle.timing.specs.Standing.{barsIn, DueReach}
-use Rattle.timing.specs.Laws.Barring.{valueAt, lowest-below, bars-none, bars-lowest, bars-rest, reach-lowest, reach-rest}
+use Rattle.timing.specs.Status.{barsIn, DuePositionsReady}
+use Rattle.timing.specs.Laws.Barring.{valueAt, lowest-below, bars-none, bars-lowest, bars-rest, ready-lowest, ready-rest}
 use Rattle.timing.specs.Laws.Barring.{above-most, below-least, inside}
 use Rattle.timing.proofs.status.lowest_barring.Statement.{statement}
 use Rattle.timing.proofs.status.lowest_barring.Tie as tie
 
 abbrev Inv-loop : tie.InvT-loop
 Inv-loop n due t x s l left₀ left =
-    (left < 2 ^ n) × DueReach left t x s l × (firstFrom (barsIn left t x s l) 0 n ≡ firstFrom (barsIn due t x s l) 0 n)
+    (left < 2 ^ n) × DuePositionsReady left t x s l × (firstFrom (barsIn left t x s l) 0 n ≡ firstFrom (barsIn due t x s l) 0 n)
 
 abbrev μ-loop : tie.MeasureT-loop
 μ-loop n due t x s l left₀ left = left
@@ -78,7 +78,7 @@ position-requires : tie.Need-position-requires Inv-loop μ-loop
 position-requires c κs =
     let s = c .before in let x = s .before in let i = x .before .lowest in let m = x .before .before .before in let a = m .before in
     rw (read (now (a .args .x)) (i .result) (x .position-arg .given), read (now (a .args .s)) (i .result) (s .position-arg2 .given), i .ensures)
-    (reach-lowest (omega arith) (m .loop .inv .0) (a .pre .0) _ _ _ _ (m .loop .inv .1))
+    (ready-lowest (omega arith) (m .loop .inv .0) (a .pre .0) _ _ _ _ (m .loop .inv .1))
 
 sub-if2 : tie.Need-sub-if2 Inv-loop μ-loop
 sub-if2 c = search needs
@@ -107,7 +107,7 @@ loop-again c =
     let few = a .pre .0 in
     rw (c .rest .ensures) (
       omega (arith, m .loop .inv .0, rest-lt (m .loop .left) (omega arith)),
-      reach-rest (omega arith) (m .loop .inv .0) few _ _ _ _ (m .loop .inv .1),
+      ready-rest (omega arith) (m .loop .inv .0) few _ _ _ _ (m .loop .inv .1),
       bars-rest (omega arith) (m .loop .inv .0) few _ _ _ _ (rw (value v) at kept) ∙ m .loop .inv .2,
     )
 

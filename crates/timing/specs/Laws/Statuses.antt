@@ -1,9 +1,9 @@
 -- Laws: the code's status is that of document 01 for a sound state, and what working it out asks. Assumes nothing.
 use mathlib.Core.Path.{_≡_, refl, sym, _∙_}
-use mathlib.Core.Bool.{Bool, true, false, cond, _||_, true≢false}
+use mathlib.Core.Bool.{Bool, true, false, true≢false}
 use Prim.Native.Nat.{ℕ, _≤_, _<_}
 use native.Mathlib.Omega.{arith}
-use lib.Dec.{ltb, eqb}
+use lib.Dec.{ltb}
 use borrow.Author.Tests.{ltb-true, ltb-false, eqb-true}
 use Rattle.bitset.specs.Mask.{has, maskOf}
 use Rattle.bitset.specs.Laws.Bits.{has-high, has-maskOf, maskOf-lt}
@@ -13,15 +13,14 @@ use Rattle.plan.specs.Laws.Searches.{first-ext}
 use Rattle.plan.specs.declared.Plan.{Plan}
 use Rattle.machine.specs.Reach.{isDue}
 use Rattle.machine.specs.Instant.{positionAt, tickOf}
-use Rattle.machine.specs.Status.{bars, barring, statusAt, integratorAt, statusOf, integratorOf}
+use Rattle.machine.specs.Status.{bars, barring, statusBy, statusAt, statusOf}
 use Rattle.machine.specs.Sound.{SoundRunning}
 use Rattle.machine.specs.Laws.Levels.{inside-size}
 use Rattle.machine.specs.Laws.Positions.{inside, moved-before, elapsed-size}
 use Rattle.machine.specs.Laws.Soundness.{tick-after}
 use Rattle.machine.specs.declared.Running.{Running}
 use Rattle.timing.specs.Ticks.{PositionReady}
-use Rattle.timing.specs.Standing.{barsIn, standingOf, DueReach}
-use Rattle.timing.specs.declared.status.Standing.{Standing}
+use Rattle.timing.specs.Status.{barsIn, DuePositionsReady}
 
 module _ (p : Plan) (r : Running) where
   -- ---- what positions ask
@@ -50,15 +49,15 @@ module _ (p : Plan) (r : Running) where
       go true l = let h = ltb-true i (p .counts .n) l in (h, eqb-true (natAt (r .d) i) t (sym (has-maskOf (isDue (r .d) t) (p .counts .n) i h) ∙ e))
       go false l = absurd (true≢false (sym e ∙ has-high due (p .counts .n) i (maskOf-lt (isDue (r .d) t) (p .counts .n)) (ltb-false i (p .counts .n) l)))
 
-  pub due-reach-from : SoundRunning p r → {t due : ℕ} → r .clocks .clock ≤ t → due ≡ maskOf (isDue (r .d) t) (p .counts .n)
-      → DueReach due t (r .x) (r .s) (r .l)
-  due-reach-from ok {t} since e =
+  pub due-ready-from : SoundRunning p r → {t due : ℕ} → r .clocks .clock ≤ t → due ≡ maskOf (isDue (r .d) t) (p .counts .n)
+      → DuePositionsReady due t (r .x) (r .s) (r .l)
+  due-ready-from ok {t} since e =
       record { ready = λ i b. let h = due-bit t i (rw e at b) in ready-at ok t since i (h .0) (omega (arith, h .1)) }
 
   -- at the next instant, which lies past the clock
-  pub due-reach : SoundRunning p r → {t due : ℕ} → t ≡ tickOf p r → due ≡ maskOf (isDue (r .d) t) (p .counts .n)
-      → DueReach due t (r .x) (r .s) (r .l)
-  due-reach ok e = due-reach-from ok (omega (arith, tick-after p r ok))
+  pub due-ready : SoundRunning p r → {t due : ℕ} → t ≡ tickOf p r → due ≡ maskOf (isDue (r .d) t) (p .counts .n)
+      → DuePositionsReady due t (r .x) (r .s) (r .l)
+  due-ready ok e = due-ready-from ok (omega (arith, tick-after p r ok))
 
   -- ---- the status
   pub barring-by-mask : (t : ℕ) {due : ℕ} → due ≡ maskOf (isDue (r .d) t) (p .counts .n)
@@ -66,22 +65,8 @@ module _ (p : Plan) (r : Running) where
   unfolding barring bars barsIn positionAt
   barring-by-mask t e = rw e (first-ext _ _ 0 (p .counts .n) (λ i h. rw (has-maskOf (isDue (r .d) t) (p .counts .n) i (omega arith))))
 
-  pub standing-is : {t : ℕ} → t ≡ tickOf p r
-      → standingOf (p .horizon) (p .counts .n) t (barring p (r .d) t (positionAt r t)) ≡ record { status = statusOf p r; integrator = integratorOf p r }
-  unfolding standingOf statusAt integratorAt statusOf integratorOf
-  standing-is e = rw e (go (eqb (tickOf p r) never || ltb (p .horizon) (tickOf p r)) (ltb f (p .counts .n)))
-    where
-      f : ℕ
-      f = barring p (r .d) (tickOf p r) (positionAt r (tickOf p r))
-
-      go : (a b : Bool) → _≡_ {A = Standing} (record { status = cond a 1 (cond b 2 0); integrator = cond a 0 (cond b f 0) })
-          (record { status = cond a 1 (cond b 2 0); integrator = cond (eqb (cond a 1 (cond b 2 0)) 2) f 0 })
-      go true b = refl
-      go false true = refl
-      go false false = refl
-
-  -- what `standing_at` says for the mask of the due ones
-  pub standing-by-mask : {t due : ℕ} → t ≡ tickOf p r → due ≡ maskOf (isDue (r .d) t) (p .counts .n)
-      → standingOf (p .horizon) (p .counts .n) t (firstFrom (barsIn due t (r .x) (r .s) (r .l)) 0 (p .counts .n))
-      ≡ record { status = statusOf p r; integrator = integratorOf p r }
-  standing-by-mask e d = rw (barring-by-mask _ d) (standing-is e)
+  -- what `status_at` says for the mask of the due ones
+  pub status-by-mask : {t due : ℕ} → t ≡ tickOf p r → due ≡ maskOf (isDue (r .d) t) (p .counts .n)
+      → statusBy (p .horizon) (p .counts .n) t (firstFrom (barsIn due t (r .x) (r .s) (r .l)) 0 (p .counts .n)) ≡ statusOf p r
+  unfolding statusAt statusOf
+  status-by-mask e d = rw (barring-by-mask _ d, e)
