@@ -7,7 +7,7 @@ use lib.IntN.{ℤ, pos, _+ℤ_, _-ℤ_}
 use lib.Signed.{ltZ, _≤ℤ_}
 use lib.Dec.{leb, ltb, eqb}
 use Rattle.integers.specs.Parts.{∣_∣}
-use Rattle.plan.specs.Numbers.{M}
+use Rattle.plan.specs.Numbers.{M, largestHorizon}
 use Rattle.plan.specs.Lists.{intAt}
 use Rattle.machine.specs.Due.{dueTick}
 
@@ -21,7 +21,7 @@ figuresSound clock quantum rate x q s l d =
 
 -- what the test asks
 pub record FiguresReady (clock : ℕ) (quantum rate q : ℤ) : Type 0 where
-  pub early : clock ≤ 2000000000
+  pub early : clock ≤ largestHorizon
   pub least : pos 1 ≤ℤ quantum
   pub most : quantum ≤ℤ pos M
   pub slow : ∣ rate ∣ < 2 ^ 44

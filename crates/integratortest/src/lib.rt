@@ -1,6 +1,7 @@
 // The figures of the integrators in a sound state.
 ghost use mathlib.Core.Path.{_≡_};
 ghost use Prim.Native.Nat.{_≤_};
+ghost use Rattle.plan.specs.Numbers.{mostIntegrators};
 ghost use Rattle.plan.specs.Lists.{natAt, intAt, every};
 ghost use Rattle.integratortest.specs.Figures.{figuresSound, FiguresReady, AllReady};
 use plan::INTEGRATORS;
@@ -51,7 +52,7 @@ pub fn integrators_sound<'a>(
     l: &'a [u32; INTEGRATORS],
     d: &'a [u32; INTEGRATORS],
 ) -> bool
-    requires { ⌜ (n ≤ 32) × AllReady n clock (now quanta) (now rates) (now q) ⌝ }
+    requires { ⌜ (n ≤ mostIntegrators) × AllReady n clock (now quanta) (now rates) (now q) ⌝ }
     ensures { λ r. ⌜ r ≡ every (λ i. figuresSound clock (intAt (now (quanta .entry)) i) (intAt (now (rates .entry)) i) (intAt (now (x .entry)) i)
         (intAt (now (q .entry)) i) (intAt (now (s .entry)) i) (natAt (now (l .entry)) i) (natAt (now (d .entry)) i)) n ⌝ }
 {

@@ -123,6 +123,10 @@ headerLength = 4 + 8 * sections
 abbrev pub longestFile : ℕ
 longestFile = 4492
 
+-- "reads at most 4,493 bytes of standard input", the listing program: one more, so that a longer input is refused
+abbrev pub listingInput : ℕ
+listingInput = 4493
+
 -- "Events of an instant: .. 12 bytes each"
 abbrev pub eventSize : ℕ
 eventSize = 12
@@ -138,6 +142,7 @@ sizes =
       link = linkSize;
       command = commandSize;
       longest = longestFile;
+      listing = listingInput;
       event = eventSize;
     }
 

@@ -17,6 +17,7 @@ pub use numbers::LARGEST_HORIZON;
 pub use numbers::LINK_SIZE;
 pub use numbers::LINKS;
 pub use numbers::LISTING_BUDGET;
+pub use numbers::LISTING_INPUT;
 pub use numbers::LONGEST_FILE;
 pub use numbers::M;
 pub use numbers::NEVER;

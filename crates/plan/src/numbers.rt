@@ -109,6 +109,9 @@ pub const LONGEST_FILE: usize = HEADER_LENGTH
     + LINK_SIZE * LINKS
     + COMMAND_SIZE * COMMANDS;
 
+// "reads at most 4,493 bytes of standard input", the listing program: one more, so that a longer input is refused.
+pub const LISTING_INPUT: usize = LONGEST_FILE + 1;
+
 // "Events of an instant: .. 12 bytes each"
 pub const EVENT_SIZE: usize = 12;
 
@@ -121,6 +124,7 @@ pub struct Sizes {
     pub link: usize,
     pub command: usize,
     pub longest: usize,
+    pub listing: usize,
     pub event: usize,
 }
 
@@ -137,6 +141,7 @@ impl Sizes {
             link: LINK_SIZE,
             command: COMMAND_SIZE,
             longest: LONGEST_FILE,
+            listing: LISTING_INPUT,
             event: EVENT_SIZE,
         }
     }

@@ -6,7 +6,7 @@ use lib.IntN.{ℤ, pos, _+ℤ_, _*ℤ_}
 use lib.Dec.{leb}
 use Rattle.integers.specs.Parts.{∣_∣}
 use Rattle.integers.specs.Division.{floored}
-use Rattle.plan.specs.Numbers.{M}
+use Rattle.plan.specs.Numbers.{M, largestCoefficient, mostIntegrators, mostLinks, sourceWidth}
 use Rattle.plan.specs.Lists.{natAt, intAt, row, firstFrom}
 use Rattle.plan.specs.declared.Plan.{Plan}
 
@@ -16,7 +16,7 @@ firstLink targets links i = firstFrom (λ e. leb i (natAt targets e)) 0 links
 
 -- the table of a plan: integrator i's links are those from entry i to before entry i + 1
 unfoldable pub rangesOf : Plan → List ℕ
-rangesOf p = row 0 33 (p .counts .n + 1) (firstLink (p .links .targets) (p .counts .links))
+rangesOf p = row 0 (mostIntegrators + 1) (p .counts .n + 1) (firstLink (p .links .targets) (p .counts .links))
 
 -- coefficient × source value of link e, where `values` holds the value of each source
 abbrev pub term : (sources : List ℕ) (coefficients values : List ℤ) (e : ℕ) → ℤ
@@ -34,9 +34,9 @@ rangeRate sources coefficients values from to = floored (sumFrom (term sources c
 -- what that asks: at most 256 links, and terms that are not beyond 2^54
 pub record Rated (sources : List ℕ) (coefficients values : List ℤ) (from to : ℕ) : Type 0 where
   pub order : from ≤ to
-  pub few : to ≤ 256
-  pub known : (e : ℕ) → e < to → natAt sources e < 64
-  pub small : (e : ℕ) → e < to → ∣ intAt coefficients e ∣ ≤ 16777216
+  pub few : to ≤ mostLinks
+  pub known : (e : ℕ) → e < to → natAt sources e < sourceWidth
+  pub small : (e : ℕ) → e < to → ∣ intAt coefficients e ∣ ≤ largestCoefficient
   pub sized : (i : ℕ) → ∣ intAt values i ∣ ≤ M
 
 -- of the first n integrators, by the table of ranges

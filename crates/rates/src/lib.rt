@@ -4,6 +4,7 @@ ghost use mathlib.Core.Path.{_≡_};
 ghost use Prim.Native.Nat.{_+_, _-_, _≤_, _<_};
 ghost use lib.IntN.{pos};
 ghost use lib.Dec.{leb};
+ghost use Rattle.plan.specs.Numbers.{mostIntegrators, mostLinks};
 ghost use Rattle.plan.specs.Lists.{natAt, row, firstFrom};
 ghost use Rattle.rates.specs.Links.{firstLink, rangeRate, Rated, AllRated};
 use integers::floor_65536;
@@ -16,7 +17,7 @@ pub const RANGES: usize = INTEGRATORS + 1;
 
 // From link `from` on the first whose target is i or above, or the number of links.
 fn first_link_from(targets: &[usize; LINKS], i: usize, from: usize, links: usize) -> usize
-    requires { ⌜ (from ≤ links) × (links ≤ 256) ⌝ }
+    requires { ⌜ (from ≤ links) × (links ≤ mostLinks) ⌝ }
     ensures { λ r. ⌜ r ≡ firstFrom (λ e. leb i (natAt (now (targets .entry)) e)) from (links - from) ⌝ }
 {
     let mut e = from;
@@ -28,7 +29,7 @@ fn first_link_from(targets: &[usize; LINKS], i: usize, from: usize, links: usize
 
 // Where each integrator's links begin; the entry after the last integrator's is where its links end.
 pub fn link_ranges(n: usize, links: usize, targets: &[usize; LINKS]) -> [usize; RANGES]
-    requires { ⌜ (n ≤ 32) × (links ≤ 256) ⌝ }
+    requires { ⌜ (n ≤ mostIntegrators) × (links ≤ mostLinks) ⌝ }
     ensures { λ r. ⌜ r ≡ row 0 33 (n + 1) (firstLink (now (targets .entry)) links) ⌝ }
 {
     let mut ranges: [usize; RANGES] = [0; RANGES];
@@ -70,8 +71,8 @@ pub fn rates<'a>(
     coefficients: &'a [i64; LINKS],
     values: &'a [i64; SOURCES],
 ) -> [i64; INTEGRATORS]
-    requires { ⌜ (n ≤ 32) × AllRated n (now ranges) (now sources) (now coefficients) (now values) ⌝ }
-    ensures { λ r. ⌜ r ≡ row (pos 0) 32 n (λ i. rangeRate (now (sources .entry)) (now (coefficients .entry)) (now (values .entry))
+    requires { ⌜ (n ≤ mostIntegrators) × AllRated n (now ranges) (now sources) (now coefficients) (now values) ⌝ }
+    ensures { λ r. ⌜ r ≡ row (pos 0) mostIntegrators n (λ i. rangeRate (now (sources .entry)) (now (coefficients .entry)) (now (values .entry))
         (natAt (now (ranges .entry)) i) (natAt (now (ranges .entry)) (i + 1))) ⌝ }
 {
     let mut slopes: [i64; INTEGRATORS] = [0; INTEGRATORS];

@@ -6,6 +6,7 @@ use Prim.Native.Nat.{ℕ, zero, suc, _+_, _≤_, _<_}
 use lib.Dec.{eqb}
 use lib.ListN.{set, replicate}
 use Rattle.bitset.specs.Mask.{has, each, union, withBit}
+use Rattle.plan.specs.Numbers.{mostIntegrators, mostLinks, sourceWidth}
 use Rattle.plan.specs.Lists.{natAt}
 use Rattle.plan.specs.declared.Plan.{Plan}
 
@@ -16,7 +17,7 @@ marked place bit table (suc e) = set (marked place bit table e) (place e) (withB
 
 -- each link's target in the entry of its source
 abbrev pub linked : List ℕ → List ℕ → ℕ → List ℕ
-linked targets sources links = marked (natAt sources) (natAt targets) (replicate 64 0) links
+linked targets sources links = marked (natAt sources) (natAt targets) (replicate sourceWidth 0) links
 
 -- each node in its own entry
 abbrev pub ownNodes : ℕ → List ℕ → ℕ → List ℕ
@@ -51,11 +52,11 @@ entriesOf table changed = each (λ i entries. union entries (natAt table i)) (ha
 
 -- what the links ask, and what the nodes ask: operands are sources of a lower number
 pub record Linked (targets sources : List ℕ) (links : ℕ) : Type 0 where
-  pub few : links ≤ 256
-  pub target : (e : ℕ) → e < links → natAt targets e < 32
-  pub source : (e : ℕ) → e < links → natAt sources e < 64
+  pub few : links ≤ mostLinks
+  pub target : (e : ℕ) → e < links → natAt targets e < mostIntegrators
+  pub source : (e : ℕ) → e < links → natAt sources e < sourceWidth
 
 pub record Wired (a b : List ℕ) (base k : ℕ) : Type 0 where
-  pub room : base + k ≤ 64
+  pub room : base + k ≤ sourceWidth
   pub left : (j : ℕ) → j < k → natAt a j < base + j
   pub right : (j : ℕ) → j < k → natAt b j < base + j

@@ -2,6 +2,7 @@
 // for a run, has an entry of 64 bits for each source: bit i is set where a change of the source reaches integrator i, bit 32 + j where it touches node j.
 ghost use mathlib.Core.Path.{_≡_};
 ghost use Prim.Native.Nat.{_+_, _/_, _%_, _^_, _≤_, _<_};
+ghost use Rattle.plan.specs.Numbers.{mostNodes, sourceWidth};
 ghost use Rattle.reach.specs.Table.{linked, ownNodes, added, handedDown, followedDown, tableFrom, entriesOf, Linked, Wired};
 use bitset::lowest64;
 use bitset::rest64;
@@ -32,7 +33,7 @@ fn link_entries<'a>(
 
 // Each node goes into its own entry; node j's source number is base + j.
 fn own_entries(base: usize, k: usize, table: &mut [u64; SOURCES])
-    requires { ⌜ (k ≤ 16) × (base + k ≤ 64) ⌝ }
+    requires { ⌜ (k ≤ mostNodes) × (base + k ≤ sourceWidth) ⌝ }
     ensures { λ _. ⌜ now (table .exit) ≡ ownNodes base (now (table .entry)) k ⌝ }
 {
     let mut j: usize = 0;
@@ -45,7 +46,7 @@ fn own_entries(base: usize, k: usize, table: &mut [u64; SOURCES])
 
 // The bits of `entry` go into the entry of a source too.
 fn add_to(table: &mut [u64; SOURCES], source: usize, entry: u64)
-    requires { ⌜ source < 64 ⌝ }
+    requires { ⌜ source < sourceWidth ⌝ }
     ensures { λ _. ⌜ now (table .exit) ≡ added (now (table .entry)) source entry ⌝ }
 {
     table[source] = union64(table[source], entry);
@@ -60,7 +61,7 @@ fn hand_down<'a>(
     b: &'a [usize; NODES],
     table: &mut [u64; SOURCES],
 )
-    requires { ⌜ (j < 16) × Wired (now a) (now b) base (j + 1) ⌝ }
+    requires { ⌜ (j < mostNodes) × Wired (now a) (now b) base (j + 1) ⌝ }
     ensures { λ _. ⌜ now (table .exit) ≡ handedDown (now (kinds .entry)) (now (a .entry)) (now (b .entry)) base j (now (table .entry)) ⌝ }
 {
     let entry = table[base + j];
@@ -80,7 +81,7 @@ fn follow_down<'a>(
     b: &'a [usize; NODES],
     table: &mut [u64; SOURCES],
 )
-    requires { ⌜ (j ≤ 16) × Wired (now a) (now b) base j ⌝ }
+    requires { ⌜ (j ≤ mostNodes) × Wired (now a) (now b) base j ⌝ }
     ensures { λ _. ⌜ now (table .exit) ≡ followedDown (now (kinds .entry)) (now (a .entry)) (now (b .entry)) base j (now (table .entry)) ⌝ }
 {
     if j > 0 {
@@ -100,7 +101,7 @@ pub fn reach_table<'a>(
     targets: &'a [usize; LINKS],
     sources: &'a [usize; LINKS],
 ) -> [u64; SOURCES]
-    requires { ⌜ (k ≤ 16) × Wired (now a) (now b) base k × Linked (now targets) (now sources) links ⌝ }
+    requires { ⌜ (k ≤ mostNodes) × Wired (now a) (now b) base k × Linked (now targets) (now sources) links ⌝ }
     ensures { λ r. ⌜ r ≡ tableFrom base k links (now (kinds .entry)) (now (a .entry)) (now (b .entry)) (now (targets .entry))
         (now (sources .entry)) ⌝ }
 {

@@ -2,6 +2,7 @@
 ghost use mathlib.Core.Path.{_≡_};
 ghost use Prim.Native.Nat.{_≤_};
 ghost use lib.IntN.{_+ℤ_, _-ℤ_};
+ghost use Rattle.plan.specs.Numbers.{mostIntegrators};
 ghost use Rattle.plan.specs.Rules.{PlanRules};
 ghost use Rattle.plan.specs.Lists.{intAt, row};
 ghost use Rattle.machine.specs.Due.{dueTick};
@@ -24,8 +25,8 @@ fn first_dues<'a>(
     quanta: &'a [i64; INTEGRATORS],
     slopes: &'a [i64; INTEGRATORS],
 ) -> [u32; INTEGRATORS]
-    requires { ⌜ (n ≤ 32) × StartsReady n (now starts) (now quanta) (now slopes) ⌝ }
-    ensures { λ r. ⌜ r ≡ row 0 32 n (λ i. dueTick 0 (intAt (now (starts .entry)) i)
+    requires { ⌜ (n ≤ mostIntegrators) × StartsReady n (now starts) (now quanta) (now slopes) ⌝ }
+    ensures { λ r. ⌜ r ≡ row 0 mostIntegrators n (λ i. dueTick 0 (intAt (now (starts .entry)) i)
         (intAt (now (starts .entry)) i +ℤ intAt (now (quanta .entry)) i) (intAt (now (starts .entry)) i -ℤ intAt (now (quanta .entry)) i)
         (intAt (now (slopes .entry)) i)) ⌝ }
 {

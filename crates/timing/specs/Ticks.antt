@@ -5,7 +5,7 @@ use lib.IntN.{ℤ, pos, _+ℤ_, _-ℤ_, _*ℤ_}
 use lib.Signed.{_≤ℤ_, _<ℤ_}
 use Rattle.integers.specs.Parts.{up, ∣_∣}
 use Rattle.integers.specs.Division.{ceilDiv}
-use Rattle.plan.specs.Numbers.{M}
+use Rattle.plan.specs.Numbers.{M, largestHorizon}
 
 -- `from`, and the ticks that a move of `speed` a tick takes over `distance`
 unfoldable pub tickAt : ℕ → ℤ → ℤ → ℕ
@@ -13,7 +13,7 @@ tickAt from distance speed = from + ceilDiv (up distance) (up speed)
 
 -- a tick up to the largest horizon, a distance below 2^31, a speed below 2^44
 pub record TicksReady (from : ℕ) (distance speed : ℤ) : Type 0 where
-  pub early : from ≤ 2000000000
+  pub early : from ≤ largestHorizon
   pub ahead : pos 1 ≤ℤ distance
   pub near : distance <ℤ pos (2 ^ 31)
   pub moving : pos 1 ≤ℤ speed
@@ -21,7 +21,7 @@ pub record TicksReady (from : ℕ) (distance speed : ℤ) : Type 0 where
 
 -- x strictly between the levels of q
 pub record DueReady (from : ℕ) (x q quantum s : ℤ) : Type 0 where
-  pub early : from ≤ 2000000000
+  pub early : from ≤ largestHorizon
   pub output : ∣ q ∣ ≤ M
   pub least : pos 1 ≤ℤ quantum
   pub most : quantum ≤ℤ pos M

@@ -4,7 +4,7 @@ ghost use mathlib.Core.Bool.{cond};
 ghost use Prim.Native.Nat.{_+_, _-_, _≤_, _<_, min};
 ghost use lib.IntN.{pos, _+ℤ_, _-ℤ_, _*ℤ_};
 ghost use lib.Dec.{ltb};
-ghost use Rattle.plan.specs.Numbers.{never};
+ghost use Rattle.plan.specs.Numbers.{never, mostIntegrators, mostCommands};
 ghost use Rattle.plan.specs.Lists.{natAt, firstFrom};
 ghost use Rattle.machine.specs.Due.{dueTick};
 ghost use Rattle.machine.specs.Next.{leastDue};
@@ -49,7 +49,7 @@ pub fn position(x: i64, s: i64, l: u32, t: u32) -> i64
 
 // The least of the first n due ticks, or never.
 pub fn least_due(n: usize, d: &[u32; INTEGRATORS]) -> u32
-    requires { ⌜ n ≤ 32 ⌝ }
+    requires { ⌜ n ≤ mostIntegrators ⌝ }
     ensures { λ r. ⌜ r ≡ leastDue (now (d .entry)) n ⌝ }
 {
     let mut least: u32 = State::NEVER;
@@ -65,7 +65,7 @@ pub fn least_due(n: usize, d: &[u32; INTEGRATORS]) -> u32
 
 // "the next command is the first with tick above c, or the command count if none"
 pub fn next_command(commands: usize, ticks: &[u32; COMMANDS], clock: u32) -> usize
-    requires { ⌜ commands ≤ 64 ⌝ }
+    requires { ⌜ commands ≤ mostCommands ⌝ }
     ensures { λ r. ⌜ r ≡ firstFrom (λ e. ltb clock (natAt (now (ticks .entry)) e)) 0 commands ⌝ }
 {
     let mut e: usize = 0;
@@ -83,7 +83,7 @@ pub fn next_tick<'a>(
     ticks: &'a [u32; COMMANDS],
     next: usize,
 ) -> u32
-    requires { ⌜ (n ≤ 32) × (commands ≤ 64) ⌝ }
+    requires { ⌜ (n ≤ mostIntegrators) × (commands ≤ mostCommands) ⌝ }
     ensures { λ r. ⌜ r ≡ min (leastDue (now (d .entry)) n) (cond (ltb next commands) (natAt (now (ticks .entry)) next) never) ⌝ }
 {
     let least = least_due(n, d);

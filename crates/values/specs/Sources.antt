@@ -6,18 +6,18 @@ use lib.IntN.{ℤ, pos}
 use lib.Dec.{ltb}
 use lib.ListN.{set}
 use Rattle.integers.specs.Parts.{∣_∣}
-use Rattle.plan.specs.Numbers.{M}
+use Rattle.plan.specs.Numbers.{M, mostNodes, sourceWidth}
 use Rattle.plan.specs.Lists.{natAt, intAt, row}
 use Rattle.plan.specs.declared.Plan.{Plan}
 use Rattle.machine.specs.Values.{nodeOf, valueOf}
 
 -- the value of each source at its source number, with the outputs q and the input values u
 unfoldable pub valuesOf : Plan → List ℤ → List ℤ → List ℤ
-valuesOf p q u = row (pos 0) 64 (p .counts .n + p .counts .m + p .counts .k) (valueOf p q u)
+valuesOf p q u = row (pos 0) sourceWidth (p .counts .n + p .counts .m + p .counts .k) (valueOf p q u)
 
 -- integrators and inputs alone
 unfoldable pub firstValues : (n m : ℕ) (q u : List ℤ) → List ℤ
-firstValues n m q u = row (pos 0) 64 (n + m) (λ i. cond (ltb i n) (intAt q i) (intAt u (i - n)))
+firstValues n m q u = row (pos 0) sourceWidth (n + m) (λ i. cond (ltb i n) (intAt q i) (intAt u (i - n)))
 
 module _ (kinds a b : List ℕ) (lows highs : List ℤ) (base : ℕ) where
   -- the value of node j by the values of its operands
@@ -30,10 +30,10 @@ module _ (kinds a b : List ℕ) (lows highs : List ℤ) (base : ℕ) where
 
 -- what that asks: operands that are sources, and no value beyond ±M
 pub record NodesReady (a b : List ℕ) (lows highs values : List ℤ) (base k : ℕ) : Type 0 where
-  pub few : k ≤ 16
-  pub room : base + k ≤ 64
-  pub left : (j : ℕ) → j < k → natAt a j < 64
-  pub right : (j : ℕ) → j < k → natAt b j < 64
+  pub few : k ≤ mostNodes
+  pub room : base + k ≤ sourceWidth
+  pub left : (j : ℕ) → j < k → natAt a j < sourceWidth
+  pub right : (j : ℕ) → j < k → natAt b j < sourceWidth
   pub low : (j : ℕ) → j < k → ∣ intAt lows j ∣ ≤ M
   pub high : (j : ℕ) → j < k → ∣ intAt highs j ∣ ≤ M
   pub sized : (i : ℕ) → ∣ intAt values i ∣ ≤ M

@@ -5,7 +5,7 @@ ghost use mathlib.Core.Bool.{true};
 ghost use Prim.Native.Nat.{_+_, _^_, _≤_, _<_};
 ghost use Rattle.integers.specs.Parts.{∣_∣};
 ghost use Rattle.bitset.specs.Mask.{has, each};
-ghost use Rattle.plan.specs.Numbers.{M};
+ghost use Rattle.plan.specs.Numbers.{M, mostIntegrators, mostInputs};
 ghost use Rattle.machine.specs.Values.{clipped, nodeOf};
 ghost use Rattle.values.specs.Sources.{firstValues, nodeStep, NodesReady};
 use bitset::all;
@@ -96,7 +96,7 @@ fn first_values<'a>(
     q: &'a [i64; INTEGRATORS],
     inputs: &'a [i64; INPUTS],
 ) -> [i64; SOURCES]
-    requires { ⌜ (n ≤ 32) × (m ≤ 8) ⌝ }
+    requires { ⌜ (n ≤ mostIntegrators) × (m ≤ mostInputs) ⌝ }
     ensures { λ r. ⌜ r ≡ firstValues n m (now (q .entry)) (now (inputs .entry)) ⌝ }
 {
     let mut values: [i64; SOURCES] = [0; SOURCES];
@@ -126,7 +126,7 @@ pub fn source_values<'a>(
     lows: &'a [i64; NODES],
     highs: &'a [i64; NODES],
 ) -> [i64; SOURCES]
-    requires { ⌜ (n ≤ 32) × (m ≤ 8)
+    requires { ⌜ (n ≤ mostIntegrators) × (m ≤ mostInputs)
         × NodesReady (now a) (now b) (now lows) (now highs) (firstValues n m (now q) (now inputs)) (n + m) k ⌝ }
     ensures { λ r. ⌜ r ≡ each (nodeStep (now (kinds .entry)) (now (a .entry)) (now (b .entry)) (now (lows .entry))
         (now (highs .entry)) (n + m)) (λ _. true) k (firstValues n m (now (q .entry)) (now (inputs .entry))) ⌝ }
