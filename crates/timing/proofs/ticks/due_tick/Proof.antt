@@ -1,4 +1,4 @@
--- `dynamics::due_tick` meets its contract: each slope's branch is its case of the definition, read through the bits of the locals.
+-- `timing::due_tick` meets its contract: each slope's branch is its case of the definition, read through the bits of the locals.
 -- Assumes nothing.
 use mathlib.Core.Path.{_≡_, _∙_}
 use mathlib.Core.Bool.{true}

@@ -1,4 +1,4 @@
--- `dynamics::least_due` meets its contract: at each turn it holds the least of the due ticks passed. Assumes nothing.
+-- `timing::least_due` meets its contract: at each turn it holds the least of the due ticks passed. Assumes nothing.
 use borrow.Author.Needs.{needs}
 use mathlib.Core.Path.{_≡_, refl, ap, _∙_}
 use mathlib.Core.Logic.{⊎-elim}

@@ -1,4 +1,4 @@
--- `dynamics::next_command` meets its contract: at each turn no command passed has a tick above the clock. Assumes nothing.
+-- `timing::next_command` meets its contract: at each turn no command passed has a tick above the clock. Assumes nothing.
 use borrow.Author.Count.{below-more}
 use borrow.Author.Needs.{needs}
 use borrow.Author.Tests.{le-ltb, lt-ltb, leb-true, leb-false}

@@ -1,4 +1,4 @@
--- `dynamics::next_tick` meets its contract: the lesser of the least due tick and the next command's, which is never where there is none.
+-- `timing::next_tick` meets its contract: the lesser of the least due tick and the next command's, which is never where there is none.
 -- Assumes nothing.
 use borrow.Author.Needs.{needs}
 use borrow.Author.Tests.{lt-ltb, le-ltb}

@@ -1,4 +1,4 @@
--- `dynamics::position` meets its contract: the move and the sum fit, so the bits of the locals read as the integers. Assumes nothing.
+-- `timing::position` meets its contract: the move and the sum fit, so the bits of the locals read as the integers. Assumes nothing.
 use borrow.Author.Needs.{needs}
 use mathlib.Core.Path.{_≡_, _∙_}
 use Prim.Native.Nat.{_-_}

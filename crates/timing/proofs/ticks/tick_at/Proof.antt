@@ -1,4 +1,4 @@
--- `dynamics::tick_at` meets its contract: distance and speed are above 0, so casts keep them, and the tick is below never. Assumes nothing.
+-- `timing::tick_at` meets its contract: distance and speed are above 0, so casts keep them, and the tick is below never. Assumes nothing.
 use mathlib.Core.Path.{_≡_}
 use native.Mathlib.Omega.{arith}
 use lib.IntN.{natAbs}
