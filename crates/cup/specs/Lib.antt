@@ -1,3 +1,3 @@
 pub mod Rewriting
-pub mod Viewing
 pub mod Tables
+pub mod Laws

@@ -1,7 +1,7 @@
--- Numbers as ASCII text, in decimal digits. What the definitions mean: Laws/Decimals.
+-- Binding definition: numbers as ASCII text, in decimal digits. What the definitions mean: Laws/Decimals.
 use mathlib.Core.Bool.{cond}
 use mathlib.Core.List.{List, [], _∷_, _++_}
-use Prim.Native.Nat.{ℕ, zero, suc, _+_, _/_, _%_}
+use Prim.Native.Nat.{ℕ, zero, suc, _+_, _-_, _*_, _/_, _%_}
 use lib.IntN.{ℤ, pos, negsuc}
 use lib.Dec.{ltb}
 
@@ -25,3 +25,8 @@ decimal n = digitsIn n n
 unfoldable pub signedDecimal : ℤ → List ℕ
 signedDecimal (pos n) = decimal n
 signedDecimal (negsuc n) = minus ∷ decimal (suc n)
+
+-- the number that digits stand for, read from the first on behind digits that stand for v: by it a promise says what the digits mean
+unfoldable pub readFrom : ℕ → List ℕ → ℕ
+readFrom v [] = v
+readFrom v (d ∷ text) = readFrom (10 * v + (d - 48)) text

@@ -1,4 +1,4 @@
--- Texts worked out by hand, and what the definitions say of them.
+-- Worked examples, computed by the checker: texts worked out by hand, and what the definitions say of them.
 use mathlib.Core.Path.{_≡_, refl}
 use mathlib.Core.List.{[], _∷_, _++_}
 use lib.IntN.{pos, negsuc, negℤ}

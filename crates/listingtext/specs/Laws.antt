@@ -1,3 +1,4 @@
+-- What is proved of these definitions.
 pub mod Decimals
 pub mod Lines
 pub mod Printing

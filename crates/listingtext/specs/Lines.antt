@@ -1,5 +1,5 @@
--- The lines that the listing program prints: it "prints each event as tick, source, value, then "end", status, clock, instants, updates (a declined
--- plan prints "refused", number, entry)". Each is a line, with a space between two of its parts.
+-- Binding definition: the lines that the listing program prints: it "prints each event as tick, source, value, then "end", status, clock,
+-- instants, updates (a declined plan prints "refused", number, entry)". Each is a line, with a space between two of its parts.
 use mathlib.Core.List.{List, [], _∷_, _++_}
 use Prim.Native.Nat.{ℕ, _+_, _*_}
 use lib.IntN.{ℤ}
@@ -30,7 +30,7 @@ unfoldable pub eventLine : ℕ → ℕ → ℤ → List ℕ
 eventLine tick source value = (field (decimal tick) space ++ field (decimal source) space) ++ field (signedDecimal value) newline
 
 -- "then "end", status, clock, instants, updates"
-unfoldable pub endLine : ℕ → ℕ → ℕ → ℕ → List ℕ
+unfoldable pub endLine : (status clock instants updates : ℕ) → List ℕ
 endLine status clock instants updates =
     (((endWord ++ field (decimal status) space) ++ field (decimal clock) space) ++ field (decimal instants) space) ++ field (decimal updates) newline
 

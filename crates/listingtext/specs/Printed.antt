@@ -1,4 +1,4 @@
--- Text in a buffer: what the contracts of this crate say.
+-- Model of the code: text in a buffer, what the contracts of this crate say.
 use mathlib.Core.Path.{_≡_}
 use mathlib.Core.List.{List, _++_}
 use Prim.Native.Nat.{ℕ, _+_}

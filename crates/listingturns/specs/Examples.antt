@@ -1,5 +1,6 @@
--- Worked examples of the listing, with one theorem over their table, which guards the definitions of this crate: document 01's cup, a plan that is
--- barred at its first tick, and a file that is refused. The table of P1 to P9 stands in the crate `workedexamples`.
+-- Worked examples, computed by the checker: the listing, with one theorem over their table, which guards the definitions of this crate:
+-- document 01's cup, a plan that is barred at its first tick, and a file that is refused. The table of P1 to P9 stands in the crate
+-- `workedexamples`.
 use mathlib.Core.Path.{refl}
 use mathlib.Core.List.{List, [], _∷_}
 use Prim.Native.Nat.{ℕ}

@@ -1,3 +1,4 @@
+-- What is proved of these definitions.
 pub mod EventLists
 pub mod Ends
 pub mod Joined

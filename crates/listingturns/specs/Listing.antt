@@ -1,6 +1,6 @@
--- "The listing program reads at most 4,493 bytes of standard input, loads them, runs lazily with budget 64 until status 1 or 2, and prints each
--- event as tick, source, value, then "end", status, clock, instants, updates (a declined plan prints "refused", number, entry)": the text, for
--- what is read.
+-- Binding definition: "The listing program reads at most 4,493 bytes of standard input, loads them, runs lazily with budget 64 until status
+-- 1 or 2, and prints each event as tick, source, value, then "end", status, clock, instants, updates (a declined plan prints "refused",
+-- number, entry)": the text, for what is read.
 use mathlib.Core.Bool.{cond}
 use mathlib.Core.List.{List, _++_}
 use Prim.Native.Nat.{ℕ, _/_}

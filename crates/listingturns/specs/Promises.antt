@@ -1,4 +1,4 @@
--- The promises about the listing program, as statements. The proofs stand in Laws.
+-- Promise: of the listing program. Statements; the proofs stand in Laws.
 use mathlib.Core.Path.{_≡_}
 use mathlib.Core.Bool.{true}
 use mathlib.Core.List.{List, [], _∷_}
@@ -13,7 +13,7 @@ use Rattle.machine.specs.declared.State.{State}
 use Rattle.machine.specs.declared.Engine.the-variants.{Lazy}
 use Rattle.machine.specs.declared.Status.the-variants.{Paused}
 use Rattle.listingtext.specs.Decimal.{decimal, signedDecimal}
-use Rattle.listingtext.specs.Laws.Decimals.{readFrom}
+use Rattle.listingtext.specs.Decimal.{readFrom}
 use Rattle.calls.specs.Calls.{loadOf}
 use Rattle.listingturns.specs.Listing.{listingOf}
 use Rattle.listingturns.specs.Turns.{turnState, turnMore, turnText, firstText, printedIn}

@@ -1,4 +1,4 @@
--- The turns of the program's loop: a run with budget 64 and its text each, "until status 1 or 2".
+-- Binding definition: the turns of the program's loop, a run with budget 64 and its text each, "until status 1 or 2".
 use mathlib.Core.Bool.{Bool, cond}
 use mathlib.Core.List.{List, [], _++_}
 use Prim.Native.Nat.{ℕ, zero, suc}

@@ -1,6 +1,6 @@
--- Worked examples of the calls on document 01's cup, with one theorem over their table: each refusal, the buffers, and a list of calls that mixes the
--- engines and has two declined calls.
--- What is brought in and opened here serves the comparison of the definitions with the second simulator too.
+-- Worked examples, computed by the checker: the calls on document 01's cup, with one theorem over their table: each refusal, the buffers,
+-- and a list of calls that mixes the engines and has two declined calls. What is brought in and opened here serves the comparison of the
+-- definitions with the second simulator too.
 use mathlib.Core.Path.{refl}
 use mathlib.Core.Bool.{Bool, true, false}
 use mathlib.Core.List.{List, [], _∷_, _++_}

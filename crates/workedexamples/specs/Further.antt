@@ -1,5 +1,5 @@
--- Further worked examples of the machine as a table, with one theorem over it: the cup's states in full, and cases that are easily got wrong. P1 to P9
--- have a table of their own, in P1toP9.antt.
+-- Worked examples, computed by the checker: further cases of the machine as a table, with one theorem over it: the cup's states in full,
+-- and cases that are easily got wrong. P1 to P9 have a table of their own, in P1toP9.antt.
 use mathlib.Core.Path.{refl}
 use mathlib.Core.Bool.{Bool, true, false}
 use mathlib.Core.List.{List, [], _∷_}
@@ -49,7 +49,7 @@ minus-m = negsuc 1073741823
 -- ---- the plans, each of its file's bytes
 
 -- one integrator fed by one input
-abbrev pump : ℤ → ℕ → ℤ → ℤ → Plan
+abbrev pump : (start : ℤ) (quantum : ℕ) (value coefficient : ℤ) → Plan
 pump start quantum value coefficient = planIn (pumpFile start quantum value coefficient)
 
 -- integrator 0 fed by an input of 3; integrator 1 by a node of kind 2, whose A is that input and whose B is 0 and names nothing
@@ -105,7 +105,7 @@ abbrev dueFrom : ℤ → ℤ → ℤ → ℕ
 dueFrom x q s = dueOf cupPlan (q ∷ []) 0 0 x s
 
 -- running figures of the cup: positions, slopes, last-moved and due ticks of its two integrators, clock, next command, instants, updates
-abbrev figures : ℤ → ℤ → ℤ → ℤ → ℕ → ℕ → ℕ → ℕ → ℕ → ℕ → ℕ → ℕ → Running
+abbrev figures : (x0 x1 s0 s1 : ℤ) (l0 l1 d0 d1 clock next instants updates : ℕ) → Running
 figures x0 x1 s0 s1 l0 l1 d0 d1 clock next instants updates = record {
   x = x0 ∷ x1 ∷ replicate 30 (pos 0);
   q = pos 12 ∷ replicate 31 (pos 0);

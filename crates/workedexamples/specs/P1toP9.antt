@@ -1,5 +1,6 @@
--- Document 01's examples P1 to P9 as one table, with one theorem over it about the definitions that the contracts cite. A case is named after its
--- example and what it says of it. Further worked examples of the machine stand in Further.antt.
+-- Worked examples, computed by the checker: document 01's examples P1 to P9 as one table, with one theorem over it about the definitions
+-- that the contracts cite. A case is named after its example and what it says of it. Further worked examples of the machine stand in
+-- Further.antt.
 use mathlib.Core.Path.{refl}
 use mathlib.Core.List.{List, [], _∷_, _++_}
 use Prim.Native.Nat.{ℕ}
@@ -112,11 +113,11 @@ p1-eager-positions = case (List ℤ) (table 2 (λ i. positionedOf (ran Eager 64 
 -- ---- P2 to P5
 
 -- the file of ten ticks of an integrator of this start and quantum, with one input and a link from it of this coefficient
-abbrev pub pumpFile : ℤ → ℕ → ℤ → ℤ → List ℕ
+abbrev pub pumpFile : (start : ℤ) (quantum : ℕ) (value coefficient : ℤ) → List ℕ
 pumpFile start quantum value coefficient = fileOf 10 (wordOf start ∷ quantum ∷ []) (wordOf value ∷ []) [] (0 ∷ 1 ∷ wordOf coefficient ∷ []) []
 
 -- d of an integrator of position x, output q, quantum D and slope s. From l = 0, so that it is T
-abbrev due : ℤ → ℤ → ℕ → ℤ → ℕ
+abbrev due : (x q : ℤ) (quantum : ℕ) (s : ℤ) → ℕ
 due x q D s = dueOf (planIn (pumpFile (pos 0) D (pos 0) (pos 1))) (q ∷ []) 0 0 x s
 
 -- "x=q=0, D=10, s=3: T 4."

@@ -1,5 +1,5 @@
--- Worked examples of the plan file, with one theorem over their table: "A cup in full" decoded, encoded and taken apart, and a file for each refusal and
--- for the limits that are easily missed.
+-- Worked examples, computed by the checker: the plan file, with one theorem over their table: "A cup in full" decoded, encoded and taken
+-- apart, and a file for each refusal and for the limits that are easily missed.
 use mathlib.Core.Path.{refl}
 use mathlib.Core.Bool.{Bool, true}
 use mathlib.Core.List.{List, [], _∷_, _++_}

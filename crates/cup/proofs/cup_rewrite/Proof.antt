@@ -7,7 +7,7 @@ use Rattle.plan.specs.Format.{planIn}
 use Rattle.plan.specs.Laws.Answers.{accepted-rules}
 use Rattle.entryrules.specs.Laws.Trying.{not-clean}
 use Rattle.planfile.specs.Laws.Reading.{reading-finding, reading-plan, reading-accepts, reading-refuses}
-use Rattle.cup.specs.Rewriting.{rewrite-refused, rewrite-short, rewrite-done}
+use Rattle.cup.specs.Laws.Rewriting.{rewrite-refused, rewrite-short, rewrite-done}
 use borrow.Author.Needs.{needs}
 use Rattle.cup.proofs.cup_rewrite.Statement.{statement}
 use Rattle.cup.proofs.cup_rewrite.Tie as tie

@@ -11,7 +11,7 @@ use Rattle.plan.specs.Numbers.{sections}
 use Rattle.plan.specs.Refusals.{accepted}
 use Rattle.plan.specs.Laws.View.{view-shown, start-shown}
 use Rattle.directory.specs.Laws.Directory.{directory-accepted}
-use Rattle.cup.specs.Viewing.{first-refused, first-accepted, none-refused, none-above, view-part}
+use Rattle.cup.specs.Laws.Viewing.{first-refused, first-accepted, none-refused, none-above, view-part}
 use borrow.Author.Needs.{needs}
 use borrow.Author.Tests.{leb-true, leb-false}
 use Rattle.cup.proofs.cup_section.Statement.{statement}

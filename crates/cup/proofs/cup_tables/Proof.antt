@@ -18,7 +18,7 @@ use Rattle.values.specs.Laws.SourceValues.{nodes-ready, first-sized, all-nodes}
 use Rattle.rates.specs.Links.{rangesOf}
 use Rattle.reach.specs.Table.{reachTable}
 use Rattle.reach.specs.Laws.Reached.{table-wired, table-linked}
-use Rattle.cup.specs.Tables.{tables-none, tables-are}
+use Rattle.cup.specs.Laws.Tables.{tables-none, tables-are}
 use Rattle.cup.proofs.cup_tables.Statement.{statement}
 use Rattle.cup.proofs.cup_tables.Tie as tie
 

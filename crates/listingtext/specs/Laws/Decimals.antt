@@ -1,4 +1,5 @@
--- What the decimal digits of a number mean: they are digits, with no 0 in front, and the number is read back from them. Assumes nothing.
+-- Laws: what the decimal digits of a number mean: they are digits, with no 0 in front, and the number is read back from them. Assumes
+-- nothing.
 use mathlib.Core.Path.{_≡_, refl, _∙_}
 use mathlib.Core.Bool.{Bool, true, false, cond}
 use mathlib.Core.List.{List, [], _∷_, _++_}
@@ -8,7 +9,7 @@ use native.Mathlib.Omega.{arith}
 use lib.Dec.{ltb}
 use lib.ListN.{length, getD, length-append}
 use borrow.Author.Tests.{ltb-true, ltb-false, lt-ltb, le-ltb}
-use Rattle.listingtext.specs.Decimal.{digit, digitsIn, decimal}
+use Rattle.listingtext.specs.Decimal.{digit, digitsIn, decimal, readFrom}
 
 -- Induction along the digits: what holds of a number below 10 and its digit, and is handed on by one digit more, holds of every number and
 -- its digits.
@@ -98,10 +99,6 @@ decimal-first n = along-digits (λ n text. 1 ≤ n → 49 ≤ getD text 0 0) (λ
     behind (x ∷ front) d h = h
 
 -- ---- the number is read back, digit by digit from the first
-unfoldable pub readFrom : ℕ → List ℕ → ℕ
-readFrom v [] = v
-readFrom v (d ∷ text) = readFrom (10 * v + (d - 48)) text
-
 read-append : (v : ℕ) (front : List ℕ) (d : ℕ) → readFrom v (front ++ (d ∷ [])) ≡ 10 * readFrom v front + (d - 48)
 unfolding readFrom
 read-append v [] d = refl

@@ -1,4 +1,4 @@
--- Laws of the lines of events: one line more, lines of bytes behind one another, and what the code reads. Assumes nothing.
+-- Laws: the lines of events: one line more, lines of bytes behind one another, and what the code reads. Assumes nothing.
 use mathlib.Core.Path.{_≡_, refl}
 use mathlib.Core.Bool.{Bool, true, false}
 use mathlib.Core.List.{List, _++_, append-assoc, append-nil}

@@ -1,4 +1,4 @@
--- Text that is written behind text: the steps from part to part of a line, and from line to line. Assumes nothing.
+-- Laws: text that is written behind text: the steps from part to part of a line, and from line to line. Assumes nothing.
 use mathlib.Core.Path.{_≡_, refl, sym, ap, _∙_}
 use mathlib.Core.List.{List, [], _∷_, _++_, append-assoc, append-nil}
 use Prim.Native.Nat.{ℕ, suc, _+_, _-_, _≤_, _<_}

@@ -1,4 +1,4 @@
--- The two cases of a signed number, by the test of the code. Assumes nothing.
+-- Laws: the two cases of a signed number, by the test of the code. Assumes nothing.
 use mathlib.Core.Path.{_≡_, refl, ap}
 use mathlib.Core.Bool.{true, false}
 use mathlib.Core.List.{_∷_}

@@ -1,4 +1,4 @@
--- How long the lines are at most, from the digits of their numbers. Assumes nothing.
+-- Laws: how long the lines are at most, from the digits of their numbers. Assumes nothing.
 use mathlib.Core.List.{List, [], _∷_, _++_}
 use Prim.Native.Nat.{ℕ, zero, suc, _+_, _*_, _^_, _≤_, _<_}
 use native.Mathlib.Omega.{arith}

@@ -1,4 +1,4 @@
--- The answers of the code by the cases that it tells apart. Assumes nothing.
+-- Laws: the answers of the code by the cases that it tells apart. Assumes nothing.
 use mathlib.Core.Path.{_≡_, sym, ap, _∙_}
 use mathlib.Core.Bool.{true, false}
 use mathlib.Core.List.{List, append-nil}

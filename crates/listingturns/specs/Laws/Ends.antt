@@ -1,4 +1,4 @@
--- A run ends: with the ticks that are left for a budget its status is 1 or 2, and a larger budget changes nothing. Assumes nothing.
+-- Laws: a run ends: with the ticks that are left for a budget its status is 1 or 2, and a larger budget changes nothing. Assumes nothing.
 use mathlib.Core.Path.{_≡_, refl, sym, _∙_}
 use mathlib.Core.Bool.{Bool, true, false, cond, true≢false}
 use mathlib.Core.List.{_++_, append-nil}

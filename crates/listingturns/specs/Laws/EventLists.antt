@@ -1,4 +1,4 @@
--- The events of a run are whole events of 12 bytes, with sources of two digits at most. Assumes nothing.
+-- Laws: the events of a run are whole events of 12 bytes, with sources of two digits at most. Assumes nothing.
 use mathlib.Core.Path.{_≡_, refl}
 use mathlib.Core.Bool.{Bool, true, false, cond}
 use mathlib.Core.List.{List, [], _++_}

@@ -1,4 +1,5 @@
--- What is printed fits the program's buffer: 64 instants have at most 2,560 events of 26 characters, and the end line has 40. Assumes nothing.
+-- Laws: what is printed fits the program's buffer: 64 instants have at most 2,560 events of 26 characters, and the end line has 40. Assumes
+-- nothing.
 use mathlib.Core.Path.{refl}
 use mathlib.Core.Bool.{Bool, true, false, cond}
 use mathlib.Core.List.{List, [], _++_}

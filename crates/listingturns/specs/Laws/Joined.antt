@@ -1,4 +1,4 @@
--- The texts of the turns, joined, are the listing. Assumes nothing.
+-- Laws: the texts of the turns, joined, are the listing. Assumes nothing.
 use mathlib.Core.Path.{_≡_, refl, sym, ap, _∙_}
 use mathlib.Core.Bool.{Bool, true, false, cond, true≢false}
 use mathlib.Core.List.{List, [], _++_, append-assoc, append-nil}

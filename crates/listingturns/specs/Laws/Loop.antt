@@ -1,4 +1,4 @@
--- The program's loop: each turn has a sound state and a text inside the buffer, and the ticks that are left fall. Assumes nothing.
+-- Laws: the program's loop: each turn has a sound state and a text inside the buffer, and the ticks that are left fall. Assumes nothing.
 use mathlib.Core.Path.{_≡_, refl, ap}
 use mathlib.Core.Bool.{Bool, true, false, cond}
 use mathlib.Core.List.{List}

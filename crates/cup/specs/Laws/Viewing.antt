@@ -1,8 +1,8 @@
--- The section view for C and Rust: what its offset and length say, and how a refused file is told from an accepted one.
+-- Laws: the section view for C and Rust: what its offset and length say, and how a refused file is told from an accepted one.
 use mathlib.Core.Path.{_≡_, refl, ap}
 use mathlib.Core.Bool.{Bool, true, false}
 use mathlib.Core.List.{List}
-use Prim.Native.Nat.{ℕ, _≤_, _<_}
+use Prim.Native.Nat.{ℕ, _≤_}
 use native.Mathlib.Omega.{arith}
 use lib.Dec.{ltb}
 use lib.ListN.{length}

@@ -1,0 +1,4 @@
+-- What is proved of these definitions.
+pub mod Rewriting
+pub mod Viewing
+pub mod Tables
