@@ -1,5 +1,5 @@
 -- Model of the code: the commands of a tick as the code obeys them, one after the other from the next one on. What they are by document 01:
--- Laws/Settings.
+-- Laws/Commands.
 use mathlib.Core.Bool.{cond}
 use mathlib.Core.List.{List}
 use Prim.Native.Nat.{ℕ, zero, suc, _+_, _≤_, _<_}
@@ -9,30 +9,30 @@ use lib.ListN.{set}
 use Rattle.bitset.specs.Mask.{withBit}
 use Rattle.plan.specs.Lists.{natAt, intAt}
 
--- the input values, the values of sources, the mask of the commanded inputs, and the next command
-pub record Obeying : Type 0 where
-  pub inputs : List ℤ
+-- the values of sources, the mask of the commanded inputs, and the next command
+pub record AfterCommands : Type 0 where
   pub values : List ℤ
   pub commanded : ℕ
   pub next : ℕ
 
-abbrev pub obeying : List ℤ → List ℤ → ℕ → ℕ → Obeying
-obeying inputs values commanded next = record { inputs = inputs; values = values; commanded = commanded; next = next }
+abbrev pub afterCommands : (values : List ℤ) (commanded next : ℕ) → AfterCommands
+afterCommands values commanded next = record { values = values; commanded = commanded; next = next }
 
-module _ (t n : ℕ) (ticks numbers : List ℕ) (settings : List ℤ) where
+-- with the commands' columns: ticks, inputs' numbers and the values that they set
+module _ (n : ℕ) (ticks inputs : List ℕ) (settings : List ℤ) (t : ℕ) where
   -- command e sets its input
-  unfoldable pub obeyOne : ℕ → Obeying → Obeying
-  obeyOne e o =
-      let j = natAt numbers e in let value = intAt settings e in
-      obeying (set (o .inputs) j value) (set (o .values) (n + j) value) (withBit (o .commanded) j) (e + 1)
+  unfoldable pub afterCommand : ℕ → AfterCommands → AfterCommands
+  afterCommand e a =
+      let j = natAt inputs e in afterCommands (set (a .values) (n + j) (intAt settings e)) (withBit (a .commanded) j) (e + 1)
 
   -- from command e on, of `left` commands, those of tick t that stand together
-  unfoldable pub obeyFrom : ℕ → ℕ → Obeying → Obeying
-  obeyFrom e zero o = o
-  obeyFrom e (suc left) o = cond (eqb (natAt ticks e) t) (obeyFrom (e + 1) left (obeyOne e o)) o
+  unfoldable pub afterCommandsFrom : (e left : ℕ) → AfterCommands → AfterCommands
+  afterCommandsFrom e zero a = a
+  afterCommandsFrom e (suc left) a = cond (eqb (natAt ticks e) t) (afterCommandsFrom (e + 1) left (afterCommand e a)) a
 
-pub record CommandsReady (next commands n : ℕ) (numbers : List ℕ) : Type 0 where
+-- what that asks: every index below the end of its array
+pub record CommandsInRange (n commands : ℕ) (inputs : List ℕ) (next : ℕ) : Type 0 where
   pub order : next ≤ commands
   pub few : commands ≤ 64
   pub room : n ≤ 32
-  pub known : (e : ℕ) → e < commands → natAt numbers e < 8
+  pub known : (e : ℕ) → e < commands → natAt inputs e < 8

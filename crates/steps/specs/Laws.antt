@@ -2,7 +2,7 @@
 pub mod Buffers
 pub mod EventTurns
 pub mod EventBytes
-pub mod Obeying
-pub mod Settings
+pub mod CommandTurns
+pub mod Commands
 pub mod Walks
 pub mod Outputs

@@ -1,10 +1,9 @@
 // 2. "Commands of tick t set their inputs."
 ghost use mathlib.Core.Path.{_≡_};
 ghost use Prim.Native.Nat.{_-_};
-ghost use Rattle.steps.specs.Commands.{obeying, obeyFrom, CommandsReady};
+ghost use Rattle.steps.specs.Commands.{afterCommands, afterCommandsFrom, CommandsInRange};
 use bitset::with;
 use plan::COMMANDS;
-use plan::INPUTS;
 use plan::SOURCES;
 
 // The inputs that commands of the tick set, and the next command after them.
@@ -13,29 +12,27 @@ pub struct Commanded {
     pub next: usize,
 }
 
-// Input j's value stands in `inputs` at j, and in `values` at its source number n + j.
+// Command e sets input `inputs[e]` to `settings[e]`. Input j's value stands in `values` at its source number n + j.
 pub fn obey_commands<'a>(
-    t: u32,
-    next: usize,
-    commands: usize,
     n: usize,
+    commands: usize,
     ticks: &'a [u32; COMMANDS],
-    numbers: &'a [usize; COMMANDS],
+    inputs: &'a [usize; COMMANDS],
     settings: &'a [i64; COMMANDS],
-    inputs: &mut [i64; INPUTS],
+    t: u32,
     values: &mut [i64; SOURCES],
+    next: usize,
 ) -> Commanded
-    requires { ⌜ CommandsReady next commands n (now numbers) ⌝ }
-    ensures { λ r. ⌜ obeying (now (inputs .exit)) (now (values .exit)) (r .inputs) (r .next)
-        ≡ obeyFrom t n (now (ticks .entry)) (now (numbers .entry)) (now (settings .entry)) next (commands - next)
-        (obeying (now (inputs .entry)) (now (values .entry)) 0 next) ⌝ }
+    requires { ⌜ CommandsInRange n commands (now inputs) next ⌝ }
+    ensures { λ r. ⌜ afterCommands (now (values .exit)) (r .inputs) (r .next)
+        ≡ afterCommandsFrom n (now (ticks .entry)) (now (inputs .entry)) (now (settings .entry)) t next (commands - next)
+        (afterCommands (now (values .entry)) 0 next) ⌝ }
 {
     let mut commanded: u32 = 0;
     let mut e = next;
     while e < commands && ticks[e] == t {
-        let j = numbers[e];
+        let j = inputs[e];
         let value = settings[e];
-        inputs[j] = value;
         values[n + j] = value;
         commanded = with(commanded, j);
         e += 1;

@@ -10,15 +10,15 @@ use words::write_triple;
 
 // From byte `at` on, one event for each of the changed sources. What is answered is the place behind them.
 pub fn write_events<'a>(
-    changed: u64,
     t: u32,
+    changed: u64,
     values: &'a [i64; SOURCES],
     buf: &mut [u8],
     at: usize,
 ) -> usize
     requires { ⌜ EventsReady changed t (now values) at (length (now buf)) ⌝ }
-    ensures { λ r. ⌜ r ≡ at + length (eventsIn changed t (now (values .entry))) ⌝ }
-    ensures { λ _. ⌜ now (buf .exit) ≡ putAt (now (buf .entry)) at (eventsIn changed t (now (values .entry))) ⌝ }
+    ensures end { λ r. ⌜ r ≡ at + length (eventsIn changed t (now (values .entry))) ⌝ }
+    ensures buffer { λ _. ⌜ now (buf .exit) ≡ putAt (now (buf .entry)) at (eventsIn changed t (now (values .entry))) ⌝ }
 {
     let mut left = changed;
     let mut end = at;

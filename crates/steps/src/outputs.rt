@@ -2,32 +2,30 @@
 ghost use mathlib.Core.Path.{_≡_};
 ghost use Rattle.bitset.specs.Mask.{has, each};
 ghost use Rattle.timing.specs.Status.{DuePositionsReady};
-ghost use Rattle.steps.specs.Outputs.{outputting, outputOne};
+ghost use Rattle.steps.specs.Outputs.{afterOutput};
 use bitset::lowest;
 use bitset::rest;
 use plan::INTEGRATORS;
 use plan::SOURCES;
 use timing::position;
 
-// An output stands in q, and in `values` at its source number, which is the integrator's.
+// An output stands in `values` at its source number, which is the integrator's.
 pub fn set_outputs<'a>(
-    due: u32,
     t: u32,
+    due: u32,
     x: &'a [i64; INTEGRATORS],
     s: &'a [i64; INTEGRATORS],
     l: &'a [u32; INTEGRATORS],
-    q: &mut [i64; INTEGRATORS],
     values: &mut [i64; SOURCES],
 )
     requires { ⌜ DuePositionsReady due t (now x) (now s) (now l) ⌝ }
-    ensures { λ _. ⌜ outputting (now (q .exit)) (now (values .exit))
-        ≡ each (outputOne t (now (x .entry)) (now (s .entry)) (now (l .entry))) (has due) 32 (outputting (now (q .entry)) (now (values .entry))) ⌝ }
+    ensures { λ _. ⌜ now (values .exit)
+        ≡ each (afterOutput t (now (x .entry)) (now (s .entry)) (now (l .entry))) (has due) 32 (now (values .entry)) ⌝ }
 {
     let mut left = due;
     while left != 0 {
         let i = lowest(left);
         let value = position(x[i], s[i], l[i], t);
-        q[i] = value;
         values[i] = value;
         left = rest(left);
     }

@@ -1,4 +1,4 @@
--- `instant::commands::obey_commands` meets its contract: obeying from command e on ends where obeying from the next command on ends.
+-- `steps::commands::obey_commands` meets its contract: obeying from command e on ends where obeying from the next command on ends.
 -- Assumes nothing.
 use mathlib.Core.Path.{_≡_, refl, sym, _∙_}
 use Prim.Native.Nat.{_-_, _≤_, _<_}
@@ -7,18 +7,18 @@ use mir.Syntax.{w64}
 use mir.Val.{SFits}
 use mir.Facts.{toZ-ofZ}
 use Rattle.plan.specs.Lists.{natAt, intAt}
-use Rattle.steps.specs.Commands.{obeying, obeyOne, obeyFrom}
-use Rattle.steps.specs.Laws.Obeying.{obey-turn, obey-other, obey-end}
+use Rattle.steps.specs.Commands.{afterCommands, afterCommand, afterCommandsFrom}
+use Rattle.steps.specs.Laws.CommandTurns.{one-more, other-tick, none-left}
 use Rattle.steps.proofs.commands.obey_commands.Statement.{statement}
 use Rattle.steps.proofs.commands.obey_commands.Tie as tie
 
 abbrev Inv-loop : tie.InvT-loop
-Inv-loop t next commands n ticks numbers settings inputs₀ values₀ commanded₀ e₀ inputs values commanded e =
-    (e ≤ commands) × (obeyFrom t n ticks numbers settings e (commands - e) (obeying inputs values commanded e)
-    ≡ obeyFrom t n ticks numbers settings next (commands - next) (obeying inputs₀ values₀ 0 next))
+Inv-loop n commands ticks inputs settings t values₀ next commanded₀ e₀ values commanded e =
+    (e ≤ commands) × (afterCommandsFrom n ticks inputs settings t e (commands - e) (afterCommands values commanded e)
+    ≡ afterCommandsFrom n ticks inputs settings t next (commands - next) (afterCommands values₀ 0 next))
 
 abbrev μ-loop : tie.MeasureT-loop
-μ-loop t next commands n ticks numbers settings inputs₀ values₀ commanded₀ e₀ inputs values commanded e = commands - e
+μ-loop n commands ticks inputs settings t values₀ next commanded₀ e₀ values commanded e = commands - e
 
 loop-holds : tie.Need-loop-holds Inv-loop μ-loop
 loop-holds c = (omega arith, refl)
@@ -42,23 +42,17 @@ element-copy-out-value : tie.Need-element-copy-out-value Inv-loop μ-loop
 element-copy-out-value c = omega arith
 
 -- the command's input is one of the eight
-known : (c : tie.In-loop Inv-loop μ-loop) → natAt (c .before .before .args .numbers .now) (c .before .loop .e) < 8
+known : (c : tie.In-loop Inv-loop μ-loop) → natAt (c .before .before .args .inputs .now) (c .before .loop .e) < 8
 known c = c .before .before .pre .known (c .before .loop .e) (c .loop-test .taken)
+
+add-value : tie.Need-add-value Inv-loop μ-loop
+add-value c = omega (arith, known (c .before .before .before .before))
 
 mul-value-2 : tie.Need-mul-value-2 Inv-loop μ-loop
 mul-value-2 c = omega (arith, known (c .before .before .before .before))
 
 element-set-from-value : tie.Need-element-set-from-value Inv-loop μ-loop
 element-set-from-value c = omega (arith, known (c .before .before .before .before))
-
-add-value : tie.Need-add-value Inv-loop μ-loop
-add-value c = omega (arith, known (c .before .before .before .before))
-
-mul-value-3 : tie.Need-mul-value-3 Inv-loop μ-loop
-mul-value-3 c = omega (arith, known (c .before .before .before .before))
-
-element-set-from-value-2 : tie.Need-element-set-from-value-2 Inv-loop μ-loop
-element-set-from-value-2 c = omega (arith, known (c .before .before .before .before))
 
 with-requires : tie.Need-with-requires Inv-loop μ-loop
 with-requires c κs = omega (arith, known (c .before .before .before .before))
@@ -70,15 +64,15 @@ loop-less : tie.Need-loop-less Inv-loop μ-loop
 loop-less c = omega arith
 
 loop-again : tie.Need-loop-again Inv-loop μ-loop
-unfolding obeyOne
+unfolding afterCommand
 loop-again c =
     let then = c .before .before .before in
     let inside = then .before .before in
     let l = inside .before .loop in
     let a = inside .before .before .args in
     let fits : SFits w64 (intAt (a .settings .now) (l .e)) = record { sfits = c .before .value .given } in
-    let o = obeying (l .inputs) (l .values) (l .commanded) (l .e) in
-    let turn = obey-turn (a .t) (a .n) (a .ticks .now) (a .numbers .now) (a .settings .now) (l .e) (a .commands) o
+    let o = afterCommands (l .values) (l .commanded) (l .e) in
+    let turn = one-more (a .n) (a .ticks .now) (a .inputs .now) (a .settings .now) (a .t) (l .e) (a .commands) o
     (inside .loop-test .taken) (then .if1 .taken) in
     (omega arith, rw (toZ-ofZ fits, c .with .ensures) (turn ∙ l .inv .1))
 
@@ -86,13 +80,13 @@ returns : tie.Need-returns Inv-loop μ-loop
 returns c =
     let l = c .before .before .before .loop in
     let a = c .before .before .before .before .args in
-    sym (obey-other (a .t) (a .n) (a .ticks .now) (a .numbers .now) (a .settings .now) (l .e) (a .commands) _ (c .if1 .left)) ∙ l .inv .1
+    sym (other-tick (a .n) (a .ticks .now) (a .inputs .now) (a .settings .now) (a .t) (l .e) (a .commands) _ (c .if1 .left)) ∙ l .inv .1
 
 returns-2 : tie.Need-returns-2 Inv-loop μ-loop
 returns-2 c =
     let l = c .before .loop in
     let a = c .before .before .args in
-    sym (obey-end (a .t) (a .n) (a .ticks .now) (a .numbers .now) (a .settings .now) (l .e) (a .commands) _ (c .loop-test .left)) ∙ l .inv .1
+    sym (none-left (a .n) (a .ticks .now) (a .inputs .now) (a .settings .now) (a .t) (l .e) (a .commands) _ (c .loop-test .left)) ∙ l .inv .1
 
 pub obey-commands-spec : {M : Type 1} → statement M
 obey-commands-spec =
@@ -107,11 +101,9 @@ obey-commands-spec =
     element-copy-out-j
     mul-value
     element-copy-out-value
+    add-value
     mul-value-2
     element-set-from-value
-    add-value
-    mul-value-3
-    element-set-from-value-2
     with-requires
     add-e
     loop-less

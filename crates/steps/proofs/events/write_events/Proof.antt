@@ -1,4 +1,4 @@
--- `instant::events::write_events` meets its contract: the events of the sources that are left, from the place behind the last event on, end
+-- `steps::events::write_events` meets its contract: the events of the sources that are left, from the place behind the last event on, end
 -- as all of them end from the first place on. Assumes nothing.
 use mathlib.Core.List.{[], _∷_}
 use Prim.Native.Nat.{_<_}
@@ -15,10 +15,10 @@ use Rattle.steps.proofs.events.write_events.Statement.{statement}
 use Rattle.steps.proofs.events.write_events.Tie as tie
 
 abbrev Inv-loop : tie.InvT-loop
-Inv-loop changed t values buf₀ at left₀ end₀ buf left end = Writing t values changed at buf₀ left end buf
+Inv-loop t changed values buf₀ at left₀ end₀ buf left end = Writing t values changed at buf₀ left end buf
 
 abbrev μ-loop : tie.MeasureT-loop
-μ-loop changed t values buf₀ at left₀ end₀ buf left end = left
+μ-loop t changed values buf₀ at left₀ end₀ buf left end = left
 
 loop-holds : tie.Need-loop-holds Inv-loop μ-loop
 loop-holds c = begun (c .before .fits .changed .fits) (c .before .pre)

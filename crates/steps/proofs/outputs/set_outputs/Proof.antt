@@ -1,4 +1,4 @@
--- `instant::set_outputs` meets its contract: setting the outputs that are left ends where setting all of the mask ends. Assumes nothing.
+-- `steps::outputs::set_outputs` meets its contract: setting the outputs that are left ends where setting all of the mask ends. Assumes nothing.
 use mathlib.Core.Path.{_≡_, refl, _∙_}
 use Prim.Native.Nat.{_^_, _<_}
 use native.Mathlib.Omega.{arith}
@@ -13,17 +13,17 @@ use Rattle.bitset.specs.Laws.Visiting.{rest-lt, lowest-lt, each-turn, each-done
 use Rattle.plan.specs.Lists.{intAt}
 use Rattle.timing.specs.Status.{DuePositionsReady}
 use Rattle.timing.specs.Laws.Barring.{valueAt, ready-lowest, ready-rest}
-use Rattle.steps.specs.Outputs.{outputting, outputOne}
+use Rattle.steps.specs.Outputs.{afterOutput}
 use Rattle.steps.proofs.outputs.set_outputs.Statement.{statement}
 use Rattle.steps.proofs.outputs.set_outputs.Tie as tie
 
 abbrev Inv-loop : tie.InvT-loop
-Inv-loop due t x s l q₀ values₀ left₀ q values left =
-    let f = outputOne t x s l in
-    (left < 2 ^ 32) × DuePositionsReady left t x s l × (each f (has left) 32 (outputting q values) ≡ each f (has due) 32 (outputting q₀ values₀))
+Inv-loop t due x s l values₀ left₀ values left =
+    let f = afterOutput t x s l in
+    (left < 2 ^ 32) × DuePositionsReady left t x s l × (each f (has left) 32 values ≡ each f (has due) 32 values₀)
 
 abbrev μ-loop : tie.MeasureT-loop
-μ-loop due t x s l q₀ values₀ left₀ q values left = left
+μ-loop t due x s l values₀ left₀ values left = left
 
 -- the lowest left is an index of the arrays
 in-range : (c : tie.After-lowest Inv-loop μ-loop) → c .lowest .result < 32
@@ -75,13 +75,7 @@ mul-value : tie.Need-mul-value Inv-loop μ-loop
 mul-value c = omega (arith, in-range (c .before .before .before .before))
 
 element-set-from-value : tie.Need-element-set-from-value Inv-loop μ-loop
-element-set-from-value c = in-range (c .before .before .before .before)
-
-mul-value-2 : tie.Need-mul-value-2 Inv-loop μ-loop
-mul-value-2 c = omega (arith, in-range (c .before .before .before .before))
-
-element-set-from-value-2 : tie.Need-element-set-from-value-2 Inv-loop μ-loop
-element-set-from-value-2 c = omega (arith, in-range (c .before .before .before .before))
+element-set-from-value c = omega (arith, in-range (c .before .before .before .before))
 
 rest-requires : tie.Need-rest-requires Inv-loop μ-loop
 rest-requires c κs = omega arith
@@ -92,7 +86,7 @@ loop-less c =
     omega (arith, c .rest .ensures, rest-lt (m .left) (omega arith))
 
 loop-again : tie.Need-loop-again Inv-loop μ-loop
-unfolding outputOne
+unfolding afterOutput
 loop-again c =
     let v = c .before in let i = v .before .before .before .before .lowest in
     let m = v .before .before .before .before .before .before .loop in
@@ -100,12 +94,12 @@ loop-again c =
       omega (arith, c .rest .ensures, rest-lt (m .left) (omega arith)),
       rw (c .rest .ensures) (ready-rest {n = 32} (omega arith) (m .inv .0) (omega arith) _ _ _ _ (m .inv .1)),
       rw (value v)
-          (each-turn (outputOne (a .t) (now (a .x)) (now (a .s)) (now (a .l))) 32 (m .left) (i .result) _ (outputting (m .q) (m .values)) _
+          (each-turn (afterOutput (a .t) (now (a .x)) (now (a .s)) (now (a .l))) 32 (m .left) (i .result) _ (m .values) _
           (omega arith) (m .inv .0) (i .ensures) (c .rest .ensures) (m .inv .2)),
     )
 
 returns : tie.Need-returns Inv-loop μ-loop
-returns c = let m = c .before .loop in each-done _ 32 (m .left) (outputting (m .q) (m .values)) _ (c .loop-test .left) (m .inv .2)
+returns c = let m = c .before .loop in each-done _ 32 (m .left) (m .values) _ (c .loop-test .left) (m .inv .2)
 
 pub set-outputs-spec : {M : Type 1} → statement M
 set-outputs-spec =
@@ -124,8 +118,6 @@ set-outputs-spec =
     position-requires
     mul-value
     element-set-from-value
-    mul-value-2
-    element-set-from-value-2
     rest-requires
     loop-less
     loop-again

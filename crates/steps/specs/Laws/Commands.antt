@@ -18,10 +18,9 @@ use Rattle.bitset.specs.Mask.{has, maskOf}
 use Rattle.bitset.specs.Laws.Bits.{has-none, has-with, with-lt, mask-ext, maskOf-lt, has-maskOf}
 use Rattle.plan.specs.Lists.{natAt, intAt, some}
 use Rattle.plan.specs.Rules.{PlanRules}
-use Rattle.plan.specs.Unused.{UnusedInt}
 use Rattle.plan.specs.Laws.Counts.{counts-of}
 use Rattle.plan.specs.Laws.Means.{means-false}
-use Rattle.plan.specs.Laws.Rows.{row-at, row-ext, row-all}
+use Rattle.plan.specs.Laws.Rows.{row-at}
 use Rattle.plan.specs.Laws.Searches.{below-suc}
 use Rattle.plan.specs.declared.Plan.{Plan}
 use Rattle.machine.specs.Next.{nextCommand}
@@ -30,7 +29,7 @@ use Rattle.machine.specs.Instant.{inputThen, inputsThen}
 use Rattle.machine.specs.Laws.Next.{command-earlier, command-most, command-is}
 use Rattle.machine.specs.Laws.Reach.{sets-means, commanded-means}
 use Rattle.machine.specs.Laws.Ascending.{ascending}
-use Rattle.steps.specs.Commands.{Obeying, obeying, obeyOne, obeyFrom, CommandsReady}
+use Rattle.steps.specs.Commands.{AfterCommands, afterCommands, afterCommand, afterCommandsFrom, CommandsInRange}
 
 -- ---- lists and tests
 set-entry : (xs : List ℤ) (k i : ℕ) (v : ℤ) → k < length xs → intAt (set xs k v) i ≡ cond (eqb k i) v (intAt xs i)
@@ -75,17 +74,14 @@ module _ (p : Plan) (t j : ℕ) where
 
 -- ---- one command after the other
 -- Those commands of tick t are obeyed that stand before the next one; u and `values` are the values of inputs and of sources before.
-record ObeyedTo (p : Plan) (u values : List ℤ) (t : ℕ) (o : Obeying) : Type 0 where
+record ObeyedTo (p : Plan) (u values : List ℤ) (t : ℕ) (o : AfterCommands) : Type 0 where
   most : o .next ≤ p .counts .commands
   earlier : (e : ℕ) → e < o .next → natAt (p .commands .ticks) e ≤ t
   ahead : o .next < p .counts .commands → t ≤ natAt (p .commands .ticks) (o .next)
-  width : length (o .inputs) ≡ 8
-  inputs : (j : ℕ) → intAt (o .inputs) j ≡ inputThen p u t j (o .next)
-  unused : UnusedInt (p .counts .m) (o .inputs)
   small : o .commanded < 2 ^ p .counts .m
   commanded : (j : ℕ) → has (o .commanded) j ≡ some (setsInput p t j) (o .next)
   same-length : length (o .values) ≡ length values
-  sources : ((j : ℕ) → j < p .counts .m → intAt values (p .counts .n + j) ≡ intAt u j) → (j : ℕ) → j < p .counts .m → intAt (o .values) (p .counts .n + j) ≡ inputThen p u t j (o .next)
+  inputs : (j : ℕ) → j < p .counts .m → intAt (o .values) (p .counts .n + j) ≡ inputThen p u t j (o .next)
   kept : (i : ℕ) → ((e : ℕ) → e < o .next → natAt (p .commands .ticks) e ≡ t → i ≡ p .counts .n + natAt (p .commands .inputs) e → ⊥) → intAt (o .values) i ≡ intAt values i
 
 -- the ticks of commands ascend
@@ -100,16 +96,16 @@ ticks-ascend p rules d e h l = go (eqb d e) refl
         (ascending (p .commands .ticks) (p .commands .inputs) (p .counts .commands) (λ e h. rules .commands e h .order) d e before l)
 
 module _ (p : Plan) (rules : PlanRules p) (u values : List ℤ) (t : ℕ) (wide : length values ≡ 64) where
-  abbrev obey : ℕ → Obeying → Obeying
-  obey = obeyOne t (p .counts .n) (p .commands .ticks) (p .commands .inputs) (p .commands .values)
+  abbrev obey : ℕ → AfterCommands → AfterCommands
+  obey = afterCommand (p .counts .n) (p .commands .ticks) (p .commands .inputs) (p .commands .values) t
 
-  abbrev obeyAll : ℕ → ℕ → Obeying → Obeying
-  obeyAll = obeyFrom t (p .counts .n) (p .commands .ticks) (p .commands .inputs) (p .commands .values)
+  abbrev obeyAll : ℕ → ℕ → AfterCommands → AfterCommands
+  obeyAll = afterCommandsFrom (p .counts .n) (p .commands .ticks) (p .commands .inputs) (p .commands .values) t
 
   -- one more
-  obeyed-more : (o : Obeying) → ObeyedTo p u values t o → o .next < p .counts .commands → natAt (p .commands .ticks) (o .next) ≡ t
+  obeyed-more : (o : AfterCommands) → ObeyedTo p u values t o → o .next < p .counts .commands → natAt (p .commands .ticks) (o .next) ≡ t
       → ObeyedTo p u values t (obey (o .next) o)
-  unfolding obeyOne inputThen some
+  unfolding afterCommand inputThen some
   obeyed-more o w h tick =
       let e = o .next in
       let k = natAt (p .commands .inputs) (o .next) in
@@ -120,29 +116,24 @@ module _ (p : Plan) (rules : PlanRules p) (u values : List ℤ) (t : ℕ) (wide 
         most = omega arith;
         earlier = λ d l. let b : d < suc e = omega arith in below-suc (λ d. natAt (p .commands .ticks) d ≤ t) b (w .earlier d) (omega arith);
         ahead = λ l. omega (arith, ticks-ascend p rules e (e + 1) (omega arith) l);
-        width = length-set (o .inputs) k v ∙ w .width;
-        inputs = λ j.
-            set-entry (o .inputs) k j v (omega (arith, rule .number, limits .m, w .width))
-            ∙ rw (add-one, own-tick p t j e tick, w .inputs j);
-        unused = λ j l. getD-set-other (o .inputs) k j v (pos 0) (λ q. omega (arith, rule .number)) ∙ w .unused j l;
         small = with-lt (p .counts .m) (o .commanded) k (w .small) (rule .number);
         commanded = λ j. has-with (o .commanded) k j ∙ rw (add-one, own-tick p t j e tick, w .commanded j, eqb-same j k k j sym sym);
         same-length = length-set (o .values) (p .counts .n + k) v ∙ w .same-length;
-        sources = λ agree j l.
+        inputs = λ j l.
             let same = eqb-same (p .counts .n + k) (p .counts .n + j) k j (λ q. omega arith) (λ q. omega arith) in
             set-entry (o .values) (p .counts .n + k) (p .counts .n + j) v (omega (arith, rule .number, limits .n, limits .m, w .same-length))
-            ∙ rw (same, add-one, own-tick p t j e tick, w .sources agree j l);
+            ∙ rw (same, add-one, own-tick p t j e tick, w .inputs j l);
         kept = λ i f.
             getD-set-other (o .values) (p .counts .n + k) i v (pos 0) (λ q. f e (omega arith) tick q)
             ∙ w .kept i (λ d l. f d (omega arith));
       }
 
   -- all: the next command is of another tick, or there is none
-  abbrev Done : Obeying → Type 0
+  abbrev Done : AfterCommands → Type 0
   Done o = ObeyedTo p u values t o × (o .next < p .counts .commands → natAt (p .commands .ticks) (o .next) ≡ t → ⊥)
 
-  obeyed-all : (left : ℕ) (o : Obeying) → o .next + left ≡ p .counts .commands → ObeyedTo p u values t o → Done (obeyAll (o .next) left o)
-  unfolding obeyFrom obeyOne
+  obeyed-all : (left : ℕ) (o : AfterCommands) → o .next + left ≡ p .counts .commands → ObeyedTo p u values t o → Done (obeyAll (o .next) left o)
+  unfolding afterCommandsFrom afterCommand
   obeyed-all zero o l w = (w, λ h. absurd (omega arith))
   obeyed-all (suc left) o l w =
       go (eqb (natAt (p .commands .ticks) (o .next)) t) refl
@@ -155,24 +146,21 @@ module _ (p : Plan) (rules : PlanRules p) (u values : List ℤ) (t : ℕ) (wide 
       go false b more = (w, λ h. eqb-false (natAt (p .commands .ticks) (o .next)) t b)
 
 -- ---- all commands of a tick
--- What is asked before tick t: the inputs' values u and the sources' values in arrays of their full width, the clock before t, the next
--- command by the clock, and no command of a tick between the two.
+-- What is asked before tick t: the values of sources, with those of inputs by u, in an array of its full width, the clock before t, the
+-- next command by the clock, and no command of a tick between the two.
 pub record TickReady (p : Plan) (u values : List ℤ) (clock t next : ℕ) : Type 0 where
-  pub inputs-width : length u ≡ 8
-  pub inputs-unused : UnusedInt (p .counts .m) u
-  pub values-width : length values ≡ 64
+  pub width : length values ≡ 64
+  pub inputs : (j : ℕ) → j < p .counts .m → intAt values (p .counts .n + j) ≡ intAt u j
   pub next-is : next ≡ nextCommand p clock
   pub later : clock < t
   pub ahead : next < p .counts .commands → t ≤ natAt (p .commands .ticks) next
 
 -- What the commands of tick t leave.
-pub record Obeyed (p : Plan) (u values : List ℤ) (t : ℕ) (o : Obeying) : Type 0 where
-  pub inputs-are : o .inputs ≡ inputsThen p u t
+pub record Obeyed (p : Plan) (u values : List ℤ) (t : ℕ) (o : AfterCommands) : Type 0 where
   pub commanded-are : o .commanded ≡ maskOf (isCommanded p t) (p .counts .m)
   pub next-is : o .next ≡ nextCommand p t
   pub same-length : length (o .values) ≡ length values
-  -- the values of inputs, where those before are those of u
-  pub sources : ((j : ℕ) → j < p .counts .m → intAt values (p .counts .n + j) ≡ intAt u j) → (j : ℕ) → j < p .counts .m → intAt (o .values) (p .counts .n + j) ≡ intAt (inputsThen p u t) j
+  pub inputs-are : (j : ℕ) → j < p .counts .m → intAt (o .values) (p .counts .n + j) ≡ intAt (inputsThen p u t) j
   -- the values of all sources but commanded inputs
   pub kept : (i : ℕ) → ((j : ℕ) → j < p .counts .m → isCommanded p t j ≡ true → i ≡ p .counts .n + j → ⊥) → intAt (o .values) i ≡ intAt values i
 
@@ -193,23 +181,20 @@ module _ (p : Plan) (rules : PlanRules p) (u values : List ℤ) where
     unfolding some
     first-commanded j = unchanged (some (setsInput p t j)) 0 next (omega arith) (λ d l h. some-next p t j d (none-before j d h))
 
-    commands-begun : ObeyedTo p u values t (obeying u values 0 next)
+    commands-begun : ObeyedTo p u values t (afterCommands values 0 next)
     commands-begun =
         record {
           most = rw (ready .next-is) (command-most p clock);
           earlier = λ d h. omega (arith, before d h);
           ahead = ready .ahead;
-          width = ready .inputs-width;
-          inputs = λ j. sym (first-inputs-then j);
-          unused = ready .inputs-unused;
           small = pow-pos (p .counts .m);
           commanded = λ j. has-none j ∙ sym (first-commanded j);
           same-length = refl;
-          sources = λ agree j h. agree j h ∙ sym (first-inputs-then j);
+          inputs = λ j h. ready .inputs j h ∙ sym (first-inputs-then j);
           kept = λ i f. refl;
         }
 
-  module _ (t : ℕ) (o : Obeying) (w : ObeyedTo p u values t o) (end : o .next < p .counts .commands → natAt (p .commands .ticks) (o .next) ≡ t → ⊥) where
+  module _ (t : ℕ) (o : AfterCommands) (w : ObeyedTo p u values t o) (end : o .next < p .counts .commands → natAt (p .commands .ticks) (o .next) ≡ t → ⊥) where
     above : o .next < p .counts .commands → t < natAt (p .commands .ticks) (o .next)
     above h = omega (arith, w .ahead h, end h)
 
@@ -229,16 +214,13 @@ module _ (p : Plan) (rules : PlanRules p) (u values : List ℤ) where
     commands-done =
         let limits = counts-of p (rules .counts) in
         record {
-          inputs-are =
-              sym (row-all (pos 0) 8 (p .counts .m) (o .inputs) (w .width) (w .unused))
-              ∙ row-ext (pos 0) 8 (p .counts .m) _ _ (λ j h. w .inputs j ∙ sym (all-inputs-then j));
           commanded-are =
               mask-ext (p .counts .m) (o .commanded) (maskOf (isCommanded p t) (p .counts .m)) (w .small) (maskOf-lt (isCommanded p t) (p .counts .m))
               (λ j h. w .commanded j ∙ sym (all-commanded j) ∙ sym (has-maskOf (isCommanded p t) (p .counts .m) j h));
           next-is = command-is p t (o .next) (w .most) (w .earlier) above;
           same-length = w .same-length;
-          sources = λ agree j h.
-              w .sources agree j h ∙ sym (all-inputs-then j) ∙ sym (row-at (pos 0) 8 (p .counts .m) _ j (limits .m) h);
+          inputs-are = λ j h.
+              w .inputs j h ∙ sym (all-inputs-then j) ∙ sym (row-at (pos 0) 8 (p .counts .m) _ j (limits .m) h);
           kept = λ i f.
               w .kept i
               (λ e h tick. f (natAt (p .commands .inputs) e) (rules .commands e (omega (arith, w .most)) .number)
@@ -246,16 +228,16 @@ module _ (p : Plan) (rules : PlanRules p) (u values : List ℤ) where
         }
 
   -- the commands of tick t
-  pub obeyed : (clock t next : ℕ) → TickReady p u values clock t next → {o : Obeying}
-      → o ≡ obeyFrom t (p .counts .n) (p .commands .ticks) (p .commands .inputs) (p .commands .values) next (p .counts .commands - next) (obeying u values 0 next) → Obeyed p u values t o
+  pub obeyed : (clock t next : ℕ) → TickReady p u values clock t next → {o : AfterCommands}
+      → o ≡ afterCommandsFrom (p .counts .n) (p .commands .ticks) (p .commands .inputs) (p .commands .values) t next (p .counts .commands - next) (afterCommands values 0 next) → Obeyed p u values t o
   obeyed clock t next ready {o} e =
       let begun = commands-begun clock t next ready in
-      let start = obeying u values 0 next in
-      let done = obeyed-all p rules u values t (ready .values-width) (p .counts .commands - next) start (omega (arith, begun .most)) begun in
+      let start = afterCommands values 0 next in
+      let done = obeyed-all p rules u values t (ready .width) (p .counts .commands - next) start (omega (arith, begun .most)) begun in
       rw e (commands-done t _ (done .0) (done .1))
 
 -- outputs and values of nodes
-module _ {p : Plan} {u values : List ℤ} {t : ℕ} {o : Obeying} (done : Obeyed p u values t o) where
+module _ {p : Plan} {u values : List ℤ} {t : ℕ} {o : AfterCommands} (done : Obeyed p u values t o) where
   pub outputs-kept : (i : ℕ) → i < p .counts .n → intAt (o .values) i ≡ intAt values i
   outputs-kept i h = done .kept i (λ j l c q. omega arith)
 
@@ -263,8 +245,9 @@ module _ {p : Plan} {u values : List ℤ} {t : ℕ} {o : Obeying} (done : Obeyed
   nodes-kept i h = done .kept i (λ j l c q. omega arith)
 
 -- what obeying them asks
-pub commands-ready : (p : Plan) → PlanRules p → (next clock : ℕ) → next ≡ nextCommand p clock → CommandsReady next (p .counts .commands) (p .counts .n) (p .commands .inputs)
-commands-ready p rules next clock e =
+pub commands-in-range : (p : Plan) → PlanRules p → (next clock : ℕ) → next ≡ nextCommand p clock
+    → CommandsInRange (p .counts .n) (p .counts .commands) (p .commands .inputs) next
+commands-in-range p rules next clock e =
     let limits = counts-of p (rules .counts) in
     record {
       order = rw e (command-most p clock);
