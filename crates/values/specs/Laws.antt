@@ -2,3 +2,4 @@
 pub mod NodeSteps
 pub mod SourceValues
 pub mod Touched
+pub mod ReadOut

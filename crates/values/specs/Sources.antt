@@ -19,6 +19,13 @@ valuesOf p q u = row (pos 0) sourceWidth (p .counts .n + p .counts .m + p .count
 unfoldable pub firstValues : (n m : ℕ) (q u : List ℤ) → List ℤ
 firstValues n m q u = row (pos 0) sourceWidth (n + m) (λ i. cond (ltb i n) (intAt q i) (intAt u (i - n)))
 
+-- the outputs and the input values, read out of the values of sources
+unfoldable pub outputsIn : (n : ℕ) (values : List ℤ) → List ℤ
+outputsIn n values = row (pos 0) 32 n (λ i. intAt values i)
+
+unfoldable pub inputsIn : (n m : ℕ) (values : List ℤ) → List ℤ
+inputsIn n m values = row (pos 0) 8 m (λ j. intAt values (n + j))
+
 module _ (kinds a b : List ℕ) (lows highs : List ℤ) (base : ℕ) where
   -- the value of node j by the values of its operands
   unfoldable pub nodeFrom : ℕ → List ℤ → ℤ

@@ -7,7 +7,7 @@ ghost use Rattle.integers.specs.Parts.{∣_∣};
 ghost use Rattle.bitset.specs.Mask.{has, each};
 ghost use Rattle.plan.specs.Numbers.{M, mostIntegrators, mostInputs};
 ghost use Rattle.machine.specs.Values.{clipped, nodeOf};
-ghost use Rattle.values.specs.Sources.{firstValues, nodeStep, NodesReady};
+ghost use Rattle.values.specs.Sources.{firstValues, outputsIn, inputsIn, nodeStep, NodesReady};
 use bitset::all;
 use bitset::lowest;
 use bitset::rest;
@@ -46,8 +46,8 @@ pub fn node_value(kind: usize, a: i64, b: i64, lo: i64, hi: i64) -> i64
 // Node j, whose source number is base + j, from the values of its operands.
 fn work_node<'a>(
     j: usize,
-    k: usize,
     base: usize,
+    k: usize,
     kinds: &'a [usize; NODES],
     a: &'a [usize; NODES],
     b: &'a [usize; NODES],
@@ -67,14 +67,14 @@ fn work_node<'a>(
 
 // "Node values are worked out in node order": those of the mask, lowest first.
 pub fn work_nodes<'a>(
-    nodes: u32,
-    k: usize,
     base: usize,
+    k: usize,
     kinds: &'a [usize; NODES],
     a: &'a [usize; NODES],
     b: &'a [usize; NODES],
     lows: &'a [i64; NODES],
     highs: &'a [i64; NODES],
+    nodes: u32,
     values: &mut [i64; SOURCES],
 )
     requires { ⌜ (nodes < 2 ^ k) × NodesReady (now a) (now b) (now lows) (now highs) (now values) base k ⌝ }
@@ -84,7 +84,7 @@ pub fn work_nodes<'a>(
     let mut left = nodes;
     while left != 0 {
         let j = lowest(left);
-        work_node(j, k, base, kinds, a, b, lows, highs, values);
+        work_node(j, base, k, kinds, a, b, lows, highs, values);
         left = rest(left);
     }
 }
@@ -132,6 +132,34 @@ pub fn source_values<'a>(
         (now (highs .entry)) (n + m)) (λ _. true) k (firstValues n m (now (q .entry)) (now (inputs .entry))) ⌝ }
 {
     let mut values = first_values(n, m, q, inputs);
-    work_nodes(all(k), k, n + m, kinds, a, b, lows, highs, &mut values);
+    work_nodes(n + m, k, kinds, a, b, lows, highs, all(k), &mut values);
     values
+}
+
+// The outputs, read out of the values of sources.
+pub fn outputs_in<'a>(n: usize, values: &'a [i64; SOURCES]) -> [i64; INTEGRATORS]
+    requires { ⌜ n ≤ 32 ⌝ }
+    ensures { λ r. ⌜ r ≡ outputsIn n (now (values .entry)) ⌝ }
+{
+    let mut q: [i64; INTEGRATORS] = [0; INTEGRATORS];
+    let mut i: usize = 0;
+    while i < n {
+        q[i] = values[i];
+        i += 1;
+    }
+    q
+}
+
+// The input values, read out of the values of sources.
+pub fn inputs_in<'a>(n: usize, m: usize, values: &'a [i64; SOURCES]) -> [i64; INPUTS]
+    requires { ⌜ (n ≤ 32) × (m ≤ 8) ⌝ }
+    ensures { λ r. ⌜ r ≡ inputsIn n m (now (values .entry)) ⌝ }
+{
+    let mut inputs: [i64; INPUTS] = [0; INPUTS];
+    let mut j: usize = 0;
+    while j < m {
+        inputs[j] = values[n + j];
+        j += 1;
+    }
+    inputs
 }

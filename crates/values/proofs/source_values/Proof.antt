@@ -30,4 +30,4 @@ returns c =
     (each-mask _ (λ _. true) (s .args .k) 32 _ (omega arith))
 
 pub source-values-spec : {M : Type 1} → statement M
-source-values-spec = tie.close (tie.spec first-values-requires all-requires add-work-nodes work-nodes-requires returns)
+source-values-spec = tie.close (tie.spec first-values-requires add-work-nodes all-requires work-nodes-requires returns)

@@ -19,12 +19,12 @@ fits-32 : {k left : ℕ} → k ≤ 16 → left < 2 ^ k → left < 2 ^ 32
 fits-32 {k} few h = let l : k ≤ 32 = omega arith in lt-of-lt-of-le h (pow-mono l)
 
 abbrev Inv-loop : tie.InvT-loop
-Inv-loop nodes k base kinds a b lows highs values₀ left₀ values left =
+Inv-loop base k kinds a b lows highs nodes values₀ left₀ values left =
     let f = nodeStep kinds a b lows highs base in
     (left < 2 ^ k) × NodesReady a b lows highs values base k × (each f (has left) 32 values ≡ each f (has nodes) 32 values₀)
 
 abbrev μ-loop : tie.MeasureT-loop
-μ-loop nodes k base kinds a b lows highs values₀ left₀ values left = left
+μ-loop base k kinds a b lows highs nodes values₀ left₀ values left = left
 
 loop-holds : tie.Need-loop-holds Inv-loop μ-loop
 loop-holds c = (c .pre .0, c .pre .1, refl)
