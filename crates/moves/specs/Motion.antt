@@ -18,10 +18,10 @@ pub record Motion : Type 0 where
   pub l : List ℕ
   pub d : List ℕ
 
-abbrev pub moving : List ℤ → List ℤ → List ℕ → List ℕ → Motion
-moving x s l d = record { x = x; s = s; l = l; d = d }
+abbrev pub motion : List ℤ → List ℤ → List ℕ → List ℕ → Motion
+motion x s l d = record { x = x; s = s; l = l; d = d }
 
-module _ (t : ℕ) (ranges sources : List ℕ) (coefficients quanta values : List ℤ) where
+module _ (quanta : List ℤ) (sources : List ℕ) (coefficients : List ℤ) (ranges : List ℕ) (t : ℕ) (values : List ℤ) where
   -- where integrator i is at t, its new slope, and its new due tick
   unfoldable pub placeOf : ℕ → Motion → ℤ
   placeOf i m = intAt (m .x) i +ℤ intAt (m .s) i *ℤ pos (t - natAt (m .l) i)
@@ -32,9 +32,9 @@ module _ (t : ℕ) (ranges sources : List ℕ) (coefficients quanta values : Lis
   unfoldable pub dueFrom : ℕ → ℤ → ℕ
   dueFrom i place = dueTick t place (intAt values i +ℤ intAt quanta i) (intAt values i -ℤ intAt quanta i) (slopeOf i)
 
-  unfoldable pub moveOne : ℕ → Motion → Motion
-  moveOne i m =
-      moving (set (m .x) i (placeOf i m)) (set (m .s) i (slopeOf i)) (set (m .l) i t) (set (m .d) i (dueFrom i (placeOf i m)))
+  unfoldable pub afterMove : ℕ → Motion → Motion
+  afterMove i m =
+      motion (set (m .x) i (placeOf i m)) (set (m .s) i (slopeOf i)) (set (m .l) i t) (set (m .d) i (dueFrom i (placeOf i m)))
 
   -- what that asks
   pub record Movable (i : ℕ) (m : Motion) : Type 0 where

@@ -46,7 +46,7 @@ use Rattle.reach.specs.Laws.Reached as reaching
 use Rattle.steps.specs.Commands.{obeying, obeyFrom, CommandsReady}
 use Rattle.steps.specs.Outputs.{outputting, outputOne}
 use Rattle.steps.specs.Events.{eventsIn, EventsReady}
-use Rattle.moves.specs.Motion.{moving, moveOne, AllMovable}
+use Rattle.moves.specs.Motion.{motion, afterMove, AllMovable}
 use Rattle.instant.specs.Lent.{runningOf, movedSet, InstantReady}
 use Rattle.steps.specs.Laws.Settings.{Obeyed, obeyed, outputs-kept, nodes-kept, commands-ready}
 use Rattle.steps.specs.Laws.Outputs.{outputs-are, values-full, values-kept, values-are}
@@ -237,19 +237,19 @@ module _ (p : Plan) (r : Running) {t due : ℕ} {ranges reach : List ℕ} {value
               go Lazy = rw (ready .due-set, reached-then) (maskOf-or (isDue (r .d) t) (reached p (r .d) t) (p .counts .n))
               go Eager = refl
 
-          pub moves-ready : AllMovable t ranges (p .links .sources) (p .links .coefficients) (p .integrators .quanta) v3 moved (moving (r .x) (r .s) (r .l) (r .d))
+          pub moves-ready : AllMovable (p .integrators .quanta) (p .links .sources) (p .links .coefficients) ranges t v3 moved (motion (r .x) (r .s) (r .l) (r .d))
           moves-ready =
               rw (ready .ranges-are, moved-then)
               (all-movable p r (ready .sound) t takes v3 value-then (moves p engine (r .d) t) sized-then)
 
           module _ {x s : List ℤ} {l d : List ℕ}
-              (move : moving x s l d ≡ each (moveOne t ranges (p .links .sources) (p .links .coefficients) (p .integrators .quanta) v3) (has moved) 32 (moving (r .x) (r .s) (r .l) (r .d)))
+              (move : motion x s l d ≡ each (afterMove (p .integrators .quanta) (p .links .sources) (p .links .coefficients) ranges t v3) (has moved) 32 (motion (r .x) (r .s) (r .l) (r .d)))
               {grown : ℕ} (counted : grown ≡ countOf (has moved) 32) where
             count-then : grown ≡ countOf (moves p engine (r .d) t) (p .counts .n)
             count-then = counted ∙ rw moved-then (countOf-mask (moves p engine (r .d) t) (p .counts .n) 32 (limits .n))
 
-            figures-then : moving x s l d
-                ≡ moving (takenAt p r t (moves p engine (r .d) t) .x) (takenAt p r t (moves p engine (r .d) t) .s)
+            figures-then : motion x s l d
+                ≡ motion (takenAt p r t (moves p engine (r .d) t) .x) (takenAt p r t (moves p engine (r .d) t) .s)
                 (takenAt p r t (moves p engine (r .d) t) .l) (takenAt p r t (moves p engine (r .d) t) .d)
             figures-then =
                 move ∙ rw (ready .ranges-are, moved-then) (moved-figures p r (ready .sound) t takes v3 value-then (moves p engine (r .d) t) shaped)

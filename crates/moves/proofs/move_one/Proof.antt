@@ -1,4 +1,4 @@
--- `instant::move_one` meets its contract: each answer fits, so the bits of the locals read as the integers. Assumes nothing.
+-- `moves::move_one` meets its contract: each answer fits, so the bits of the locals read as the integers. Assumes nothing.
 use borrow.Author.Needs.{needs, sfits-of}
 use mathlib.Core.Path.{_≡_, _∙_}
 use mir.Syntax.{w64}
@@ -6,7 +6,7 @@ use mir.Val.{SFits}
 use mir.Facts.{toZ-ofZ}
 use Rattle.integers.specs.Laws.Signed64.{rd}
 use Rattle.plan.specs.Lists.{intAt}
-use Rattle.moves.specs.Motion.{moving, placeOf, slopeOf}
+use Rattle.moves.specs.Motion.{motion, placeOf, slopeOf}
 use Rattle.moves.specs.Laws.Moving.{move-stores}
 use Rattle.moves.proofs.move_one.Statement.{statement}
 use Rattle.moves.proofs.move_one.Tie as tie
@@ -14,8 +14,8 @@ use Rattle.moves.proofs.move_one.Tie as tie
 -- where the integrator is at t, and its new slope
 place : (c : tie.After-position) → let a = c .before .before .before .before .args in
     rd (c .position .result)
-    ≡ placeOf (a .t) (a .ranges .now) (a .sources .now) (a .coefficients .now) (a .quanta .now) (a .values .now) (a .i)
-    (moving (a .x .now) (a .s .now) (a .l .now) (a .d .now))
+    ≡ placeOf (a .quanta .now) (a .sources .now) (a .coefficients .now) (a .ranges .now) (a .t) (a .values .now) (a .i)
+    (motion (a .x .now) (a .s .now) (a .l .now) (a .d .now))
 unfolding placeOf
 place c =
     let a = c .before .before .before .before .args in
@@ -24,7 +24,7 @@ place c =
     toZ-ofZ (sfits-of (c .position .ok)) ∙ (rw (toZ-ofZ x, toZ-ofZ s) at (c .position .ensures))
 
 slope : (c : tie.After-rate) → let a = c .before .before .before .before .before .before .before .args in
-    rd (c .rate .result) ≡ slopeOf (a .t) (a .ranges .now) (a .sources .now) (a .coefficients .now) (a .quanta .now) (a .values .now) (a .i)
+    rd (c .rate .result) ≡ slopeOf (a .quanta .now) (a .sources .now) (a .coefficients .now) (a .ranges .now) (a .t) (a .values .now) (a .i)
 unfolding slopeOf
 slope c = toZ-ofZ (sfits-of (c .rate .ok)) ∙ c .rate .ensures
 
@@ -115,8 +115,8 @@ returns c =
     let r = c .before .before .before in let p = r .before .before .before in let a = p .before .before .before .before .args in
     let output : SFits w64 (intAt (a .values .now) (a .i)) = sfits-of (c .before .before .due-tick-arg .given) in
     let quantum : SFits w64 (intAt (a .quanta .now) (a .i)) = sfits-of (c .before .due-tick-arg2 .given) in
-    move-stores (a .t) (a .ranges .now) (a .sources .now) (a .coefficients .now) (a .quanta .now) (a .values .now) (a .i)
-    (moving (a .x .now) (a .s .now) (a .l .now) (a .d .now)) (place p) (slope r)
+    move-stores (a .quanta .now) (a .sources .now) (a .coefficients .now) (a .ranges .now) (a .t) (a .values .now) (a .i)
+    (motion (a .x .now) (a .s .now) (a .l .now) (a .d .now)) (place p) (slope r)
     (rw (toZ-ofZ output, toZ-ofZ quantum) at (c .due-tick .ensures))
 
 pub move-one-spec : {M : Type 1} → statement M

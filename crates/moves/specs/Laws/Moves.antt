@@ -26,7 +26,7 @@ use Rattle.rates.specs.Links.{rangesOf}
 use Rattle.rates.specs.Laws.OwnRange.{own-rated, own-rate}
 use Rattle.timing.specs.Laws.Statuses.{ready-at}
 use Rattle.timing.specs.Laws.Dues.{due-ready-then, due-is-then}
-use Rattle.moves.specs.Motion.{Motion, moving, placeOf, slopeOf, dueFrom, moveOne, AllMovable}
+use Rattle.moves.specs.Motion.{Motion, motion, placeOf, slopeOf, dueFrom, afterMove, AllMovable}
 use Rattle.moves.specs.Laws.Moving.{Figures, figuresAt, Full, movedFigures, move-full, move-own, move-others}
 use Rattle.steps.specs.Laws.Walks.{Stores, Walked, walked, row-is}
 
@@ -38,23 +38,23 @@ mask-member p n i e = go (ltb i n) refl
     go true l = ltb-true i n l
     go false l = absurd (true≢false (sym e ∙ has-high (maskOf p n) n i (maskOf-lt p n) (ltb-false i n l)))
 
-motion-is : (m : Motion) {x s : List ℤ} {l d : List ℕ} → m .x ≡ x → m .s ≡ s → m .l ≡ l → m .d ≡ d → m ≡ moving x s l d
+motion-is : (m : Motion) {x s : List ℤ} {l d : List ℕ} → m .x ≡ x → m .s ≡ s → m .l ≡ l → m .d ≡ d → m ≡ motion x s l d
 motion-is m a b c e = rw (← a, ← b, ← c, ← e)
 
 -- ---- any walk over a mask, as four rows
-module _ (t : ℕ) (ranges sources : List ℕ) (coefficients quanta values : List ℤ) where
+module _ (quanta : List ℤ) (sources : List ℕ) (coefficients : List ℤ) (ranges : List ℕ) (t : ℕ) (values : List ℤ) where
   abbrev move : ℕ → Motion → Motion
-  move = moveOne t ranges sources coefficients quanta values
+  move = afterMove quanta sources coefficients ranges t values
 
   abbrev figures : ℕ → Figures → Figures
-  figures = movedFigures t ranges sources coefficients quanta values
+  figures = movedFigures quanta sources coefficients ranges t values
 
-  stores-figures : Stores move figuresAt figures Full 32
-  stores-figures =
+  figures-stored : Stores move figuresAt figures Full 32
+  figures-stored =
       record {
-        kept = move-full t ranges sources coefficients quanta values;
-        own = move-own t ranges sources coefficients quanta values;
-        others = move-others t ranges sources coefficients quanta values;
+        kept = move-full quanta sources coefficients ranges t values;
+        own = move-own quanta sources coefficients ranges t values;
+        others = move-others quanta sources coefficients ranges t values;
       }
 
   -- f i are integrator i's figures behind the walk
@@ -62,7 +62,7 @@ module _ (t : ℕ) (ranges sources : List ℕ) (coefficients quanta values : Lis
       → ((i : ℕ) → n ≤ i → figuresAt m i ≡ record { x = pos 0; s = pos 0; l = 0; d = 0 })
       → (f : ℕ → Figures) → ((i : ℕ) → i < n → cond (moved i) (figures i (figuresAt m i)) (figuresAt m i) ≡ f i)
       → each move (has (maskOf moved n)) 32 m
-      ≡ moving (row (pos 0) 32 n (λ i. f i .x)) (row (pos 0) 32 n (λ i. f i .s)) (row 0 32 n (λ i. f i .l)) (row 0 32 n (λ i. f i .d))
+      ≡ motion (row (pos 0) 32 n (λ i. f i .x)) (row (pos 0) 32 n (λ i. f i .s)) (row 0 32 n (λ i. f i .l)) (row 0 32 n (λ i. f i .d))
   moved-rows moved n few m full unused f e =
       motion-is after
       (row-is (pos 0) 32 n _ (after .x) (w .full .x) (λ i h. ap (λ (g : Figures). g .x) (past i h)) (λ i h. ap (λ (g : Figures). g .x) (at i h)))
@@ -74,7 +74,7 @@ module _ (t : ℕ) (ranges sources : List ℕ) (coefficients quanta values : Lis
       after = each move (has (maskOf moved n)) 32 m
 
       w : Walked figuresAt figures Full moved n m after
-      w = walked stores-figures moved m full n 32 few few
+      w = walked figures-stored moved m full n 32 few few
 
       past : (i : ℕ) → n ≤ i → figuresAt after i ≡ record { x = pos 0; s = pos 0; l = 0; d = 0 }
       past i h = w .past i h ∙ unused i h
@@ -89,21 +89,21 @@ module _ (p : Plan) (r : Running) (sound : SoundRunning p r) (t : ℕ) (takes : 
   limits = counts-of p (sound .plan .counts)
 
   abbrev before : Motion
-  before = moving (r .x) (r .s) (r .l) (r .d)
+  before = motion (r .x) (r .s) (r .l) (r .d)
 
-  place : (i : ℕ) → placeOf t (rangesOf p) (p .links .sources) (p .links .coefficients) (p .integrators .quanta) values i before ≡ positionAt r t i
+  place : (i : ℕ) → placeOf (p .integrators .quanta) (p .links .sources) (p .links .coefficients) (rangesOf p) t values i before ≡ positionAt r t i
   unfolding placeOf positionAt
   place i = refl
 
   output : (i : ℕ) → i < p .counts .n → intAt values i ≡ intAt (outputs p r t) i
   output i h = same i (omega arith) ∙ integrator-value p (outputs p r t) (inputsThen p (r .inputs) t) i h
 
-  slope : (i : ℕ) → i < p .counts .n → slopeOf t (rangesOf p) (p .links .sources) (p .links .coefficients) (p .integrators .quanta) values i ≡ slopeThen p r t i
+  slope : (i : ℕ) → i < p .counts .n → slopeOf (p .integrators .quanta) (p .links .sources) (p .links .coefficients) (rangesOf p) t values i ≡ slopeThen p r t i
   unfolding slopeOf slopeThen
   slope i h = own-rate p (sound .plan) values (outputs p r t) (inputsThen p (r .inputs) t) same i h
 
   pub all-movable : ((i : ℕ) → ∣ intAt values i ∣ ≤ M)
-      → AllMovable t (rangesOf p) (p .links .sources) (p .links .coefficients) (p .integrators .quanta) values (maskOf moved (p .counts .n)) before
+      → AllMovable (p .integrators .quanta) (p .links .sources) (p .links .coefficients) (rangesOf p) t values (maskOf moved (p .counts .n)) before
   all-movable sized i e =
       let h = mask-member moved (p .counts .n) i e in
       record {
@@ -124,19 +124,19 @@ module _ (p : Plan) (r : Running) (sound : SoundRunning p r) (t : ℕ) (takes : 
       }
 
   figures-then : (i : ℕ) → i < p .counts .n → (b : Bool)
-      → cond b (movedFigures t (rangesOf p) (p .links .sources) (p .links .coefficients) (p .integrators .quanta) values i (figuresAt before i)) (figuresAt before i)
+      → cond b (movedFigures (p .integrators .quanta) (p .links .sources) (p .links .coefficients) (rangesOf p) t values i (figuresAt before i)) (figuresAt before i)
       ≡ figuresThen i b
   unfolding movedFigures dueFrom positionAt
   figures-then i h true = rw (slope i h, output i h, x-then p limits r t i h, ← due-is-then p limits r t i h)
   figures-then i h false = refl
 
   pub moved-figures : RunningShaped r
-      → each (moveOne t (rangesOf p) (p .links .sources) (p .links .coefficients) (p .integrators .quanta) values) (has (maskOf moved (p .counts .n))) 32 before
-      ≡ moving (takenAt p r t moved .x) (takenAt p r t moved .s) (takenAt p r t moved .l) (takenAt p r t moved .d)
+      → each (afterMove (p .integrators .quanta) (p .links .sources) (p .links .coefficients) (rangesOf p) t values) (has (maskOf moved (p .counts .n))) 32 before
+      ≡ motion (takenAt p r t moved .x) (takenAt p r t moved .s) (takenAt p r t moved .l) (takenAt p r t moved .d)
   unfolding takenAt
   moved-figures shaped =
       let u = sound .running-unused in
-      moved-rows t (rangesOf p) (p .links .sources) (p .links .coefficients) (p .integrators .quanta) values moved (p .counts .n) (limits .n) before
+      moved-rows (p .integrators .quanta) (p .links .sources) (p .links .coefficients) (rangesOf p) t values moved (p .counts .n) (limits .n) before
       (record { x = shaped .x; s = shaped .s; l = shaped .l; d = shaped .d })
       (λ i h. rw (u .x i h, u .s i h, u .l i h, u .d i h))
       (λ i. figuresThen i (moved i)) (λ i h. figures-then i h (moved i))

@@ -14,7 +14,7 @@ use Rattle.bitset.specs.Mask.{has, lowestOf, restOf}
 use Rattle.bitset.specs.Laws.Visiting.{has-lowest, has-rest}
 use Rattle.plan.specs.Lists.{natAt, intAt}
 use Rattle.machine.specs.Due.{dueTick}
-use Rattle.moves.specs.Motion.{Motion, moving, placeOf, slopeOf, dueFrom, moveOne, Movable, AllMovable}
+use Rattle.moves.specs.Motion.{Motion, motion, placeOf, slopeOf, dueFrom, afterMove, Movable, AllMovable}
 
 -- the figures of one integrator
 pub record Figures : Type 0 where
@@ -33,9 +33,9 @@ pub record Full (m : Motion) : Type 0 where
   pub l : length (m .l) ≡ 32
   pub d : length (m .d) ≡ 32
 
-module _ (t : ℕ) (ranges sources : List ℕ) (coefficients quanta values : List ℤ) where
+module _ (quanta : List ℤ) (sources : List ℕ) (coefficients : List ℤ) (ranges : List ℕ) (t : ℕ) (values : List ℤ) where
   abbrev move : ℕ → Motion → Motion
-  move = moveOne t ranges sources coefficients quanta values
+  move = afterMove quanta sources coefficients ranges t values
 
   -- what the move makes of integrator i's figures
   unfoldable pub movedFigures : ℕ → Figures → Figures
@@ -43,26 +43,26 @@ module _ (t : ℕ) (ranges sources : List ℕ) (coefficients quanta values : Lis
       let place = f .x +ℤ f .s *ℤ pos (t - f .l) in
       record {
         x = place;
-        s = slopeOf t ranges sources coefficients quanta values i;
+        s = slopeOf quanta sources coefficients ranges t values i;
         l = t;
-        d = dueFrom t ranges sources coefficients quanta values i place;
+        d = dueFrom quanta sources coefficients ranges t values i place;
       }
 
   -- stored one by one
   pub move-stores : (j : ℕ) (m : Motion) {place slope : ℤ} {due : ℕ}
-      → place ≡ placeOf t ranges sources coefficients quanta values j m
-      → slope ≡ slopeOf t ranges sources coefficients quanta values j
+      → place ≡ placeOf quanta sources coefficients ranges t values j m
+      → slope ≡ slopeOf quanta sources coefficients ranges t values j
       → due ≡ dueTick t place (intAt values j +ℤ intAt quanta j) (intAt values j -ℤ intAt quanta j) slope
-      → moving (set (m .x) j place) (set (m .s) j slope) (set (m .l) j t) (set (m .d) j due) ≡ move j m
-  unfolding moveOne dueFrom
+      → motion (set (m .x) j place) (set (m .s) j slope) (set (m .l) j t) (set (m .d) j due) ≡ move j m
+  unfolding afterMove dueFrom
   move-stores j m p s d = rw (d, p, s)
 
   pub move-full : (j : ℕ) (m : Motion) → Full m → Full (move j m)
-  unfolding moveOne
+  unfolding afterMove
   move-full j m f = record { x = simp length-set (f .x); s = simp length-set (f .s); l = simp length-set (f .l); d = simp length-set (f .d) }
 
   pub move-own : (j : ℕ) (m : Motion) → Full m → j < 32 → figuresAt (move j m) j ≡ movedFigures j (figuresAt m j)
-  unfolding moveOne movedFigures placeOf
+  unfolding afterMove movedFigures placeOf
   move-own j m f h =
       rw (
         getD-set-same (m .x) j _ (pos 0) (omega (arith, f .x)),
@@ -72,7 +72,7 @@ module _ (t : ℕ) (ranges sources : List ℕ) (coefficients quanta values : Lis
       )
 
   pub move-others : (j i : ℕ) (m : Motion) → (i ≡ j → ⊥) → figuresAt (move j m) i ≡ figuresAt m i
-  unfolding moveOne
+  unfolding afterMove
   move-others j i m ne =
       rw (
         getD-set-other (m .x) j i _ (pos 0) ne,
@@ -83,11 +83,11 @@ module _ (t : ℕ) (ranges sources : List ℕ) (coefficients quanta values : Lis
 
   -- ---- a turn of the loop over a mask
   module _ {left : ℕ} (some : 0 < left) (wide : left < 2 ^ 32) (m : Motion)
-      (all : AllMovable t ranges sources coefficients quanta values left m) where
-    pub movable-lowest : Movable t ranges sources coefficients quanta values (lowestOf 32 left) m
+      (all : AllMovable quanta sources coefficients ranges t values left m) where
+    pub movable-lowest : Movable quanta sources coefficients ranges t values (lowestOf 32 left) m
     movable-lowest = all (lowestOf 32 left) (has-lowest 32 left some wide)
 
-    pub movable-rest : AllMovable t ranges sources coefficients quanta values (restOf left) (move (lowestOf 32 left) m)
+    pub movable-rest : AllMovable quanta sources coefficients ranges t values (restOf left) (move (lowestOf 32 left) m)
     unfolding placeOf
     movable-rest i h =
         let j = lowestOf 32 left in
