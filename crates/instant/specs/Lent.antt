@@ -17,33 +17,42 @@ use Rattle.machine.specs.declared.Clocks.{Clocks}
 use Rattle.machine.specs.declared.Running.{Running}
 use Rattle.machine.specs.declared.Engine.{Engine}
 use Rattle.machine.specs.declared.Engine.the-variants.{Lazy, Eager}
-use Rattle.values.specs.Sources.{valuesOf}
+use Rattle.values.specs.Sources.{valuesOf, outputsIn, inputsIn}
 use Rattle.rates.specs.Links.{rangesOf}
 use Rattle.reach.specs.Table.{reachTable}
 use Rattle.steps.specs.Events.{putAt}
 
-abbrev pub planOf : ℕ → Counts → List ℤ → List ℤ → List ℤ → List ℕ → List ℕ → List ℕ → List ℤ → List ℤ → List ℕ → List ℕ → List ℤ → List ℕ
-    → List ℕ → List ℤ → Plan
-planOf horizon counts starts quanta firsts kinds a b lows highs targets sources coefficients ticks numbers values =
+-- what an instant does not read of a plan; of the links' targets it has the tables
+pub record Unread : Type 0 where
+  pub horizon : ℕ
+  pub starts : List ℤ
+  pub firsts : List ℤ
+  pub targets : List ℕ
+
+-- the plan of the lent columns and of what is not read; `settings` are the values that the commands set
+abbrev pub planOf : (counts : Counts) (quanta : List ℤ) (kinds a b : List ℕ) (lows highs : List ℤ) (sources : List ℕ) (coefficients : List ℤ)
+    (ticks inputs : List ℕ) (settings : List ℤ) (unread : Unread) → Plan
+planOf counts quanta kinds a b lows highs sources coefficients ticks inputs settings unread =
     record {
-      horizon = horizon;
+      horizon = unread .horizon;
       counts = counts;
-      integrators = record { starts = starts; quanta = quanta };
-      inputs = record { firsts = firsts };
+      integrators = record { starts = unread .starts; quanta = quanta };
+      inputs = record { firsts = unread .firsts };
       nodes = record { kinds = kinds; a = a; b = b; lows = lows; highs = highs };
-      links = record { targets = targets; sources = sources; coefficients = coefficients };
-      commands = record { ticks = ticks; inputs = numbers; values = values };
+      links = record { targets = unread .targets; sources = sources; coefficients = coefficients };
+      commands = record { ticks = ticks; inputs = inputs; values = settings };
     }
 
-abbrev pub runningOf : List ℤ → List ℤ → List ℤ → List ℕ → List ℕ → List ℤ → Clocks → Running
-runningOf x q s l d inputs clocks =
+-- the running figures whose outputs and input values stand in the values of sources
+abbrev pub runningOf : (counts : Counts) (x s : List ℤ) (l d : List ℕ) (values : List ℤ) (clocks : Clocks) → Running
+runningOf counts x s l d values clocks =
     record {
       x = x;
-      q = q;
+      q = outputsIn (counts .n) values;
       s = s;
       l = l;
       d = d;
-      inputs = inputs;
+      inputs = inputsIn (counts .n) (counts .m) values;
       clocks = clocks;
     }
 
@@ -53,7 +62,7 @@ movedSet Lazy n due reached = union due reached
 movedSet Eager n due reached = allOf n
 
 -- the next instant, at t, of a sound and paused state; the tables and values are those of the plan and the state; the events fit behind byte `at`
-pub record InstantReady (p : Plan) (r : Running) (t due : ℕ) (ranges reach : List ℕ) (values : List ℤ) (at size : ℕ) : Type 0 where
+pub record InstantReady (p : Plan) (ranges reach : List ℕ) (t due : ℕ) (r : Running) (values : List ℤ) (at size : ℕ) : Type 0 where
   pub shaped : RunningShaped r
   pub sound : SoundRunning p r
   pub paused : isPaused p r ≡ true
@@ -66,9 +75,20 @@ pub record InstantReady (p : Plan) (r : Running) (t due : ℕ) (ranges reach : L
 
 -- what it leaves: the machine's figures after the instant, the values of all sources by these, the events from byte `at` on and nothing else changed in the buffer, and
 -- the place behind the events
-pub record InstantTaken (p : Plan) (engine : Engine) (r : Running) (at : ℕ) (buffer : List ℕ) (r' : Running) (values' : List ℤ) (buffer' : List ℕ) (end : ℕ)
+pub record InstantTaken (engine : Engine) (p : Plan) (r : Running) (buffer : List ℕ) (at : ℕ) (r' : Running) (values' : List ℤ) (buffer' : List ℕ) (end : ℕ)
     : Type 0 where
   pub figures : r' ≡ instant p engine r
   pub sources : values' ≡ valuesOf p (r' .q) (r' .inputs)
   pub bytes : buffer' ≡ putAt buffer at (eventsOf p r)
   pub place : end ≡ at + length (eventsOf p r)
+
+-- Of the plan just the columns that are read are lent, and `plan` makes it whole with what is not read. Asked is that the instant is ready with some plan
+-- that has these columns; what it leaves holds with every one with which it is ready.
+pub record SomePlanReady (plan : Unread → Plan) (ranges reach : List ℕ) (t due : ℕ) (r : Running) (values : List ℤ) (at size : ℕ) : Type 0 where
+  pub unread : Unread
+  pub ready : InstantReady (plan unread) ranges reach t due r values at size
+
+pub record EveryPlanTaken (engine : Engine) (plan : Unread → Plan) (ranges reach : List ℕ) (t due : ℕ) (r : Running) (values : List ℤ) (buffer : List ℕ) (at : ℕ)
+    (r' : Running) (values' : List ℤ) (buffer' : List ℕ) (end : ℕ) : Type 0 where
+  pub taken : (unread : Unread) → InstantReady (plan unread) ranges reach t due r values at (length buffer)
+      → InstantTaken engine (plan unread) r buffer at r' values' buffer' end

@@ -1,11 +1,11 @@
 -- Laws: one instant as the code takes it, step by step, is the machine's. Assumes nothing.
-use mathlib.Core.Path.{_≡_, refl, sym, ap, _∙_}
+use mathlib.Core.Path.{_≡_, refl, sym, ap, ap₂, _∙_}
 use mathlib.Core.Bool.{Bool, true, false}
 use mathlib.Core.List.{List}
 use Prim.Native.Nat.{ℕ, zero, _+_, _-_, _*_, _/_, _%_, _^_, _≤_, _<_}
 use native.Mathlib.Nat.{mul-le-mul-right}
 use native.Mathlib.Omega.{arith}
-use lib.IntN.{ℤ}
+use lib.IntN.{ℤ, pos}
 use lib.Dec.{ltb}
 use lib.ListN.{length}
 use borrow.Author.Tests.{ltb-true, ltb-false}
@@ -21,6 +21,7 @@ use Rattle.plan.specs.Lists.{intAt}
 use Rattle.plan.specs.Rules.{PlanRules}
 use Rattle.plan.specs.Laws.Counts.{Counts, counts-of}
 use Rattle.plan.specs.Laws.Means.{within-size}
+use Rattle.plan.specs.Laws.Rows.{length-row, row-unused}
 use Rattle.plan.specs.declared.Plan.{Plan}
 use Rattle.machine.specs.Values.{valueWith, valueOf}
 use Rattle.machine.specs.Next.{nextCommand}
@@ -36,20 +37,21 @@ use Rattle.machine.specs.Laws.Soundness.{Takes, takes-next, output-size, input-
 use Rattle.machine.specs.declared.Running.{Running}
 use Rattle.machine.specs.declared.Engine.{Engine}
 use Rattle.machine.specs.declared.Engine.the-variants.{Lazy, Eager}
-use Rattle.values.specs.Sources.{valuesOf, nodeStep, NodesReady}
+use Rattle.values.specs.Sources.{valuesOf, outputsIn, inputsIn, nodeStep, NodesReady}
 use Rattle.values.specs.Laws.SourceValues.{nodes-ready, values-length, values-at, values-sized}
+use Rattle.values.specs.Laws.ReadOut.{outputs-read, inputs-read}
 use Rattle.values.specs.Laws.Touched as touched
 use Rattle.timing.specs.Status.{DuePositionsReady}
 use Rattle.timing.specs.Laws.Statuses.{due-ready}
 use Rattle.reach.specs.Table.{entriesOf}
 use Rattle.reach.specs.Laws.Reached as reaching
-use Rattle.steps.specs.Commands.{obeying, obeyFrom, CommandsReady}
-use Rattle.steps.specs.Outputs.{outputting, outputOne}
+use Rattle.steps.specs.Commands.{afterCommands, afterCommandsFrom, CommandsInRange}
+use Rattle.steps.specs.Outputs.{afterOutput}
 use Rattle.steps.specs.Events.{eventsIn, EventsReady}
 use Rattle.moves.specs.Motion.{motion, afterMove, AllMovable}
 use Rattle.instant.specs.Lent.{runningOf, movedSet, InstantReady}
-use Rattle.steps.specs.Laws.Settings.{Obeyed, obeyed, outputs-kept, nodes-kept, commands-ready}
-use Rattle.steps.specs.Laws.Outputs.{outputs-are, values-full, values-kept, values-are}
+use Rattle.steps.specs.Laws.Commands.{Obeyed, obeyed, outputs-kept, nodes-kept, commands-in-range}
+use Rattle.steps.specs.Laws.Outputs.{outputs-are, values-full, values-kept}
 use Rattle.steps.specs.Laws.EventBytes.{events-are, events-ready}
 use Rattle.moves.specs.Laws.Moves.{all-movable, moved-figures}
 
@@ -62,7 +64,7 @@ source-cases n m i P h f g = go (ltb i n) refl
     go false e = let l = ltb-false i n e in let same : n + (i - n) ≡ i = omega arith in rw same at (g (i - n) (omega arith))
 
 module _ (p : Plan) (r : Running) {t due : ℕ} {ranges reach : List ℕ} {values : List ℤ} {at size : ℕ}
-    (ready : InstantReady p r t due ranges reach values at size) where
+    (ready : InstantReady p ranges reach t due r values at size) where
   shaped : RunningShaped r
   shaped = ready .shaped
 
@@ -117,49 +119,41 @@ module _ (p : Plan) (r : Running) {t due : ℕ} {ranges reach : List ℕ} {value
   pub outputs-ready : DuePositionsReady due t (r .x) (r .s) (r .l)
   outputs-ready = due-ready p r (ready .sound) (ready .tick) (ready .due-set)
 
-  pub obeying-ready : CommandsReady (r .clocks .next) (p .counts .commands) (p .counts .n) (p .commands .inputs)
-  obeying-ready = commands-ready p rules (r .clocks .next) (r .clocks .clock) (ready .sound .next)
+  pub commands-ready : CommandsInRange (p .counts .n) (p .counts .commands) (p .commands .inputs) (r .clocks .next)
+  commands-ready = commands-in-range p rules (r .clocks .next) (r .clocks .clock) (ready .sound .next)
 
-  module _ {q1 v1 : List ℤ} (output : outputting q1 v1 ≡ each (outputOne t (r .x) (r .s) (r .l)) (has due) 32 (outputting (r .q) values))
-      {u1 v2 : List ℤ} {commanded next : ℕ}
-      (command : obeying u1 v2 commanded next
-      ≡ obeyFrom t (p .counts .n) (p .commands .ticks) (p .commands .inputs) (p .commands .values) (r .clocks .next) (p .counts .commands - r .clocks .next) (obeying (r .inputs) v1 0 (r .clocks .next))) where
-    pub outputs-then : q1 ≡ q
-    outputs-then = outputs-are p r (ready .sound) shaped t due (ready .due-set) values full (outputting q1 v1) output
-
+  module _ {v1 : List ℤ} (output : v1 ≡ each (afterOutput t (r .x) (r .s) (r .l)) (has due) 32 values) {v2 : List ℤ} {commanded next : ℕ}
+      (command : afterCommands v2 commanded next
+      ≡ afterCommandsFrom (p .counts .n) (p .commands .ticks) (p .commands .inputs) (p .commands .values) t (r .clocks .next)
+      (p .counts .commands - r .clocks .next) (afterCommands v1 0 (r .clocks .next))) where
     full-then : length v1 ≡ 64
-    full-then = values-full p r (ready .sound) shaped t due (ready .due-set) values full (outputting q1 v1) output
+    full-then = values-full p limits r t due (ready .due-set) values full v1 output
 
-    done : Obeyed p (r .inputs) v1 t (obeying u1 v2 commanded next)
+    kept-at : (i : ℕ) → p .counts .n ≤ i → intAt v1 i ≡ intAt values i
+    kept-at = values-kept p limits r t due (ready .due-set) values full v1 output
+
+    done : Obeyed p (r .inputs) v1 t (afterCommands v2 commanded next)
     done =
         obeyed p rules (r .inputs) v1 (r .clocks .clock) t (r .clocks .next)
         (record {
-          inputs-width = shaped .inputs;
-          inputs-unused = ready .sound .running-unused .inputs;
-          values-width = full-then;
+          width = full-then;
+          inputs = λ j h. kept-at (p .counts .n + j) (omega arith) ∙ old-input j h;
           next-is = ready .sound .next;
           later = takes .after;
           ahead = λ h. rw (ready .tick) (tick-command p r h);
         })
         command
 
-    pub inputs-then : u1 ≡ u
-    inputs-then = done .inputs-are
-
-    pub next-then : next ≡ nextCommand p t
+    next-then : next ≡ nextCommand p t
     next-then = done .next-is
 
     -- what `values` holds now
     output-at : (i : ℕ) → i < p .counts .n → intAt v2 i ≡ intAt q i
     output-at i h =
-        outputs-kept done i h
-        ∙ values-are p r (ready .sound) shaped t due (ready .due-set) values full (outputting q1 v1) output old-output i h
-
-    kept-at : (i : ℕ) → p .counts .n ≤ i → intAt v1 i ≡ intAt values i
-    kept-at = values-kept p r (ready .sound) shaped t due (ready .due-set) values full (outputting q1 v1) output
+        outputs-kept done i h ∙ outputs-are p limits r t due (ready .due-set) values full v1 output old-output i h
 
     input-at : (j : ℕ) → j < p .counts .m → intAt v2 (p .counts .n + j) ≡ intAt u j
-    input-at = done .sources (λ j h. kept-at (p .counts .n + j) (omega arith) ∙ old-input j h)
+    input-at = done .inputs-are
 
     node-at : (i : ℕ) → p .counts .n + p .counts .m ≤ i → intAt v2 i ≡ intAt values i
     node-at i h = nodes-kept done i h ∙ kept-at i (omega arith)
@@ -198,12 +192,27 @@ module _ (p : Plan) (r : Running) {t due : ℕ} {ranges reach : List ℕ} {value
       nodes-below = rw nodes-then (maskOf-lt _ (p .counts .k))
 
       module _ {v3 : List ℤ} (worked : v3 ≡ each (nodeStep (p .nodes .kinds) (p .nodes .a) (p .nodes .b) (p .nodes .lows) (p .nodes .highs) (p .counts .n + p .counts .m)) (has nodes) 32 v2) where
-        pub values-then : v3 ≡ valuesOf p q u
+        values-then : v3 ≡ valuesOf p q u
         values-then =
             worked
             ∙ touched.touched-mask p rules (r .d) t q u (r .q) (r .inputs) (output-kept p limits r t)
             (λ j h e. input-kept p (r .inputs) t j (limits .m) h e) v2 (done .same-length ∙ full-then) source-at
             (λ i h. node-at i h ∙ ap (λ vs. intAt vs i) (ready .values-are)) nodes nodes-then
+
+        outputs-then : outputsIn (p .counts .n) v3 ≡ q
+        unfolding outputs
+        outputs-then =
+            rw values-then
+            (outputs-read p rules q u (length-row (pos 0) 32 (p .counts .n) _) (λ i h. row-unused (pos 0) 32 (p .counts .n) _ i h))
+
+        inputs-then : inputsIn (p .counts .n) (p .counts .m) v3 ≡ u
+        unfolding inputsThen
+        inputs-then =
+            rw values-then
+            (inputs-read p rules q u (length-row (pos 0) 8 (p .counts .m) _) (λ j h. row-unused (pos 0) 8 (p .counts .m) _ j h))
+
+        pub values-by-figures : v3 ≡ valuesOf p (outputsIn (p .counts .n) v3) (inputsIn (p .counts .n) (p .counts .m) v3)
+        values-by-figures = values-then ∙ ap₂ (valuesOf p) (sym outputs-then) (sym inputs-then)
 
         value-then : (i : ℕ) → i < p .counts .n + p .counts .m + p .counts .k → intAt v3 i ≡ valueOf p q u i
         value-then i h = rw values-then (values-at p q u rules i h)
@@ -255,7 +264,7 @@ module _ (p : Plan) (r : Running) {t due : ℕ} {ranges reach : List ℕ} {value
                 move ∙ rw (ready .ranges-are, moved-then) (moved-figures p r (ready .sound) t takes v3 value-then (moves p engine (r .d) t) shaped)
 
             pub running-then : _≡_ {A = Running}
-                (runningOf x q1 s l d u1 (record { clock = t; next = next; instants = r .clocks .instants + 1; updates = r .clocks .updates + grown }))
+                (runningOf (p .counts) x s l d v3 (record { clock = t; next = next; instants = r .clocks .instants + 1; updates = r .clocks .updates + grown }))
                 (instant p engine r)
             unfolding instant takenAt
             running-then =

@@ -4,27 +4,31 @@ use native.Mathlib.Omega.{arith}
 use borrow.Author.Needs.{needs}
 use Rattle.plan.specs.declared.Plan.{Plan}
 use Rattle.machine.specs.declared.Running.{Running}
-use Rattle.instant.specs.Lent.{planOf, runningOf}
+use Rattle.instant.specs.Lent.{Unread, planOf, runningOf}
 use Rattle.instant.specs.Laws.Instants as law
 use Rattle.instant.proofs.instants.take_instant.Statement.{statement}
 use Rattle.instant.proofs.instants.take_instant.Tie as tie
 
 module _ (s : tie.Start) where
-  abbrev p : Plan
-  p =
+  -- the plan, by what is not read of it
+  abbrev plan : Unread → Plan
+  plan unread =
       let a = s .args in
-      planOf (a .horizon) (a .counts) (a .starts .now) (a .quanta .now) (a .firsts .now) (a .kinds .now) (a .a .now) (a .b .now) (a .lows .now)
-      (a .highs .now) (a .targets .now) (a .sources .now) (a .coefficients .now) (a .ticks .now) (a .numbers .now) (a .settings .now)
+      planOf (a .counts) (a .quanta .now) (a .kinds .now) (a .a .now) (a .b .now) (a .lows .now) (a .highs .now) (a .sources .now) (a .coefficients .now)
+      (a .ticks .now) (a .inputs .now) (a .settings .now) unread
+
+  abbrev p : Plan
+  p = plan (s .pre .unread)
 
   abbrev r : Running
-  r = let a = s .args in runningOf (a .x .now) (a .q .now) (a .s .now) (a .l .now) (a .d .now) (a .inputs .now) (a .clocks)
+  r = let a = s .args in runningOf (a .counts) (a .x .now) (a .s .now) (a .l .now) (a .d .now) (a .values .now) (a .clocks)
 
 -- ---- from each call to the one before it
 abbrev start : tie.After-set-outputs → tie.Start
-start c = c .before .before .before .before .before .before .before .before
+start c = c .before .before .before .before .before .before .before
 
 abbrev outputs : tie.After-obey-commands → tie.After-set-outputs
-outputs c = c .before .before .before
+outputs c = c .before .before
 
 abbrev commands : tie.After-joined → tie.After-obey-commands
 commands c = c .before
@@ -46,16 +50,16 @@ moves c = c .before .before .before .before .before .before
 
 -- ---- what the calls ask
 add-base : tie.Need-add-base
-add-base c = let s = c .before .before in let limits = law.limits (p s) (r s) (s .pre) in omega (arith, limits .n, limits .m)
+add-base c = let s = c .before .before in let limits = law.limits (p s) (r s) (s .pre .ready) in omega (arith, limits .n, limits .m)
 
 set-outputs-requires : tie.Need-set-outputs-requires
-set-outputs-requires c κs = let s = c .before .before .before .before .before .before .before in law.outputs-ready (p s) (r s) (s .pre)
+set-outputs-requires c κs = let s = c .before .before .before .before .before .before in law.outputs-ready (p s) (r s) (s .pre .ready)
 
 obey-commands-requires : tie.Need-obey-commands-requires
-obey-commands-requires c κs = let s = start (c .before .before) in law.obeying-ready (p s) (r s) (s .pre)
+obey-commands-requires c κs = let s = start (c .before) in law.commands-ready (p s) (r s) (s .pre .ready)
 
 joined-requires : tie.Need-joined-requires
-joined-requires c κs = let s = start (outputs c) in (law.limits (p s) (r s) (s .pre) .n, law.due-below (p s) (r s) (s .pre))
+joined-requires c κs = let s = start (outputs c) in (law.limits (p s) (r s) (s .pre .ready) .n, law.due-below (p s) (r s) (s .pre .ready))
 
 reached-by-requires : tie.Need-reached-by-requires
 reached-by-requires c κs = search needs
@@ -70,8 +74,8 @@ work-nodes-requires c κs =
     let output = set .set-outputs .ensures in
     let command = obeyed .obey-commands .ensures in
     let told = reached .reached-by .ensures in (
-      law.nodes-below (p s) (r s) (s .pre) output command (joined .joined .ensures) (told .0) (told .1),
-      law.nodes-ready-then (p s) (r s) (s .pre) output command,
+      law.nodes-below (p s) (r s) (s .pre .ready) output command (joined .joined .ensures) (told .0) (told .1),
+      law.nodes-ready-then (p s) (r s) (s .pre .ready) output command,
     )
 
 write-events-requires : tie.Need-write-events-requires
@@ -83,12 +87,12 @@ write-events-requires c κs =
     let set = outputs obeyed in
     let s = start set in
     let told = reached .reached-by .ensures in
-    law.events-ready-then (p s) (r s) (s .pre) (set .set-outputs .ensures) (obeyed .obey-commands .ensures) (joined .joined .ensures)
+    law.events-ready-then (p s) (r s) (s .pre .ready) (set .set-outputs .ensures) (obeyed .obey-commands .ensures) (joined .joined .ensures)
     (told .0) (told .1) (worked .work-nodes .ensures)
 
 moved-set-requires : tie.Need-moved-set-requires
 moved-set-requires c κs =
-    let s = start (outputs (commands (changes (reach (nodes (c .before .before)))))) in law.limits (p s) (r s) (s .pre) .n
+    let s = start (outputs (commands (changes (reach (nodes (c .before .before)))))) in law.limits (p s) (r s) (s .pre .ready) .n
 
 move-all-requires : tie.Need-move-all-requires
 move-all-requires c κs =
@@ -100,13 +104,13 @@ move-all-requires c κs =
     let set = outputs obeyed in
     let s = start set in
     let told = reached .reached-by .ensures in
-    law.moves-ready (p s) (r s) (s .pre) (set .set-outputs .ensures) (obeyed .obey-commands .ensures) (joined .joined .ensures)
+    law.moves-ready (p s) (r s) (s .pre .ready) (set .set-outputs .ensures) (obeyed .obey-commands .ensures) (joined .joined .ensures)
     (told .0) (told .1) (worked .work-nodes .ensures) (s .args .engine) (moved .moved-set .ensures)
 
 add-instants : tie.Need-add-instants
 add-instants c =
     let s = start (outputs (commands (changes (reach (nodes (events (moves (c .before)))))))) in
-    law.instants-fit (p s) (r s) (s .pre)
+    law.instants-fit (p s) (r s) (s .pre .ready)
 
 count-requires : tie.Need-count-requires
 count-requires c κs = search needs
@@ -114,7 +118,7 @@ count-requires c κs = search needs
 add-updates : tie.Need-add-updates
 add-updates c =
     let s = start (outputs (commands (changes (reach (nodes (events (moves (c .before .before .before)))))))) in
-    law.updates-fit (p s) (r s) (s .pre) _ (c .before .count .ensures)
+    law.updates-fit (p s) (r s) (s .pre .ready) _ (c .before .count .ensures)
 
 same-length : tie.Need-same-length
 same-length c = search needs
@@ -136,18 +140,18 @@ returns c =
     let changed = joined .joined .ensures in
     let told = reached .reached-by .ensures in
     let work = worked .work-nodes .ensures in
-    let running =
-    law.running-then (p s) (r s) (s .pre) output command changed (told .0) (told .1) work (s .args .engine) (moved .moved-set .ensures)
-    (move .move-all .ensures) (counted .count .ensures) in
-    let values = law.values-then (p s) (r s) (s .pre) output command changed (told .0) (told .1) work in
-    let q = law.outputs-then (p s) (r s) (s .pre) output command in
-    let inputs = law.inputs-then (p s) (r s) (s .pre) output command in
-    let bytes = law.events-then (p s) (r s) (s .pre) output command changed (told .0) (told .1) work in
     record {
-      figures = running;
-      sources = values ∙ rw (← q, ← inputs);
-      bytes = wrote .write-events .ensures .1 ∙ rw bytes;
-      place = wrote .write-events .ensures .0 ∙ rw bytes;
+      taken = λ unread ready.
+          let p = plan s unread in
+          let bytes = law.events-then p (r s) ready output command changed (told .0) (told .1) work in
+          record {
+            figures =
+                law.running-then p (r s) ready output command changed (told .0) (told .1) work (s .args .engine) (moved .moved-set .ensures)
+                (move .move-all .ensures) (counted .count .ensures);
+            sources = law.values-by-figures p (r s) ready output command changed (told .0) (told .1) work;
+            bytes = wrote .write-events .ensures .1 ∙ rw bytes;
+            place = wrote .write-events .ensures .0 ∙ rw bytes;
+          };
     }
 
 pub take-instant-spec : {M : Type 1} → statement M
