@@ -13,7 +13,7 @@ use Rattle.machine.specs.Status.{statusBy}
 use Rattle.timing.specs.Status.{barsIn, DuePositionsReady}
 use Rattle.engine.specs.declared.ahead.Ahead.{Ahead}
 
-module _ (n commands next : ℕ) (ticks : List ℕ) (x s : List ℤ) (l d : List ℕ) where
+module _ (n commands : ℕ) (ticks : List ℕ) (x s : List ℤ) (l d : List ℕ) (next : ℕ) where
   unfoldable pub tickAhead : ℕ
   tickAhead = min (leastDue d n) (cond (ltb next commands) (natAt ticks next) never)
 
@@ -26,7 +26,7 @@ module _ (n commands next : ℕ) (ticks : List ℕ) (x s : List ℤ) (l d : List
     pub listed : commands ≤ 64
     pub positions : DuePositionsReady dueAhead tickAhead x s l
 
-unfoldable pub aheadOf : ℕ → ℕ → ℕ → ℕ → List ℕ → List ℤ → List ℤ → List ℕ → List ℕ → Ahead
-aheadOf horizon n commands next ticks x s l d =
-    let t = tickAhead n commands next ticks x s l d in let due = dueAhead n commands next ticks x s l d in
+unfoldable pub aheadOf : (horizon n commands : ℕ) (ticks : List ℕ) (x s : List ℤ) (l d : List ℕ) (next : ℕ) → Ahead
+aheadOf horizon n commands ticks x s l d next =
+    let t = tickAhead n commands ticks x s l d next in let due = dueAhead n commands ticks x s l d next in
     record { tick = t; due = due; status = statusBy horizon n t (firstFrom (barsIn due t x s l) 0 n) }

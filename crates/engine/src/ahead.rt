@@ -18,15 +18,15 @@ pub fn look_ahead<'a>(
     horizon: u32,
     n: usize,
     commands: usize,
-    next: usize,
     ticks: &'a [u32; COMMANDS],
     x: &'a [i64; INTEGRATORS],
     s: &'a [i64; INTEGRATORS],
     l: &'a [u32; INTEGRATORS],
     d: &'a [u32; INTEGRATORS],
+    next: usize,
 ) -> Ahead
-    requires { ⌜ AheadReady n commands next (now ticks) (now x) (now s) (now l) (now d) ⌝ }
-    ensures { λ r. ⌜ r ≡ aheadOf horizon n commands next (now (ticks .entry)) (now (x .entry)) (now (s .entry)) (now (l .entry)) (now (d .entry)) ⌝ }
+    requires { ⌜ AheadReady n commands (now ticks) (now x) (now s) (now l) (now d) next ⌝ }
+    ensures { λ r. ⌜ r ≡ aheadOf horizon n commands (now (ticks .entry)) (now (x .entry)) (now (s .entry)) (now (l .entry)) (now (d .entry)) next ⌝ }
 {
     let tick = next_tick(n, d, commands, ticks, next);
     let due = equal_to(n, d, tick);

@@ -12,6 +12,8 @@ use machine::State;
 use machine::Status;
 use rates::link_ranges;
 use reach::reach_table;
+use values::inputs_in;
+use values::outputs_in;
 use values::source_values;
 
 // The status of the state after a run, the bytes written from the buffer's start, and the running figures.
@@ -21,11 +23,12 @@ pub struct Ended {
     pub run: Running,
 }
 
-// The tables are worked out once; in the loop the plan's arrays are lent where they lie, and those of the running figures as local copies.
+// The tables are worked out once; in the loop the plan's arrays are lent where they lie, and those of the running figures as local copies. Outputs and input
+// values stand in the values of sources alone, and are read out of them at the end.
 pub fn run(st: State, engine: Engine, budget: u64, buf: &mut [u8]) -> Ended
     requires { ⌜ RunReady st budget (length (now buf)) ⌝ }
-    ensures { λ w. ⌜ w ≡ endedOf (st .plan) engine budget (st .run) ⌝ }
-    ensures { λ _. ⌜ now (buf .exit) ≡ putAt (now (buf .entry)) 0 (events (st .plan) engine budget (st .run)) ⌝ }
+    ensures answer { λ w. ⌜ w ≡ endedOf (st .plan) engine budget (st .run) ⌝ }
+    ensures buffer { λ _. ⌜ now (buf .exit) ≡ putAt (now (buf .entry)) 0 (events (st .plan) engine budget (st .run)) ⌝ }
 {
     let counts = st.plan.counts;
     let r = st.run;
@@ -53,11 +56,9 @@ pub fn run(st: State, engine: Engine, budget: u64, buf: &mut [u8]) -> Ended
         &st.plan.nodes.highs,
     );
     let mut x = r.x;
-    let mut q = r.q;
     let mut s = r.s;
     let mut l = r.l;
     let mut d = r.d;
-    let mut inputs = r.inputs;
     let mut clocks = r.clocks;
     let mut end: usize = 0;
     let mut taken: u64 = 0;
@@ -66,15 +67,17 @@ pub fn run(st: State, engine: Engine, budget: u64, buf: &mut [u8]) -> Ended
             st.plan.horizon,
             counts.n,
             counts.commands,
-            clocks.next,
             &st.plan.commands.ticks,
             &x,
             &s,
             &l,
             &d,
+            clocks.next,
         );
         let status = ahead.status;
         if budget <= taken || !status.is_paused() {
+            let q = outputs_in(counts.n, &values);
+            let inputs = inputs_in(counts.n, counts.m, &values);
             let after = Running {
                 x,
                 q,
@@ -92,19 +95,13 @@ pub fn run(st: State, engine: Engine, budget: u64, buf: &mut [u8]) -> Ended
         }
         let step = take_instant(
             engine,
-            st.plan.horizon,
             counts,
-            ahead.tick,
-            ahead.due,
-            &st.plan.integrators.starts,
             &st.plan.integrators.quanta,
-            &st.plan.inputs.firsts,
             &st.plan.nodes.kinds,
             &st.plan.nodes.a,
             &st.plan.nodes.b,
             &st.plan.nodes.lows,
             &st.plan.nodes.highs,
-            &st.plan.links.targets,
             &st.plan.links.sources,
             &st.plan.links.coefficients,
             &st.plan.commands.ticks,
@@ -112,12 +109,12 @@ pub fn run(st: State, engine: Engine, budget: u64, buf: &mut [u8]) -> Ended
             &st.plan.commands.values,
             &ranges,
             &reach,
+            ahead.tick,
+            ahead.due,
             &mut x,
-            &mut q,
             &mut s,
             &mut l,
             &mut d,
-            &mut inputs,
             &mut values,
             clocks,
             buf,

@@ -13,20 +13,20 @@ use Rattle.timing.specs.Laws.Statuses.{due-ready, status-by-mask}
 use Rattle.engine.specs.Ahead.{tickAhead, dueAhead, aheadOf, AheadReady}
 
 module _ (p : Plan) (r : Running) where
-  tick-ahead : tickAhead (p .counts .n) (p .counts .commands) (r .clocks .next) (p .commands .ticks) (r .x) (r .s) (r .l) (r .d) ≡ tickOf p r
+  tick-ahead : tickAhead (p .counts .n) (p .counts .commands) (p .commands .ticks) (r .x) (r .s) (r .l) (r .d) (r .clocks .next) ≡ tickOf p r
   unfolding tickAhead tickOf nextTick commandTick
   tick-ahead = refl
 
-  due-ahead : dueAhead (p .counts .n) (p .counts .commands) (r .clocks .next) (p .commands .ticks) (r .x) (r .s) (r .l) (r .d) ≡ maskOf (isDue (r .d) (tickOf p r)) (p .counts .n)
+  due-ahead : dueAhead (p .counts .n) (p .counts .commands) (p .commands .ticks) (r .x) (r .s) (r .l) (r .d) (r .clocks .next) ≡ maskOf (isDue (r .d) (tickOf p r)) (p .counts .n)
   unfolding dueAhead
   due-ahead = rw tick-ahead
 
-  pub ahead-ready : SoundRunning p r → AheadReady (p .counts .n) (p .counts .commands) (r .clocks .next) (p .commands .ticks) (r .x) (r .s) (r .l) (r .d)
+  pub ahead-ready : SoundRunning p r → AheadReady (p .counts .n) (p .counts .commands) (p .commands .ticks) (r .x) (r .s) (r .l) (r .d) (r .clocks .next)
   ahead-ready ok =
       let counts = counts-of p (ok .plan .counts) in
       record { few = counts .n; listed = counts .commands; positions = rw (tick-ahead, due-ahead) (due-ready p r ok refl refl) }
 
-  pub ahead-is : aheadOf (p .horizon) (p .counts .n) (p .counts .commands) (r .clocks .next) (p .commands .ticks) (r .x) (r .s) (r .l) (r .d)
+  pub ahead-is : aheadOf (p .horizon) (p .counts .n) (p .counts .commands) (p .commands .ticks) (r .x) (r .s) (r .l) (r .d) (r .clocks .next)
       ≡ record {
         tick = tickOf p r;
         due = maskOf (isDue (r .d) (tickOf p r)) (p .counts .n);

@@ -4,6 +4,7 @@ use mathlib.Core.Bool.{true}
 use mathlib.Core.Logic.{⊎-elim}
 use Prim.Native.Nat.{_-_, _<_}
 use native.Mathlib.Omega.{arith}
+use lib.ListN.{length}
 use borrow.Author.Needs.{needs}
 use borrow.Author.Tests.{not-true, not-false}
 use Rattle.plan.specs.Laws.Counts.{Counts, counts-of}
@@ -14,18 +15,18 @@ use Rattle.machine.specs.declared.Running.{Running}
 use Rattle.rates.specs.Links.{rangesOf}
 use Rattle.reach.specs.Table.{reachTable}
 use Rattle.reach.specs.Laws.Reached.{table-wired, table-linked}
-use Rattle.instant.specs.Lent.{runningOf}
+use Rattle.instant.specs.Lent.{Unread, runningOf, InstantReady}
 use Rattle.engine.specs.Laws.Aheads.{ahead-ready}
 use Rattle.engine.specs.Laws.Running as law
 use Rattle.engine.proofs.runs.run.Statement.{statement}
 use Rattle.engine.proofs.runs.run.Tie as tie
 
 abbrev Inv-loop : tie.InvT-loop
-Inv-loop engine budget buf₀ st _ _ _ _ _ _ _ _ _ _ _ _ _ buf values x q s l d inputs clocks end taken =
-    law.Progress (st .plan) engine budget (st .run) buf₀ (runningOf x q s l d inputs clocks) values end taken buf
+Inv-loop engine budget buf₀ st _ _ _ _ _ _ _ _ _ _ _ buf values x s l d clocks end taken =
+    law.Progress (st .plan) engine budget (st .run) buf₀ (runningOf (st .plan .counts) x s l d values clocks) values end taken buf
 
 abbrev μ-loop : tie.MeasureT-loop
-μ-loop _ budget _ _ _ _ _ _ _ _ _ _ _ _ _ _ _ _ _ _ _ _ _ _ _ _ _ taken = budget - taken
+μ-loop _ budget _ _ _ _ _ _ _ _ _ _ _ _ _ _ _ _ _ _ _ _ _ taken = budget - taken
 
 module _ (c : tie.Start Inv-loop μ-loop) where
   abbrev p : Plan
@@ -65,13 +66,13 @@ module _ (c : tie.After-look-ahead Inv-loop μ-loop) where
   loop = c .before .before .before .before .before .before .before
 
   abbrev values : tie.After-source-values Inv-loop μ-loop
-  values = loop .before .before .before .before .before .before .before .before
+  values = loop .before .before .before .before .before .before
 
 -- a turn of the loop, from the call of `take_instant` in it
-abbrev turn : tie.After-take-instant-arg15 Inv-loop μ-loop → tie.Else2 Inv-loop μ-loop
+abbrev turn : tie.After-take-instant-arg12 Inv-loop μ-loop → tie.Else2 Inv-loop μ-loop
 turn c =
-    c .before .before .before .before .before .before .before .before .before .before .before .before
-    .before .before .before .before .before .before .before .before .before .before .before .before .before
+    c .before .before .before .before .before .before .before .before .before .before
+    .before .before .before .before .before .before .before .before .before .before
 
 module _ (c : tie.Else2 Inv-loop μ-loop) where
   abbrev ahead : tie.After-look-ahead Inv-loop μ-loop
@@ -102,7 +103,7 @@ source-values-requires c κs =
 
 loop-holds : tie.Need-loop-holds Inv-loop μ-loop
 loop-holds c =
-    let values = c .before .before .before .before .before .before .before in
+    let values = c .before .before .before .before .before in
     let s = before-values values in
     law.begun (p s) (s .args .engine) (s .args .budget) (r s) (s .args .buf .now) (shaped s) (sound s) (s .pre .room)
     (values .source-values .ensures)
@@ -115,24 +116,51 @@ is-paused-requires : tie.Need-is-paused-requires Inv-loop μ-loop
 is-paused-requires c κs = search needs
 
 -- ---- the end, by the budget or by the status
+abbrev ended : tie.After-inputs-in Inv-loop μ-loop → tie.After-outputs-in Inv-loop μ-loop
+ended c = c .before .before
+
+outputs-in-requires : tie.Need-outputs-in-requires Inv-loop μ-loop
+outputs-in-requires c κs = limits (before-values (values (c .before .before))) .n
+
+inputs-in-requires : tie.Need-inputs-in-requires Inv-loop μ-loop
+inputs-in-requires c κs = let s = before-values (values (c .before .before .before .before)) in (limits s .n, limits s .m)
+
 same-length : tie.Need-same-length Inv-loop μ-loop
-same-length c = loop (c .before) .loop .inv .same-size
+same-length c = loop (ended c .before .before .before) .loop .inv .same-size
 
 returns : tie.Need-returns Inv-loop μ-loop
 returns c =
-    let now = loop (c .before) .loop .inv in let ahead = c .before .look-ahead .ensures in
-    ⊎-elim (λ w. law.spent now ahead (w .taken))
-    (λ w. law.stopped now ahead (sym (w .1 .ensures) ∙ not-true (w .1 .result) (w .2 .taken))) (c .if1 .came)
+    let by = ended c .before .before in
+    let l = loop (by .before) .loop in
+    let ahead = by .before .look-ahead .ensures in
+    let counts = p (before-values (values (by .before))) .counts in
+    let told = law.figures-read counts (l .x) (l .s) (l .l) (l .d) (l .values) (l .clocks) (ended c .outputs-in .ensures) (c .inputs-in .ensures) in
+    ⊎-elim (λ w. law.spent (l .inv) ahead told (w .taken))
+    (λ w. law.stopped (l .inv) ahead told (sym (w .1 .ensures) ∙ not-true (w .1 .result) (w .2 .taken))) (by .if1 .came)
 
 -- ---- a turn
+-- what an instant does not read of the plan
+abbrev unread : Plan → Unread
+unread p = record { horizon = p .horizon; starts = p .integrators .starts; firsts = p .inputs .firsts; targets = p .links .targets }
+
+module _ (c : tie.After-take-instant-arg12 Inv-loop μ-loop) where
+  abbrev reach : tie.After-reach-table Inv-loop μ-loop
+  reach = values (ahead (turn c)) .before .before .before .before .before .before .before .before .before
+
+  abbrev ranges : tie.After-link-ranges Inv-loop μ-loop
+  ranges = reach .before .before .before .before .before .before .before .before
+
+  ready : let a = ahead (turn c) in let l = loop a .loop in let b = before-values (values a) in
+      InstantReady (p b) (ranges .link-ranges .result) (reach .reach-table .result) (a .look-ahead .result .tick) (a .look-ahead .result .due)
+      (runningOf (p b .counts) (l .x) (l .s) (l .l) (l .d) (l .values) (l .clocks)) (l .values) (l .end) (length (l .buf))
+  unfolding rangesOf reachTable
+  ready =
+      let t = turn c in
+      law.instant-ready (loop (ahead t) .loop .inv) (ahead t .look-ahead .ensures) (more t) (paused t)
+      (ranges .link-ranges .ensures) (reach .reach-table .ensures)
+
 take-instant-requires : tie.Need-take-instant-requires Inv-loop μ-loop
-unfolding rangesOf reachTable
-take-instant-requires c κs =
-    let t = turn c in
-    let reach = values (ahead t) .before .before .before .before .before .before .before .before .before in
-    let ranges = reach .before .before .before .before .before .before .before .before in
-    law.instant-ready (loop (ahead t) .loop .inv) (ahead t .look-ahead .ensures) (more t) (paused t)
-    (ranges .link-ranges .ensures) (reach .reach-table .ensures)
+take-instant-requires c κs = record { unread = unread (p (before-values (values (ahead (turn c))))); ready = ready c }
 
 add-taken : tie.Need-add-taken Inv-loop μ-loop
 add-taken c = let t = turn (c .before .before .before .before) in omega (arith, more t, before-values (values (ahead t)) .fits .budget)
@@ -144,7 +172,7 @@ loop-again : tie.Need-loop-again Inv-loop μ-loop
 loop-again c =
     let step = c .before .before .before in
     let t = turn (step .before) in
-    let done = step .take-instant .ensures in
+    let done = step .take-instant .ensures .taken (unread (p (before-values (values (ahead t))))) (ready (step .before)) in
     law.advanced (loop (ahead t) .loop .inv) (ahead t .look-ahead .ensures) (more t) (paused t)
     (done .figures) (done .sources) (done .bytes) (done .place)
 
@@ -161,6 +189,8 @@ run-spec =
     loop-holds
     look-ahead-requires
     is-paused-requires
+    outputs-in-requires
+    inputs-in-requires
     same-length
     returns
     take-instant-requires
