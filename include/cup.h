@@ -65,37 +65,63 @@ extern "C" {
 #define CUP_BUDGET_MAX 1024
 #define CUP_RUN_BYTES(budget) ((budget) * (CUP_INTEGRATORS_MAX + CUP_INPUTS_MAX) * CUP_EVENT_BYTES)
 
-/* A plan: what the plan file says, number for number. Entries from a section's count on are 0. */
+/* How many integrators, inputs, nodes, links and commands a plan has. */
 typedef struct {
-    uint32_t horizon;
-    /* The counts of integrators, inputs, nodes, links and commands. */
     size_t n, m, k, links, commands;
-    /* Integrators. */
+} CupCounts;
+
+/* The sections of a plan, each a column for every word of its entries. Entries from the section's count
+ * on are 0. */
+typedef struct {
     int64_t starts[CUP_INTEGRATORS_MAX], quanta[CUP_INTEGRATORS_MAX];
-    /* Inputs. */
+} CupIntegrators;
+
+typedef struct {
     int64_t firsts[CUP_INPUTS_MAX];
-    /* Nodes: kind, A, B, lo and hi. */
-    size_t kinds[CUP_NODES_MAX], lefts[CUP_NODES_MAX], rights[CUP_NODES_MAX];
+} CupInputs;
+
+/* Kind, A, B, lo and hi; a and b are source numbers. */
+typedef struct {
+    size_t kinds[CUP_NODES_MAX], a[CUP_NODES_MAX], b[CUP_NODES_MAX];
     int64_t lows[CUP_NODES_MAX], highs[CUP_NODES_MAX];
-    /* Links. */
+} CupNodes;
+
+typedef struct {
     size_t targets[CUP_LINKS_MAX], sources[CUP_LINKS_MAX];
     int64_t coefficients[CUP_LINKS_MAX];
-    /* Commands. */
+} CupLinks;
+
+typedef struct {
     uint32_t ticks[CUP_COMMANDS_MAX];
-    size_t numbers[CUP_COMMANDS_MAX];
+    size_t inputs[CUP_COMMANDS_MAX];
     int64_t values[CUP_COMMANDS_MAX];
+} CupCommands;
+
+/* A plan: what the plan file says, number for number. */
+typedef struct {
+    uint32_t horizon;
+    CupCounts counts;
+    CupIntegrators integrators;
+    CupInputs inputs;
+    CupNodes nodes;
+    CupLinks links;
+    CupCommands commands;
 } CupPlan;
 
+/* The clock, the number of the next command, instants and updates. */
+typedef struct {
+    uint32_t clock;
+    size_t next;
+    uint64_t instants, updates;
+} CupClocks;
+
 /* How far a plan has run: for each integrator position, output, slope, last-moved tick and due tick;
- * the values of the inputs; the clock, the number of the next command, instants and updates. Unused
- * entries are 0, unused due ticks too. */
+ * the values of the inputs; the clocks. Unused entries are 0, unused due ticks too. */
 typedef struct {
     int64_t x[CUP_INTEGRATORS_MAX], q[CUP_INTEGRATORS_MAX], s[CUP_INTEGRATORS_MAX];
     uint32_t l[CUP_INTEGRATORS_MAX], d[CUP_INTEGRATORS_MAX];
     int64_t inputs[CUP_INPUTS_MAX];
-    uint32_t clock;
-    size_t next;
-    uint64_t instants, updates;
+    CupClocks clocks;
 } CupRunning;
 
 /* A state. It may be filled by hand: the functions ask nothing of it, whatever its fields hold, and

@@ -30,7 +30,7 @@ pub fn write_listing(input: &[u8], output: &mut impl Write) -> io::Result<()> {
 
 /// Runs lazily "with budget 64 until status 1 or 2".
 fn write_runs(mut state: RawState, output: &mut impl Write) -> io::Result<()> {
-    let events = LISTING_BUDGET as usize * (state.plan.n + state.plan.m);
+    let events = LISTING_BUDGET as usize * state.plan.counts.events_per_instant();
     let mut buffer = vec![0; events * EVENT_BYTES];
     loop {
         let ran = Checker::default().run(Engine::Lazy, &state, LISTING_BUDGET, &mut buffer);
@@ -51,9 +51,9 @@ fn event_line(event: &[u8]) -> String {
 }
 
 fn end_line(ran: &Ran) -> String {
-    let run = &ran.state.run;
+    let clocks = &ran.state.run.clocks;
     format!(
         "end {} {} {} {}\n",
-        ran.status, run.clock, run.instants, run.updates
+        ran.status, clocks.clock, clocks.instants, clocks.updates
     )
 }

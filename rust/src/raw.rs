@@ -1,36 +1,89 @@
-//! The state as a struct of fixed arrays, the shape in which a caller may fill one by hand.
+//! The state as structs of fixed arrays, the shape in which a caller may fill one by hand.
 //!
 //! Nothing here is trusted: counts may be any number and entries may hold any value. Unused
 //! entries are 0, also unused due ticks.
 
 use crate::engine::State;
+use crate::limits::Section;
 use crate::limits::{COMMANDS_MAX, INPUTS_MAX, INTEGRATORS_MAX, LINKS_MAX, NODES_MAX};
 use crate::plan::{Command, Integrator, Link, Node, Plan};
 
-/// A plan as counts and arrays.
-#[derive(Clone, Debug, PartialEq, Eq)]
+/// How many entries each section of a plan has.
+#[derive(Clone, Copy, Debug, PartialEq, Eq)]
 #[allow(missing_docs)] // The fields carry document 01's names.
-pub struct RawPlan {
-    pub horizon: u32,
+pub struct RawCounts {
     pub n: usize,
     pub m: usize,
     pub k: usize,
     pub links: usize,
     pub commands: usize,
+}
+
+/// The cups.
+#[derive(Clone, Debug, PartialEq, Eq)]
+#[allow(missing_docs)]
+pub struct RawIntegrators {
     pub starts: [i64; INTEGRATORS_MAX],
     pub quanta: [i64; INTEGRATORS_MAX],
+}
+
+/// First values.
+#[derive(Clone, Debug, PartialEq, Eq)]
+#[allow(missing_docs)]
+pub struct RawInputs {
     pub firsts: [i64; INPUTS_MAX],
+}
+
+/// Static functions; `a` and `b` are source numbers.
+#[derive(Clone, Debug, PartialEq, Eq)]
+#[allow(missing_docs)]
+pub struct RawNodes {
     pub kinds: [usize; NODES_MAX],
-    pub lefts: [usize; NODES_MAX],
-    pub rights: [usize; NODES_MAX],
+    pub a: [usize; NODES_MAX],
+    pub b: [usize; NODES_MAX],
     pub lows: [i64; NODES_MAX],
     pub highs: [i64; NODES_MAX],
+}
+
+/// Terms of the rates.
+#[derive(Clone, Debug, PartialEq, Eq)]
+#[allow(missing_docs)]
+pub struct RawLinks {
     pub targets: [usize; LINKS_MAX],
     pub sources: [usize; LINKS_MAX],
     pub coefficients: [i64; LINKS_MAX],
+}
+
+/// Values that inputs take later; `inputs` are input numbers, counted from 0.
+#[derive(Clone, Debug, PartialEq, Eq)]
+#[allow(missing_docs)]
+pub struct RawCommands {
     pub ticks: [u32; COMMANDS_MAX],
-    pub numbers: [usize; COMMANDS_MAX],
+    pub inputs: [usize; COMMANDS_MAX],
     pub values: [i64; COMMANDS_MAX],
+}
+
+/// A plan: its horizon, its counts and a struct of arrays for each section.
+#[derive(Clone, Debug, PartialEq, Eq)]
+#[allow(missing_docs)]
+pub struct RawPlan {
+    pub horizon: u32,
+    pub counts: RawCounts,
+    pub integrators: RawIntegrators,
+    pub inputs: RawInputs,
+    pub nodes: RawNodes,
+    pub links: RawLinks,
+    pub commands: RawCommands,
+}
+
+/// The clock, the next command and the counts of a run.
+#[derive(Clone, Copy, Debug, PartialEq, Eq)]
+#[allow(missing_docs)]
+pub struct RawClocks {
+    pub clock: u32,
+    pub next: usize,
+    pub instants: u64,
+    pub updates: u64,
 }
 
 /// The running part of a state; `d` holds [`crate::limits::NEVER`] for an integrator never due.
@@ -43,10 +96,7 @@ pub struct RawRunning {
     pub l: [u32; INTEGRATORS_MAX],
     pub d: [u32; INTEGRATORS_MAX],
     pub inputs: [i64; INPUTS_MAX],
-    pub clock: u32,
-    pub next: usize,
-    pub instants: u64,
-    pub updates: u64,
+    pub clocks: RawClocks,
 }
 
 /// A plan and how far it has run.
@@ -69,57 +119,92 @@ impl RawState {
     }
 }
 
-impl RawPlan {
-    /// Whether every count is at most its section's limit, so that the arrays hold the entries.
-    pub fn counts_fit(&self) -> bool {
-        self.n <= INTEGRATORS_MAX
-            && self.m <= INPUTS_MAX
-            && self.k <= NODES_MAX
-            && self.links <= LINKS_MAX
-            && self.commands <= COMMANDS_MAX
+impl RawCounts {
+    /// The counts in file order, as [`Section::ALL`] has the sections.
+    pub fn by_section(self) -> [usize; 5] {
+        [self.n, self.m, self.k, self.links, self.commands]
     }
 
+    /// The same from such a list.
+    pub fn of_sections([n, m, k, links, commands]: [usize; 5]) -> RawCounts {
+        RawCounts {
+            n,
+            m,
+            k,
+            links,
+            commands,
+        }
+    }
+
+    /// The most events of one instant, for counts that fit: one for each integrator and each input.
+    pub fn events_per_instant(self) -> usize {
+        self.n + self.m
+    }
+
+    /// Whether every count is at most its section's limit, so that the arrays hold the entries.
+    pub fn fit(self) -> bool {
+        let mut counts = Section::ALL.into_iter().zip(self.by_section());
+        counts.all(|(section, count)| count <= section.most())
+    }
+}
+
+impl RawPlan {
     /// The plan as lists, if the counts fit. It may break any rule of its entries.
     pub fn to_plan(&self) -> Option<Plan> {
-        self.counts_fit().then(|| Plan {
+        let RawCounts {
+            n,
+            m,
+            k,
+            links,
+            commands,
+        } = self.counts;
+        self.counts.fit().then(|| Plan {
             horizon: self.horizon,
-            integrators: (0..self.n).map(|i| self.integrator(i)).collect(),
-            inputs: self.firsts[..self.m].to_vec(),
-            nodes: (0..self.k).map(|j| self.node(j)).collect(),
-            links: (0..self.links).map(|e| self.link(e)).collect(),
-            commands: (0..self.commands).map(|e| self.command(e)).collect(),
+            integrators: (0..n).map(|i| self.integrators.entry(i)).collect(),
+            inputs: self.inputs.firsts[..m].to_vec(),
+            nodes: (0..k).map(|j| self.nodes.entry(j)).collect(),
+            links: (0..links).map(|e| self.links.entry(e)).collect(),
+            commands: (0..commands).map(|e| self.commands.entry(e)).collect(),
         })
     }
+}
 
-    fn integrator(&self, i: usize) -> Integrator {
+impl RawIntegrators {
+    fn entry(&self, i: usize) -> Integrator {
         Integrator {
             start: self.starts[i],
             quantum: self.quanta[i],
         }
     }
+}
 
-    fn node(&self, j: usize) -> Node {
+impl RawNodes {
+    fn entry(&self, j: usize) -> Node {
         Node {
             kind: self.kinds[j],
-            a: self.lefts[j],
-            b: self.rights[j],
+            a: self.a[j],
+            b: self.b[j],
             low: self.lows[j],
             high: self.highs[j],
         }
     }
+}
 
-    fn link(&self, e: usize) -> Link {
+impl RawLinks {
+    fn entry(&self, e: usize) -> Link {
         Link {
             target: self.targets[e],
             source: self.sources[e],
             coefficient: self.coefficients[e],
         }
     }
+}
 
-    fn command(&self, e: usize) -> Command {
+impl RawCommands {
+    fn entry(&self, e: usize) -> Command {
         Command {
             tick: self.ticks[e],
-            input: self.numbers[e],
+            input: self.inputs[e],
             value: self.values[e],
         }
     }
@@ -138,25 +223,37 @@ impl From<&Plan> for RawPlan {
     fn from(plan: &Plan) -> RawPlan {
         RawPlan {
             horizon: plan.horizon,
-            n: plan.integrators.len(),
-            m: plan.inputs.len(),
-            k: plan.nodes.len(),
-            links: plan.links.len(),
-            commands: plan.commands.len(),
-            starts: padded(&plan.integrators, |entry| entry.start),
-            quanta: padded(&plan.integrators, |entry| entry.quantum),
-            firsts: padded(&plan.inputs, |&first| first),
-            kinds: padded(&plan.nodes, |entry| entry.kind),
-            lefts: padded(&plan.nodes, |entry| entry.a),
-            rights: padded(&plan.nodes, |entry| entry.b),
-            lows: padded(&plan.nodes, |entry| entry.low),
-            highs: padded(&plan.nodes, |entry| entry.high),
-            targets: padded(&plan.links, |entry| entry.target),
-            sources: padded(&plan.links, |entry| entry.source),
-            coefficients: padded(&plan.links, |entry| entry.coefficient),
-            ticks: padded(&plan.commands, |entry| entry.tick),
-            numbers: padded(&plan.commands, |entry| entry.input),
-            values: padded(&plan.commands, |entry| entry.value),
+            counts: RawCounts {
+                n: plan.integrators.len(),
+                m: plan.inputs.len(),
+                k: plan.nodes.len(),
+                links: plan.links.len(),
+                commands: plan.commands.len(),
+            },
+            integrators: RawIntegrators {
+                starts: padded(&plan.integrators, |entry| entry.start),
+                quanta: padded(&plan.integrators, |entry| entry.quantum),
+            },
+            inputs: RawInputs {
+                firsts: padded(&plan.inputs, |&first| first),
+            },
+            nodes: RawNodes {
+                kinds: padded(&plan.nodes, |entry| entry.kind),
+                a: padded(&plan.nodes, |entry| entry.a),
+                b: padded(&plan.nodes, |entry| entry.b),
+                lows: padded(&plan.nodes, |entry| entry.low),
+                highs: padded(&plan.nodes, |entry| entry.high),
+            },
+            links: RawLinks {
+                targets: padded(&plan.links, |entry| entry.target),
+                sources: padded(&plan.links, |entry| entry.source),
+                coefficients: padded(&plan.links, |entry| entry.coefficient),
+            },
+            commands: RawCommands {
+                ticks: padded(&plan.commands, |entry| entry.tick),
+                inputs: padded(&plan.commands, |entry| entry.input),
+                values: padded(&plan.commands, |entry| entry.value),
+            },
         }
     }
 }
@@ -172,10 +269,12 @@ impl From<&State> for RawState {
                 l: padded(&state.cells, |cell| cell.l),
                 d: padded(&state.cells, |cell| cell.d),
                 inputs: padded(&state.inputs, |&value| value),
-                clock: state.clock,
-                next: state.next,
-                instants: state.instants,
-                updates: state.updates,
+                clocks: RawClocks {
+                    clock: state.clock,
+                    next: state.next,
+                    instants: state.instants,
+                    updates: state.updates,
+                },
             },
         }
     }

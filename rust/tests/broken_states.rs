@@ -86,19 +86,19 @@ fn numbers_wider_than_a_file_holds_break_the_plans_rules() {
     // 2^32 more is the same word in a file, but not the same number in a state.
     type Change = fn(&mut RawPlan);
     let changes: [(Change, u32); 13] = [
-        (|plan| plan.starts[0] = i64::MIN, 5),
-        (|plan| plan.quanta[0] = -1, 5),
-        (|plan| plan.quanta[0] = i64::MIN, 5),
-        (|plan| plan.firsts[0] = i64::MAX, 6),
-        (|plan| plan.kinds[0] += 1 << 32, 7),
-        (|plan| plan.lefts[0] += 1 << 32, 7),
-        (|plan| plan.rights[0] += 1 << 32, 7),
-        (|plan| plan.lows[0] = i64::MIN, 7),
-        (|plan| plan.targets[0] += 1 << 32, 8),
-        (|plan| plan.sources[0] += 1 << 32, 8),
-        (|plan| plan.coefficients[0] = i64::MIN, 8),
-        (|plan| plan.numbers[0] += 1 << 32, 9),
-        (|plan| plan.values[0] = i64::MIN, 9),
+        (|plan| plan.integrators.starts[0] = i64::MIN, 5),
+        (|plan| plan.integrators.quanta[0] = -1, 5),
+        (|plan| plan.integrators.quanta[0] = i64::MIN, 5),
+        (|plan| plan.inputs.firsts[0] = i64::MAX, 6),
+        (|plan| plan.nodes.kinds[0] += 1 << 32, 7),
+        (|plan| plan.nodes.a[0] += 1 << 32, 7),
+        (|plan| plan.nodes.b[0] += 1 << 32, 7),
+        (|plan| plan.nodes.lows[0] = i64::MIN, 7),
+        (|plan| plan.links.targets[0] += 1 << 32, 8),
+        (|plan| plan.links.sources[0] += 1 << 32, 8),
+        (|plan| plan.links.coefficients[0] = i64::MIN, 8),
+        (|plan| plan.commands.inputs[0] += 1 << 32, 9),
+        (|plan| plan.commands.values[0] = i64::MIN, 9),
     ];
     for (change, number) in changes {
         let mut broken = state.clone();
@@ -112,9 +112,9 @@ fn numbers_wider_than_a_file_holds_break_the_plans_rules() {
 #[test]
 fn the_limits_of_each_clause_are_sound() {
     let mut state = loaded(&Plan::new(7).integrator(0, 10));
-    state.run.clock = 7;
-    state.run.instants = 7;
-    state.run.updates = 7;
+    state.run.clocks.clock = 7;
+    state.run.clocks.instants = 7;
+    state.run.clocks.updates = 7;
     for (x, q) in [(9, 0), (-9, 0), (0, 9), (20, 11)] {
         (state.run.x[0], state.run.q[0]) = (x, q);
         assert!(is_sound(&state));

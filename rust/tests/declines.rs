@@ -126,6 +126,6 @@ fn a_declined_call_feeds_nothing() {
     let (first, _) = run(Engine::Lazy, &start(), 1);
     let (declined, _) = run_with(Engine::Lazy, &first.state, 1_025, 0);
     let (second, bytes) = run(Engine::Lazy, &declined.state, 1);
-    assert_eq!(second.state.run.instants, 2);
+    assert_eq!(second.state.run.clocks.instants, 2);
     assert_eq!(common::events(&bytes), [(6, 2, -3)]);
 }

@@ -49,7 +49,8 @@ fn p1_the_listing() {
 
 #[test]
 fn p1_lazy_updates_are_3_and_eager_updates_4() {
-    let updates = |engine| run_plan(engine, &document_cup(), 64).state.run.updates;
+    let after = |engine| run_plan(engine, &document_cup(), 64).state.run;
+    let updates = |engine| after(engine).clocks.updates;
     assert_eq!(updates(Engine::Lazy), 3);
     assert_eq!(updates(Engine::Eager), 4);
 }
@@ -58,7 +59,7 @@ fn p1_lazy_updates_are_3_and_eager_updates_4() {
 fn p1_positions_at_clock_6_are_18_and_24() {
     for engine in ENGINES {
         let state = run_plan(engine, &document_cup(), 64).state;
-        assert_eq!(state.run.clock, 6);
+        assert_eq!(state.run.clocks.clock, 6);
         assert_eq!(CHECKER.position(&state, 0).value, 18);
         assert_eq!(CHECKER.position(&state, 1).value, 24);
     }
@@ -153,7 +154,8 @@ fn p9_a_due_value_of_m_passes_and_one_above_bars() {
             [(1, 0, (sign * M) as i32)]
         );
         let ran = run_plan(Engine::Lazy, &filled_by(11), 1);
-        assert_eq!((ran.status, ran.written, ran.state.run.clock), (2, 0, 0));
+        let clock = ran.state.run.clocks.clock;
+        assert_eq!((ran.status, ran.written, clock), (2, 0, 0));
         assert_eq!(Plain::start(&filled_by(11)).status().number(), 2);
     }
 }

@@ -79,16 +79,17 @@ impl Faulty {
 
     /// The answer of an accepted run, spoilt.
     fn spoil_accepted(&self, entry: &RawState, ran: &mut Ran, buffer: &mut [u8]) {
+        let clocks = &mut ran.state.run.clocks;
         match self.0 {
             Fault::FinishedBeforehand => ran.status = 1,
             Fault::RangeBeforehand => ran.status = 2,
             Fault::StateUntouched => ran.state = entry.clone(),
-            Fault::InventedCount => ran.state.run.updates = ran.state.run.instants,
+            Fault::InventedCount => clocks.updates = clocks.instants,
             Fault::StatusOfEntry => {
                 ran.status = CHECKER.run(Engine::Lazy, entry, 0, &mut []).status
             }
             Fault::LaterByteChanged if ran.written < buffer.len() => buffer[ran.written] ^= 1,
-            Fault::ClockRunsOn if ran.status == 1 => ran.state.run.clock = entry.plan.horizon,
+            Fault::ClockRunsOn if ran.status == 1 => clocks.clock = entry.plan.horizon,
             _ => {}
         }
     }
@@ -137,7 +138,7 @@ impl Simulator for Faulty {
     }
 
     fn run(&self, engine: Engine, state: &RawState, budget: u64, buffer: &mut [u8]) -> Ran {
-        let instant = (state.plan.n + state.plan.m) * 12;
+        let instant = state.plan.counts.events_per_instant() * 12;
         let (engine, budget) = self.asked(engine, budget, buffer.len(), instant);
         let mut ran = CHECKER.run(engine, state, budget, buffer);
         match ran.number {

@@ -128,7 +128,7 @@ fn the_view_is_empty_when_only_an_entry_is_faulty() {
 #[test]
 fn unused_due_ticks_are_0_at_any_clock() {
     let mut state = run_plan(Engine::Lazy, &document_cup(), 64).state;
-    assert!(state.run.clock > 0 && state.run.d[2] == 0);
+    assert!(state.run.clocks.clock > 0 && state.run.d[2] == 0);
     assert!(is_sound(&state));
     state.run.d[2] = NEVER;
     assert_eq!(broken_clauses(&state), [Clause::UnusedInRun]);
@@ -139,12 +139,12 @@ fn wild_counts_are_refused_without_being_added() {
     let base = loaded(&document_cup());
     for value in [33, 257, usize::MAX / 2 + 1, usize::MAX] {
         let mut state = base.clone();
-        state.plan.n = value;
+        state.plan.counts.n = value;
         assert_eq!(broken_clauses(&state), [Clause::Counts]);
-        state.plan.m = value;
-        state.plan.k = value;
-        state.plan.links = value;
-        state.plan.commands = value;
+        state.plan.counts.m = value;
+        state.plan.counts.k = value;
+        state.plan.counts.links = value;
+        state.plan.counts.commands = value;
         for engine in ENGINES {
             assert_eq!(CHECKER.run(engine, &state, 0, &mut []).number, 10);
         }
@@ -196,7 +196,7 @@ fn a_node_whose_value_stays_still_reaches() {
     plan.links[0].source = 3;
     let ran = run_plan(Engine::Lazy, &plan, 1);
     assert_eq!(ran.state.run.l[..3], [1, 1, 0]);
-    assert_eq!(ran.state.run.updates, 2);
+    assert_eq!(ran.state.run.clocks.updates, 2);
 }
 
 #[test]
@@ -205,7 +205,7 @@ fn a_command_that_repeats_a_value_still_reaches_and_is_an_event() {
     let (ran, bytes) = run(Engine::Lazy, &loaded(&plan), 1);
     assert_eq!(common::events(&bytes), [(3, 1, 2)]);
     assert_eq!((ran.state.run.x[0], ran.state.run.l[0]), (6, 3));
-    assert_eq!(ran.state.run.updates, 1);
+    assert_eq!(ran.state.run.clocks.updates, 1);
 }
 
 #[test]
@@ -215,7 +215,7 @@ fn kind_2_does_not_depend_on_integrator_0() {
     let mut plan = plan.limit(2, 0, 5).link(1, 3, GRAINS);
     plan.links[0].source = 2;
     let ran = run_plan(Engine::Lazy, &plan, 1);
-    assert_eq!(ran.state.run.updates, 1);
+    assert_eq!(ran.state.run.clocks.updates, 1);
     assert_eq!(ran.state.run.l[..2], [1, 0]);
 }
 
@@ -267,7 +267,7 @@ fn finished_goes_before_range() {
 #[test]
 fn the_clock_stays_at_the_last_instant() {
     let ran = run_plan(Engine::Eager, &filled(0, 10, 1, 25), 9);
-    assert_eq!((ran.status, ran.state.run.clock), (1, 20));
+    assert_eq!((ran.status, ran.state.run.clocks.clock), (1, 20));
 }
 
 #[test]
@@ -283,7 +283,8 @@ fn commands_of_one_tick_are_one_instant() {
         .command(4, 0, 2)
         .command(4, 1, 3);
     assert_eq!(events_of_plan(&plan, 1), [(4, 1, 2), (4, 2, 3)]);
-    assert_eq!(run_plan(Engine::Lazy, &plan, 9).state.run.instants, 1);
+    let after = run_plan(Engine::Lazy, &plan, 9).state.run;
+    assert_eq!(after.clocks.instants, 1);
 }
 
 #[test]

@@ -82,20 +82,21 @@ fn changes_near_limits_leave_some_states_sound_and_most_not() {
 #[test]
 fn no_instants_with_a_clock_above_0_and_inputs_that_no_command_set() {
     let mut state = loaded(&document_cup());
-    state.run.clock = 2;
+    state.run.clocks.clock = 2;
     state.run.inputs[0] = 4;
     settle(&mut state);
     assert!(is_sound(&state));
     let (ran, bytes) = run(Engine::Lazy, &state, 2);
     assert_eq!(events(&bytes), [(3, 0, 12), (6, 0, 24), (6, 2, -3)]);
-    assert_eq!((ran.state.run.clock, ran.state.run.instants), (6, 2));
+    let clocks = ran.state.run.clocks;
+    assert_eq!((clocks.clock, clocks.instants), (6, 2));
 }
 
 #[test]
 fn the_latest_due_tick_of_a_sound_state() {
     let plan = Plan::new(HORIZON_MAX).integrator(0, M).input(1);
     let mut state = loaded(&plan.link(0, 1, GRAINS));
-    state.run.clock = HORIZON_MAX;
+    state.run.clocks.clock = HORIZON_MAX;
     state.run.l[0] = HORIZON_MAX;
     state.run.x[0] = 1 - M;
     settle(&mut state);

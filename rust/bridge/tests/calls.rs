@@ -108,12 +108,15 @@ fn a_cup_in_full_instant_by_instant() {
         assert_eq!((first.number, first.status, first.integrator), (0, 0, 0));
         assert_eq!(events(&buffer[..first.written]), [(4, 0, 12)]);
         assert_eq!(buffer[12..], [7; 28]);
-        assert_eq!(first.state.run.updates, updates[0]);
+        assert_eq!(first.state.run.clocks.updates, updates[0]);
         let second = instant(&first.state, eager, &mut buffer[..36]);
         assert_eq!((second.number, second.status), (0, 1));
         assert_eq!(events(&buffer[..second.written]), [(6, 2, -3)]);
         let run = &second.state.run;
-        assert_eq!((run.clock, run.instants, run.updates), (6, 2, updates[1]));
+        assert_eq!(
+            (run.clocks.clock, run.clocks.instants, run.clocks.updates),
+            (6, 2, updates[1])
+        );
         assert_eq!(positions(&second.state), [18, 24]);
         // Finished: nothing more happens.
         let third = instant(&second.state, eager, &mut buffer[..36]);
@@ -137,7 +140,7 @@ fn a_cup_in_full_by_one_run() {
         assert_eq!((ran.number, ran.status, ran.integrator), (0, 1, 0));
         assert_eq!(events(&buffer[..ran.written]), [(4, 0, 12), (6, 2, -3)]);
         assert!(buffer[24..].iter().all(|&byte| byte == 7));
-        let after = &ran.state.run;
+        let after = &ran.state.run.clocks;
         assert_eq!(
             (after.clock, after.instants, after.updates),
             (6, 2, updates)
@@ -159,7 +162,7 @@ fn a_cup_in_full_by_one_run() {
         assert_eq!(declined(&start, u64::MAX, 0), 11);
         assert_eq!(declined(&start, 1_024, 1_024 * 36 - 1), 12);
         let mut unsound = start.clone();
-        unsound.run.updates = 1;
+        unsound.run.clocks.updates = 1;
         assert_eq!(declined(&unsound, 1_025, 0), 10);
         assert_eq!(position(&unsound, 2).number, 10);
     }
@@ -178,7 +181,7 @@ fn a_sound_state_has_tables_and_another_has_none() {
     // The input reaches the first integrator, the first integrator the second.
     assert_eq!(found.reach[..4], [2, 0, 1, 0]);
     assert_eq!(found.values[..4], [0, 0, 3, 0]);
-    state.run.updates = u64::MAX;
+    state.run.clocks.updates = u64::MAX;
     assert!(!sound(&state));
     assert_eq!(*tables(&state), Tables::NONE);
 }

@@ -10,15 +10,19 @@
 #include <stdlib.h>
 #include <string.h>
 
-/* Every field, as ONE(part, field) or MANY(part, field). */
+/* The path of every field, as ONE(path) or MANY(path). */
 #define FIELDS(ONE, MANY) \
-    ONE(plan, horizon) ONE(plan, n) ONE(plan, m) ONE(plan, k) ONE(plan, links) \
-    ONE(plan, commands) MANY(plan, starts) MANY(plan, quanta) MANY(plan, firsts) \
-    MANY(plan, kinds) MANY(plan, lefts) MANY(plan, rights) MANY(plan, lows) MANY(plan, highs) \
-    MANY(plan, targets) MANY(plan, sources) MANY(plan, coefficients) MANY(plan, ticks) \
-    MANY(plan, numbers) MANY(plan, values) MANY(run, x) MANY(run, q) MANY(run, s) MANY(run, l) \
-    MANY(run, d) MANY(run, inputs) ONE(run, clock) ONE(run, next) ONE(run, instants) \
-    ONE(run, updates)
+    ONE(plan.horizon) \
+    ONE(plan.counts.n) ONE(plan.counts.m) ONE(plan.counts.k) ONE(plan.counts.links) \
+    ONE(plan.counts.commands) \
+    MANY(plan.integrators.starts) MANY(plan.integrators.quanta) \
+    MANY(plan.inputs.firsts) \
+    MANY(plan.nodes.kinds) MANY(plan.nodes.a) MANY(plan.nodes.b) MANY(plan.nodes.lows) \
+    MANY(plan.nodes.highs) \
+    MANY(plan.links.targets) MANY(plan.links.sources) MANY(plan.links.coefficients) \
+    MANY(plan.commands.ticks) MANY(plan.commands.inputs) MANY(plan.commands.values) \
+    MANY(run.x) MANY(run.q) MANY(run.s) MANY(run.l) MANY(run.d) MANY(run.inputs) \
+    ONE(run.clocks.clock) ONE(run.clocks.next) ONE(run.clocks.instants) ONE(run.clocks.updates)
 
 #define COUNT(array) (sizeof(array) / sizeof(array)[0])
 
@@ -36,12 +40,11 @@ static void print_layout(void)
     INNER(CupRan, state)
     INNER(CupPositioned, number) INNER(CupPositioned, value) INNER(CupPositioned, state)
     INNER(CupTables, ranges) INNER(CupTables, reach) INNER(CupTables, values)
-#define PLACE_ONE(part, field) \
-    printf("%s.%s %zu %zu 1\n", #part, #field, offsetof(CupState, part.field), \
-           sizeof state.part.field);
-#define PLACE_MANY(part, field) \
-    printf("%s.%s %zu %zu %zu\n", #part, #field, offsetof(CupState, part.field), \
-           sizeof state.part.field[0], COUNT(state.part.field));
+#define PLACE_ONE(path) \
+    printf("%s %zu %zu 1\n", #path, offsetof(CupState, path), sizeof state.path);
+#define PLACE_MANY(path) \
+    printf("%s %zu %zu %zu\n", #path, offsetof(CupState, path), sizeof state.path[0], \
+           COUNT(state.path));
     FIELDS(PLACE_ONE, PLACE_MANY)
 }
 
@@ -57,18 +60,17 @@ static uint64_t number(void)
 
 static void echo_state(void)
 {
-#define FILL_ONE(part, field) state.part.field = number();
-#define FILL_MANY(part, field) \
-    for (size_t entry = 0; entry < COUNT(state.part.field); entry++) \
-        state.part.field[entry] = number();
+#define FILL_ONE(path) state.path = number();
+#define FILL_MANY(path) \
+    for (size_t entry = 0; entry < COUNT(state.path); entry++) \
+        state.path[entry] = number();
     FIELDS(FILL_ONE, FILL_MANY)
     state = cup_echo(state);
-#define PRINT_ONE(part, field) \
-    printf("%s.%s %" PRIu64 "\n", #part, #field, (uint64_t)state.part.field);
-#define PRINT_MANY(part, field) \
-    printf("%s.%s", #part, #field); \
-    for (size_t entry = 0; entry < COUNT(state.part.field); entry++) \
-        printf(" %" PRIu64, (uint64_t)state.part.field[entry]); \
+#define PRINT_ONE(path) printf("%s %" PRIu64 "\n", #path, (uint64_t)state.path);
+#define PRINT_MANY(path) \
+    printf("%s", #path); \
+    for (size_t entry = 0; entry < COUNT(state.path); entry++) \
+        printf(" %" PRIu64, (uint64_t)state.path[entry]); \
     printf("\n");
     FIELDS(PRINT_ONE, PRINT_MANY)
 }

@@ -52,8 +52,8 @@ static void print_events(size_t written)
  * the first integrator starts where it is. */
 static void check_sections(size_t length, const CupState *state)
 {
-    const size_t entries[] = { state->plan.n, state->plan.m, state->plan.k, state->plan.links,
-                               state->plan.commands };
+    const CupCounts *counts = &state->plan.counts;
+    const size_t entries[] = { counts->n, counts->m, counts->k, counts->links, counts->commands };
     const size_t bytes[] = { 8, 4, 20, 12, 12 };
     size_t offset, next = 44;
     for (size_t section = 0; section < 5; section++) {
@@ -65,26 +65,27 @@ static void check_sections(size_t length, const CupState *state)
     demand(next == length, "the last section ends elsewhere");
     demand(cup_section(file, length, 5, &offset) == 0 && offset == 0, "there is a sixth section");
     demand(cup_section(file, length, 0, &offset) > 0 &&
-               (int32_t)word(file + offset) == state->plan.starts[0],
+               (int32_t)word(file + offset) == state->plan.integrators.starts[0],
            "the first integrator starts elsewhere");
 }
 
 /* Every field; the bytes that fill a struct up between two fields are nobody's. */
 static int is_same(const CupState *one, const CupState *other)
 {
-    size_t counts = offsetof(CupPlan, n), clock = offsetof(CupRunning, clock);
+    size_t counts = offsetof(CupPlan, counts), clocks = offsetof(CupRunning, clocks);
+    const CupClocks *first = &one->run.clocks, *second = &other->run.clocks;
     return one->plan.horizon == other->plan.horizon &&
            memcmp((const uint8_t *)&one->plan + counts, (const uint8_t *)&other->plan + counts,
                   sizeof one->plan - counts) == 0 &&
-           memcmp(&one->run, &other->run, clock) == 0 && one->run.clock == other->run.clock &&
-           one->run.next == other->run.next && one->run.instants == other->run.instants &&
-           one->run.updates == other->run.updates;
+           memcmp(&one->run, &other->run, clocks) == 0 && first->clock == second->clock &&
+           first->next == second->next && first->instants == second->instants &&
+           first->updates == second->updates;
 }
 
 /* Both states have every integrator at the same place, and no call has one more. */
 static void check_positions(const CupState *lazy, const CupState *eager)
 {
-    size_t n = lazy->plan.n;
+    size_t n = lazy->plan.counts.n;
     for (size_t i = 0; i < n; i++) {
         CupPositioned one = cup_position(*lazy, i), other = cup_position(*eager, i);
         demand(one.number == 0 && other.number == 0, "a position is declined");
@@ -92,7 +93,7 @@ static void check_positions(const CupState *lazy, const CupState *eager)
         demand(is_same(&one.state, lazy) && is_same(&other.state, eager),
                "a position call answers another state");
         /* An eager run has moved every integrator at the clock, if it has moved any. */
-        if (eager->run.instants > 0)
+        if (eager->run.clocks.instants > 0)
             demand(other.value == eager->run.x[i], "the eager run has not moved all");
     }
     demand(cup_position(*lazy, n).number == 14 && cup_position(*lazy, n).value == 0 &&
@@ -109,7 +110,7 @@ static int is_declined(CupRan ran, size_t number, const CupState *state)
 /* Declined by 11, 12 and 10, with the state handed back and no byte written. */
 static void check_declines(const CupState *state)
 {
-    size_t needed = (state->plan.n + state->plan.m) * CUP_EVENT_BYTES;
+    size_t needed = (state->plan.counts.n + state->plan.counts.m) * CUP_EVENT_BYTES;
     memset(others, 0xa5, sizeof others);
     demand(is_declined(cup_run_lazy(*state, CUP_BUDGET_MAX + 1, others, sizeof others), 11, state) &&
                is_declined(cup_run_eager(*state, UINT64_MAX, none, 0), 11, state),
@@ -118,7 +119,7 @@ static void check_declines(const CupState *state)
                is_declined(cup_run_eager(*state, BUDGET, others, BUDGET * needed - 1), 12, state),
            "a short buffer is not declined");
     CupState unsound = *state;
-    unsound.run.updates = unsound.run.instants * unsound.plan.n + 1;
+    unsound.run.clocks.updates = unsound.run.clocks.instants * unsound.plan.counts.n + 1;
     demand(is_declined(cup_run_lazy(unsound, 1, others, needed), 10, &unsound) &&
                is_declined(cup_run_eager(unsound, CUP_BUDGET_MAX + 1, none, 0), 10, &unsound) &&
                cup_position(unsound, 0).number == 10 && cup_position(unsound, SIZE_MAX).number == 10,
@@ -136,11 +137,12 @@ static void check_call(CupRan *lazy, CupRan *eager)
     demand(cup_sound(lazy->state) && cup_sound(eager->state), "a run leaves an unsound state");
     demand(lazy->written == eager->written && memcmp(events, others, lazy->written) == 0,
            "the engines write other events");
+    const CupClocks *moved = &eager->state.run.clocks;
     demand(lazy->status == eager->status && lazy->integrator == eager->integrator &&
-               lazy->state.run.clock == eager->state.run.clock &&
-               lazy->state.run.instants == eager->state.run.instants,
+               lazy->state.run.clocks.clock == moved->clock &&
+               lazy->state.run.clocks.instants == moved->instants,
            "the engines come to other moments");
-    demand(eager->state.run.updates == eager->state.run.instants * eager->state.plan.n,
+    demand(moved->updates == moved->instants * eager->state.plan.counts.n,
            "the eager run counts other updates");
     check_positions(&lazy->state, &eager->state);
 }
@@ -163,12 +165,13 @@ int main(int count, char **words)
     } while (lazy.status == 0);
     const CupState *end = &lazy.state;
     CupTables tables = cup_tables(*end);
-    demand(tables.ranges[end->plan.n] == end->plan.links, "the tables have other links");
+    demand(tables.ranges[end->plan.counts.n] == end->plan.counts.links, "the tables have other links");
     CupWritten written = cup_write(*end, copy, sizeof copy);
     demand(written.number == 0 && written.length == length && memcmp(file, copy, length) == 0,
            "the plan is written otherwise");
     demand(is_same(&written.state, end), "another state comes back");
-    printf("end %zu %" PRIu32 " %" PRIu64 " %" PRIu64 "\n", lazy.status, end->run.clock,
-           end->run.instants, end->run.updates);
+    const CupClocks *clocks = &end->run.clocks;
+    printf("end %zu %" PRIu32 " %" PRIu64 " %" PRIu64 "\n", lazy.status, clocks->clock,
+           clocks->instants, clocks->updates);
     return 0;
 }

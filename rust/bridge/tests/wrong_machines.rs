@@ -191,7 +191,9 @@ impl Machine for Fault {
             }
             Fault::WritesShortBeforeUnsound if number == 10 && room < 52 => written.number = 13,
             Fault::WritesLengthOfShort if number == 13 => written.length = room,
-            Fault::WritesStateBackOtherwise if number == 13 => written.state.run.updates = 0,
+            Fault::WritesStateBackOtherwise if number == 13 => {
+                written.state.run.clocks.updates = 0;
+            }
             _ => (),
         }
         written
@@ -205,8 +207,9 @@ impl Machine for Fault {
             _ => eager,
         };
         let mut ran = Archive.instant(state, eager, buffer);
+        let taken = ran.state.run.clocks.clock > state.run.clocks.clock;
         match ran.number {
-            0 if ran.state.run.clock > state.run.clock => self.spoil_taken(state, &mut ran, buffer),
+            0 if taken => self.spoil_taken(state, &mut ran, buffer),
             0 => (),
             _ => self.spoil_declined(state, eager, &mut ran, &before, buffer),
         }
@@ -224,10 +227,10 @@ impl Machine for Fault {
 
     fn tables(&self, state: &State) -> Box<Tables> {
         let mut tables = Archive.tables(state);
-        let nodes = state.plan.n.wrapping_add(state.plan.m);
+        let nodes = state.plan.counts.n.wrapping_add(state.plan.counts.m);
         match self {
-            Fault::TablesWithoutEnd => tables.ranges[state.plan.n.min(32)] = 0,
-            Fault::TablesInnerRange if state.plan.n > 1 => tables.ranges[1] = 0,
+            Fault::TablesWithoutEnd => tables.ranges[state.plan.counts.n.min(32)] = 0,
+            Fault::TablesInnerRange if state.plan.counts.n > 1 => tables.ranges[1] = 0,
             Fault::TablesWithoutOwnBit if nodes < 64 => tables.reach[nodes] &= !(1 << 32),
             Fault::TablesOfInputsAlone => tables.values[0] = 0,
             Fault::TablesNodeValue if nodes < 64 => tables.values[nodes] = 0,
@@ -247,12 +250,12 @@ impl Machine for Fault {
 impl Fault {
     /// A fault in an instant that was taken.
     fn spoil_taken(&self, state: &State, ran: &mut Ran, buffer: &mut [u8]) {
-        let (n, clock) = (state.plan.n, ran.state.run.clock);
+        let (n, clock) = (state.plan.counts.n, ran.state.run.clocks.clock);
         let due = state.run.d[..n].iter().filter(|&&d| d == clock).count();
         let run = &mut ran.state.run;
         match self {
             // As many as are due are reached too, or at least one.
-            Fault::InstantCountsDueTwice if due > 0 => run.updates += 1,
+            Fault::InstantCountsDueTwice if due > 0 => run.clocks.updates += 1,
             Fault::InstantSkipsLowest => {
                 let lowest = run.l[..n].iter().position(|&l| l == clock);
                 lowest.into_iter().for_each(|i| keep(state, ran, i));
@@ -271,9 +274,9 @@ impl Fault {
                 }
             }
             Fault::InstantStatusBefore => (ran.status, ran.integrator) = (0, 0),
-            Fault::InstantNotCounted => run.instants -= 1,
-            Fault::InstantCommandsStay => run.next = state.run.next,
-            Fault::InstantClockRunsOn if ran.status == 1 => run.clock = state.plan.horizon,
+            Fault::InstantNotCounted => run.clocks.instants -= 1,
+            Fault::InstantCommandsStay => run.clocks.next = state.run.clocks.next,
+            Fault::InstantClockRunsOn if ran.status == 1 => run.clocks.clock = state.plan.horizon,
             Fault::InstantUnusedTouched if n < 32 => run.d[31] = NEVER,
             _ => (),
         }

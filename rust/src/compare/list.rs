@@ -44,7 +44,7 @@ pub fn loaded_list_beside(
     let file = encode(plan);
     let loaded = simulator.load(&file);
     same("load", (loaded.number, loaded.entry), (0, 0))?;
-    same("updates at the start", loaded.state.run.updates, 0)?;
+    same("updates at the start", loaded.state.run.clocks.updates, 0)?;
     check_sections(simulator, plan, &file)?;
     let start = Plain::start(plan);
     let last = compare_list(simulator, start, loaded.state, list, met, beside)?;
@@ -254,7 +254,8 @@ impl Comparison<'_> {
         for moved in moves {
             let step = self.simulator.run(engine, &state, 1, &mut instant_buffer);
             same("number of a single instant", step.number, 0)?;
-            let grown = step.state.run.updates.checked_sub(state.run.updates);
+            let (before, after) = (state.run.clocks, step.state.run.clocks);
+            let grown = after.updates.checked_sub(before.updates);
             same("growth of updates", grown, Some(moved.len() as u64))?;
             same(
                 "integrators with l = c",
@@ -272,8 +273,8 @@ impl Comparison<'_> {
     /// Updates grow by all that was moved, the plan stays, and a run of no instant changes nothing.
     fn check_counts(&self, ran: &Ran, moves: &[BTreeSet<usize>]) -> Found {
         let moved: usize = moves.iter().map(BTreeSet::len).sum();
-        let updates = self.state.run.updates + moved as u64;
-        same("updates", ran.state.run.updates, updates)?;
+        let updates = self.state.run.clocks.updates + moved as u64;
+        same("updates", ran.state.run.clocks.updates, updates)?;
         holds("the plan changed", ran.state.plan == self.state.plan)?;
         let unchanged = !moves.is_empty() || ran.state == self.state;
         holds("a run of no instant changed the state", unchanged)
@@ -288,7 +289,7 @@ impl Comparison<'_> {
             same("position", (answer.number, answer.value), (0, expected))?;
             holds("position changed the state", answer.state == self.state)?;
         }
-        let n = self.state.plan.n;
+        let n = self.state.plan.counts.n;
         for number in WILD.into_iter().chain([n, n + 1]) {
             let none = self.simulator.position(&self.state, number);
             let answered = (none.number, none.value);
@@ -313,6 +314,6 @@ impl Comparison<'_> {
 
 /// The integrators with l = c.
 fn moved_at_clock(state: &RawState) -> BTreeSet<usize> {
-    let moved = |&i: &usize| state.run.l[i] == state.run.clock;
-    (0..state.plan.n).filter(moved).collect()
+    let moved = |&i: &usize| state.run.l[i] == state.run.clocks.clock;
+    (0..state.plan.counts.n).filter(moved).collect()
 }

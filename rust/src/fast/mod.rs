@@ -17,7 +17,7 @@ mod tables;
 
 use crate::calls::{Ran, BUDGET_ABOVE, SHORT_RUN_BUFFER};
 use crate::limits::{BUDGET_MAX, EVENT_BYTES, INTEGRATORS_MAX, NEVER};
-use crate::raw::{RawRunning, RawState};
+use crate::raw::{RawClocks, RawRunning, RawState};
 use crate::status::Status;
 use tables::{Tables, Values};
 
@@ -62,20 +62,20 @@ impl Fast {
             values: tables.values(&run.q, &run.inputs),
             cells: [Cell::default(); INTEGRATORS_MAX],
             dues: [NEVER; INTEGRATORS_MAX],
-            clock: run.clock,
-            next: run.next,
-            instants: run.instants,
-            updates: run.updates,
+            clock: run.clocks.clock,
+            next: run.clocks.next,
+            instants: run.clocks.instants,
+            updates: run.clocks.updates,
             tables,
         };
-        for (i, cell) in fast.cells[..plan.n].iter_mut().enumerate() {
+        for (i, cell) in fast.cells[..plan.counts.n].iter_mut().enumerate() {
             *cell = Cell {
                 x: run.x[i],
                 s: run.s[i],
                 l: run.l[i],
             };
         }
-        fast.dues[..plan.n].copy_from_slice(&run.d[..plan.n]);
+        fast.dues[..plan.counts.n].copy_from_slice(&run.d[..plan.counts.n]);
         fast
     }
 
@@ -105,10 +105,12 @@ impl Fast {
             l: self.cells.map(|cell| cell.l),
             d: [0; INTEGRATORS_MAX],
             inputs: Default::default(),
-            clock: self.clock,
-            next: self.next,
-            instants: self.instants,
-            updates: self.updates,
+            clocks: RawClocks {
+                clock: self.clock,
+                next: self.next,
+                instants: self.instants,
+                updates: self.updates,
+            },
         };
         run.q[..n].copy_from_slice(&self.values[..n]);
         run.d[..n].copy_from_slice(&self.dues[..n]);
@@ -129,7 +131,7 @@ pub fn run_lazy(mut state: RawState, budget: u64, buffer: &mut [u8]) -> Ran {
     if budget > BUDGET_MAX {
         return declined(BUDGET_ABOVE, state);
     }
-    let room = budget as usize * (state.plan.n + state.plan.m) * EVENT_BYTES;
+    let room = budget as usize * state.plan.counts.events_per_instant() * EVENT_BYTES;
     if buffer.len() < room {
         return declined(SHORT_RUN_BUFFER, state);
     }

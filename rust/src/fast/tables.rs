@@ -88,11 +88,11 @@ impl Tables {
     /// The tables of a lawful plan.
     pub fn of(plan: &RawPlan) -> Tables {
         let mut tables = Tables {
-            n: plan.n,
-            m: plan.m,
-            k: plan.k,
+            n: plan.counts.n,
+            m: plan.counts.m,
+            k: plan.counts.k,
             horizon: plan.horizon,
-            commanded: plan.commands,
+            commanded: plan.counts.commands,
             parts: [Part::default(); INTEGRATORS_MAX],
             links: [[Link::default(); TERMS]; ROWS],
             nodes: [Node::default(); NODES_FROM],
@@ -101,11 +101,12 @@ impl Tables {
         };
         tables.fill_links(plan);
         tables.fill_nodes(plan);
-        for (e, command) in tables.commands[..plan.commands].iter_mut().enumerate() {
+        let commands = &mut tables.commands[..plan.counts.commands];
+        for (e, command) in commands.iter_mut().enumerate() {
             *command = Command {
-                tick: plan.ticks[e],
-                source: (plan.n + plan.numbers[e]) as u8,
-                value: plan.values[e],
+                tick: plan.commands.ticks[e],
+                source: (plan.counts.n + plan.commands.inputs[e]) as u8,
+                value: plan.commands.values[e],
             };
         }
         tables
@@ -114,18 +115,18 @@ impl Tables {
     /// The links, where each integrator's lie, and what they reach.
     fn fill_links(&mut self, plan: &RawPlan) {
         let (mut row, mut e) = (0, 0);
-        for (i, part) in self.parts[..plan.n].iter_mut().enumerate() {
-            part.quantum = plan.quanta[i];
+        for (i, part) in self.parts[..plan.counts.n].iter_mut().enumerate() {
+            part.quantum = plan.integrators.quanta[i];
             part.from = row;
-            let own = plan.targets[e..plan.links].iter();
+            let own = plan.links.targets[e..plan.counts.links].iter();
             let last = e + own.take_while(|&&target| target == i).count();
             while e < last {
                 for link in self.links[row].iter_mut().take(last - e) {
                     *link = Link {
-                        coefficient: plan.coefficients[e] as i32,
-                        source: plan.sources[e] as u8,
+                        coefficient: plan.links.coefficients[e] as i32,
+                        source: plan.links.sources[e] as u8,
                     };
-                    self.reach[plan.sources[e]] |= 1 << i;
+                    self.reach[plan.links.sources[e]] |= 1 << i;
                     e += 1;
                 }
                 row += 1;
@@ -137,21 +138,21 @@ impl Tables {
     /// The nodes, and what they hand on: from the highest down, so that each has its own reach
     /// when its operands get it.
     fn fill_nodes(&mut self, plan: &RawPlan) {
-        for j in (0..plan.k).rev() {
-            let (kind, a, b) = (plan.kinds[j], plan.lefts[j], plan.rights[j]);
-            let reach = self.reach[plan.n + plan.m + j] | 1 << (NODES_FROM + j);
-            self.reach[plan.n + plan.m + j] = reach;
+        for j in (0..plan.counts.k).rev() {
+            let (kind, a, b) = (plan.nodes.kinds[j], plan.nodes.a[j], plan.nodes.b[j]);
+            let reach = self.reach[plan.counts.n + plan.counts.m + j] | 1 << (NODES_FROM + j);
+            self.reach[plan.counts.n + plan.counts.m + j] = reach;
             self.reach[a] |= reach;
             if kind != LIMIT {
                 self.reach[b] |= reach;
             }
             self.nodes[j] = Node {
-                low: plan.lows[j],
-                high: plan.highs[j],
+                low: plan.nodes.lows[j],
+                high: plan.nodes.highs[j],
                 kind: kind as u8,
                 a: a as u8,
                 b: b as u8,
-                source: (plan.n + plan.m + j) as u8,
+                source: (plan.counts.n + plan.counts.m + j) as u8,
             };
         }
     }

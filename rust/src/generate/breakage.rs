@@ -91,12 +91,13 @@ impl Breakage {
             Breakage::InputBeyond => input_beyond(rng, state),
             Breakage::NextCommand => Some(change_next(rng, state)),
             Breakage::InstantsAboveClock => {
-                state.run.instants = rng.pick(&[u64::from(state.run.clock) + 1, u64::MAX]);
+                state.run.clocks.instants =
+                    rng.pick(&[u64::from(state.run.clocks.clock) + 1, u64::MAX]);
                 Some((state, Clause::InstantsAboveClock))
             }
             Breakage::UpdatesAboveMoves => {
-                let most = state.run.instants * state.plan.n as u64;
-                state.run.updates = rng.pick(&[most + 1, u64::MAX]);
+                let most = state.run.clocks.instants * state.plan.counts.n as u64;
+                state.run.clocks.updates = rng.pick(&[most + 1, u64::MAX]);
                 Some((state, Clause::UpdatesAboveMoves))
             }
         }
@@ -117,10 +118,10 @@ pub fn with_wild_number(rng: &mut Rng, sound: &RawState) -> RawState {
         3 => run.inputs[input] = value,
         4 => run.l[place] = value as u32,
         5 => run.d[place] = value as u32,
-        6 => run.clock = value as u32,
-        7 => run.next = value as usize,
-        8 => run.instants = value as u64,
-        _ => run.updates = value as u64,
+        6 => run.clocks.clock = value as u32,
+        7 => run.clocks.next = value as usize,
+        8 => run.clocks.instants = value as u64,
+        _ => run.clocks.updates = value as u64,
     }
     state
 }
@@ -129,12 +130,12 @@ fn break_count(rng: &mut Rng, mut state: RawState) -> Broken {
     let plan = &mut state.plan;
     let wild = [1 << 32, usize::MAX - 1, usize::MAX];
     match rng.below(6) {
-        0 => plan.n = 0,
-        1 => plan.n = rng.pick(&[33, wild[0], wild[1], wild[2]]),
-        2 => plan.m = rng.pick(&[9, wild[0], wild[1], wild[2]]),
-        3 => plan.k = rng.pick(&[17, wild[0], wild[1], wild[2]]),
-        4 => plan.links = rng.pick(&[257, wild[0], wild[1], wild[2]]),
-        _ => plan.commands = rng.pick(&[65, wild[0], wild[1], wild[2]]),
+        0 => plan.counts.n = 0,
+        1 => plan.counts.n = rng.pick(&[33, wild[0], wild[1], wild[2]]),
+        2 => plan.counts.m = rng.pick(&[9, wild[0], wild[1], wild[2]]),
+        3 => plan.counts.k = rng.pick(&[17, wild[0], wild[1], wild[2]]),
+        4 => plan.counts.links = rng.pick(&[257, wild[0], wild[1], wild[2]]),
+        _ => plan.counts.commands = rng.pick(&[65, wild[0], wild[1], wild[2]]),
     }
     (state, Clause::Counts)
 }
@@ -159,57 +160,57 @@ fn spoil<T: From<u8>>(rng: &mut Rng, entries: &mut [T], used: usize) -> bool {
 
 fn spoil_plan(rng: &mut Rng, plan: &mut RawPlan) -> bool {
     match rng.below(14) {
-        0 => spoil(rng, &mut plan.starts, plan.n),
-        1 => spoil(rng, &mut plan.quanta, plan.n),
-        2 => spoil(rng, &mut plan.firsts, plan.m),
-        3 => spoil(rng, &mut plan.kinds, plan.k),
-        4 => spoil(rng, &mut plan.lefts, plan.k),
-        5 => spoil(rng, &mut plan.rights, plan.k),
-        6 => spoil(rng, &mut plan.lows, plan.k),
-        7 => spoil(rng, &mut plan.highs, plan.k),
-        8 => spoil(rng, &mut plan.targets, plan.links),
-        9 => spoil(rng, &mut plan.sources, plan.links),
-        10 => spoil(rng, &mut plan.coefficients, plan.links),
-        11 => spoil(rng, &mut plan.ticks, plan.commands),
-        12 => spoil(rng, &mut plan.numbers, plan.commands),
-        _ => spoil(rng, &mut plan.values, plan.commands),
+        0 => spoil(rng, &mut plan.integrators.starts, plan.counts.n),
+        1 => spoil(rng, &mut plan.integrators.quanta, plan.counts.n),
+        2 => spoil(rng, &mut plan.inputs.firsts, plan.counts.m),
+        3 => spoil(rng, &mut plan.nodes.kinds, plan.counts.k),
+        4 => spoil(rng, &mut plan.nodes.a, plan.counts.k),
+        5 => spoil(rng, &mut plan.nodes.b, plan.counts.k),
+        6 => spoil(rng, &mut plan.nodes.lows, plan.counts.k),
+        7 => spoil(rng, &mut plan.nodes.highs, plan.counts.k),
+        8 => spoil(rng, &mut plan.links.targets, plan.counts.links),
+        9 => spoil(rng, &mut plan.links.sources, plan.counts.links),
+        10 => spoil(rng, &mut plan.links.coefficients, plan.counts.links),
+        11 => spoil(rng, &mut plan.commands.ticks, plan.counts.commands),
+        12 => spoil(rng, &mut plan.commands.inputs, plan.counts.commands),
+        _ => spoil(rng, &mut plan.commands.values, plan.counts.commands),
     }
 }
 
 fn spoil_run(rng: &mut Rng, state: &mut RawState) -> bool {
-    let (run, n) = (&mut state.run, state.plan.n);
+    let (run, n) = (&mut state.run, state.plan.counts.n);
     match rng.below(6) {
         0 => spoil(rng, &mut run.x, n),
         1 => spoil(rng, &mut run.q, n),
         2 => spoil(rng, &mut run.s, n),
         3 => spoil(rng, &mut run.l, n),
         4 => spoil(rng, &mut run.d, n),
-        _ => spoil(rng, &mut run.inputs, state.plan.m),
+        _ => spoil(rng, &mut run.inputs, state.plan.counts.m),
     }
 }
 
 /// Possible only if no integrator is due up to the tick after the horizon.
 fn pass_horizon(mut state: RawState, plan: &Plan) -> Option<Broken> {
-    state.run.clock = plan.horizon + 1;
-    state.run.next = plan.commands.len();
-    let dues = &state.run.d[..state.plan.n];
-    let all_later = dues.iter().all(|&d| d > state.run.clock);
+    state.run.clocks.clock = plan.horizon + 1;
+    state.run.clocks.next = plan.commands.len();
+    let dues = &state.run.d[..state.plan.counts.n];
+    let all_later = dues.iter().all(|&d| d > state.run.clocks.clock);
     all_later.then_some((state, Clause::ClockAboveHorizon))
 }
 
 fn move_after_clock(mut state: RawState, cup: usize) -> Broken {
-    state.run.l[cup] = state.run.clock + 1;
+    state.run.l[cup] = state.run.clocks.clock + 1;
     state.run.d[cup] = due_tick(&state.plan, &state.run, cup);
     (state, Clause::MovedAfterClock(cup))
 }
 
 /// Possible only if a single integrator is due next, and up to the horizon.
 fn advance_to_due(mut state: RawState, plan: &Plan) -> Option<Broken> {
-    let dues = &state.run.d[..state.plan.n];
+    let dues = &state.run.d[..state.plan.counts.n];
     let tick = dues.iter().copied().min().unwrap_or(NEVER);
     let due: Vec<usize> = (0..dues.len()).filter(|&cup| dues[cup] == tick).collect();
-    state.run.clock = tick;
-    state.run.next = first_later_command(plan, tick);
+    state.run.clocks.clock = tick;
+    state.run.clocks.next = first_later_command(plan, tick);
     let possible = tick <= plan.horizon && due.len() == 1;
     possible.then(|| (state, Clause::DueNotAhead(due[0])))
 }
@@ -224,7 +225,7 @@ fn output_beyond(rng: &mut Rng, state: RawState, cup: usize) -> Broken {
 
 fn position_outside(rng: &mut Rng, state: RawState, cup: usize) -> Broken {
     let mut state = moved_to_clock(&state);
-    let offset = state.plan.quanta[cup] + rng.pick(&[0, 1, 1_000]);
+    let offset = state.plan.integrators.quanta[cup] + rng.pick(&[0, 1, 1_000]);
     state.run.x[cup] = state.run.q[cup] + rng.pick(&[offset, -offset]);
     state.run.d[cup] = due_tick(&state.plan, &state.run, cup);
     (state, Clause::PositionOutsideLevels(cup))
@@ -242,15 +243,15 @@ fn change_due(rng: &mut Rng, mut state: RawState, cup: usize) -> Option<Broken> 
     let right = state.run.d[cup];
     let wrong = rng.pick(&[right.wrapping_add(1), right - 1, NEVER]);
     state.run.d[cup] = wrong;
-    let possible = wrong != right && wrong > state.run.clock;
+    let possible = wrong != right && wrong > state.run.clocks.clock;
     possible.then_some((state, Clause::Due(cup)))
 }
 
 fn input_beyond(rng: &mut Rng, state: RawState) -> Option<Broken> {
-    if state.plan.m == 0 {
+    if state.plan.counts.m == 0 {
         return None;
     }
-    let input = rng.below(state.plan.m);
+    let input = rng.below(state.plan.counts.m);
     let mut state = moved_to_clock(&state);
     state.run.inputs[input] = rng.pick(&[M + 1, -M - 1]);
     settle(&mut state);
@@ -258,7 +259,7 @@ fn input_beyond(rng: &mut Rng, state: RawState) -> Option<Broken> {
 }
 
 fn change_next(rng: &mut Rng, mut state: RawState) -> Broken {
-    let right = state.run.next;
-    state.run.next = rng.pick(&[right + 1, right.wrapping_sub(1), 65, usize::MAX]);
+    let right = state.run.clocks.next;
+    state.run.clocks.next = rng.pick(&[right + 1, right.wrapping_sub(1), 65, usize::MAX]);
     (state, Clause::NextCommand)
 }

@@ -7,7 +7,7 @@ use crate::limits::{
     NODES_MAX,
 };
 use crate::plan::{Plan, THRESHOLD};
-use crate::raw::{RawPlan, RawState};
+use crate::raw::{RawCounts, RawPlan, RawState};
 use crate::sound::table::first_command_after;
 use crate::sound::{as_kept, has_values, Array};
 
@@ -50,14 +50,14 @@ pub fn without_integrators(rng: &mut Rng) -> RawState {
     let mut state = RawState::idle();
     state.plan = RawPlan::from(&plan);
     (state.run.d[0], state.run.inputs[0]) = (0, plan.inputs[0]);
-    state.run.clock = rng.below(2) as u32;
-    state.run.next = first_command_after(&plan, state.run.clock);
+    state.run.clocks.clock = rng.below(2) as u32;
+    state.run.clocks.next = first_command_after(&plan, state.run.clocks.clock);
     state
 }
 
 fn change_field(rng: &mut Rng, state: &mut RawState) {
     match rng.below(16) {
-        0 => change_count(rng, &mut state.plan),
+        0 => change_count(rng, &mut state.plan.counts),
         1 | 2 => spoil(rng, state),
         3 => change_integrator(rng, state),
         4 => change_node(rng, &mut state.plan),
@@ -80,113 +80,116 @@ fn near(rng: &mut Rng, now: i64, limits: &[i64]) -> i64 {
     }
 }
 
-fn change_count(rng: &mut Rng, plan: &mut RawPlan) {
+fn change_count(rng: &mut Rng, counts: &mut RawCounts) {
     let (count, most) = match rng.below(5) {
-        0 => (&mut plan.n, INTEGRATORS_MAX),
-        1 => (&mut plan.m, INPUTS_MAX),
-        2 => (&mut plan.k, NODES_MAX),
-        3 => (&mut plan.links, LINKS_MAX),
-        _ => (&mut plan.commands, COMMANDS_MAX),
+        0 => (&mut counts.n, INTEGRATORS_MAX),
+        1 => (&mut counts.m, INPUTS_MAX),
+        2 => (&mut counts.k, NODES_MAX),
+        3 => (&mut counts.links, LINKS_MAX),
+        _ => (&mut counts.commands, COMMANDS_MAX),
     };
     *count = near(rng, *count as i64, &[0, most as i64]) as usize;
 }
 
 fn change_horizon_or_input(rng: &mut Rng, state: &mut RawState) {
     let plan = &mut state.plan;
-    if rng.once_in(2) || plan.m == 0 {
-        let last = plan.ticks[plan.commands.clamp(1, COMMANDS_MAX) - 1];
-        let limits = [0, HORIZON_MAX.into(), state.run.clock.into(), last.into()];
+    if rng.once_in(2) || plan.counts.m == 0 {
+        let last = plan.commands.ticks[plan.counts.commands.clamp(1, COMMANDS_MAX) - 1];
+        let clock = state.run.clocks.clock;
+        let limits = [0, HORIZON_MAX.into(), clock.into(), last.into()];
         plan.horizon = near(rng, plan.horizon.into(), &limits) as u32;
     } else {
-        let first = &mut plan.firsts[rng.below(plan.m.min(INPUTS_MAX))];
+        let first = &mut plan.inputs.firsts[rng.below(plan.counts.m.min(INPUTS_MAX))];
         *first = near(rng, *first, &[M, -M]);
     }
 }
 
 fn change_integrator(rng: &mut Rng, state: &mut RawState) {
-    let (plan, run) = (&mut state.plan, &state.run);
-    let i = some(rng, plan.n, INTEGRATORS_MAX);
+    let (integrators, run) = (&mut state.plan.integrators, &state.run);
+    let i = some(rng, state.plan.counts.n, INTEGRATORS_MAX);
     if rng.once_in(2) {
-        plan.starts[i] = near(rng, plan.starts[i], &[M, -M]);
+        integrators.starts[i] = near(rng, integrators.starts[i], &[M, -M]);
     } else {
         let offset = run.x[i].wrapping_sub(run.q[i]).wrapping_abs();
-        plan.quanta[i] = near(rng, plan.quanta[i], &[0, M, offset]);
+        integrators.quanta[i] = near(rng, integrators.quanta[i], &[0, M, offset]);
     }
 }
 
 fn change_node(rng: &mut Rng, plan: &mut RawPlan) {
-    let j = some(rng, plan.k, NODES_MAX);
-    let own = plan.n.wrapping_add(plan.m).wrapping_add(j) as i64;
+    let (counts, nodes) = (plan.counts, &mut plan.nodes);
+    let j = some(rng, counts.k, NODES_MAX);
+    let own = counts.n.wrapping_add(counts.m).wrapping_add(j) as i64;
     match rng.below(5) {
-        0 => plan.kinds[j] = near(rng, plan.kinds[j] as i64, &[0, 2, THRESHOLD as i64]) as usize,
-        1 => plan.lefts[j] = near(rng, plan.lefts[j] as i64, &[0, own]) as usize,
-        2 => plan.rights[j] = near(rng, plan.rights[j] as i64, &[0, own]) as usize,
-        3 => plan.lows[j] = near(rng, plan.lows[j], &[M, -M, 0, plan.highs[j]]),
-        _ => plan.highs[j] = near(rng, plan.highs[j], &[M, -M, 0, plan.lows[j]]),
+        0 => nodes.kinds[j] = near(rng, nodes.kinds[j] as i64, &[0, 2, THRESHOLD as i64]) as usize,
+        1 => nodes.a[j] = near(rng, nodes.a[j] as i64, &[0, own]) as usize,
+        2 => nodes.b[j] = near(rng, nodes.b[j] as i64, &[0, own]) as usize,
+        3 => nodes.lows[j] = near(rng, nodes.lows[j], &[M, -M, 0, nodes.highs[j]]),
+        _ => nodes.highs[j] = near(rng, nodes.highs[j], &[M, -M, 0, nodes.lows[j]]),
     }
 }
 
 fn change_link(rng: &mut Rng, plan: &mut RawPlan) {
-    let e = some(rng, plan.links, LINKS_MAX);
+    let (counts, links) = (plan.counts, &mut plan.links);
+    let e = some(rng, counts.links, LINKS_MAX);
     let beside = [e.saturating_sub(1), (e + 1).min(LINKS_MAX - 1)];
-    let targets = beside.map(|e| plan.targets[e] as i64);
-    let sources = beside.map(|e| plan.sources[e] as i64);
+    let targets = beside.map(|e| links.targets[e] as i64);
+    let sources = beside.map(|e| links.sources[e] as i64);
     match rng.below(4) {
         0 => {
-            let limits = [plan.n as i64, targets[0], targets[1]];
-            plan.targets[e] = near(rng, plan.targets[e] as i64, &limits) as usize;
+            let limits = [counts.n as i64, targets[0], targets[1]];
+            links.targets[e] = near(rng, links.targets[e] as i64, &limits) as usize;
         }
         1 => {
-            let all = plan.n.wrapping_add(plan.m).wrapping_add(plan.k) as i64;
+            let all = counts.n.wrapping_add(counts.m).wrapping_add(counts.k) as i64;
             let limits = [all, sources[0], sources[1]];
-            plan.sources[e] = near(rng, plan.sources[e] as i64, &limits) as usize;
+            links.sources[e] = near(rng, links.sources[e] as i64, &limits) as usize;
         }
         2 => {
             let limits = [0, COEFFICIENT_BOUND, -COEFFICIENT_BOUND];
-            plan.coefficients[e] = near(rng, plan.coefficients[e], &limits);
+            links.coefficients[e] = near(rng, links.coefficients[e], &limits);
         }
         _ => {
             // The keys of two links exchanged, or one repeated.
             let from = beside[rng.below(2)];
-            let keys = [e, from].map(|e| (plan.targets[e], plan.sources[e]));
-            (plan.targets[e], plan.sources[e]) = keys[1];
+            let keys = [e, from].map(|e| (links.targets[e], links.sources[e]));
+            (links.targets[e], links.sources[e]) = keys[1];
             if rng.once_in(2) {
-                (plan.targets[from], plan.sources[from]) = keys[0];
+                (links.targets[from], links.sources[from]) = keys[0];
             }
         }
     }
 }
 
 fn change_command(rng: &mut Rng, state: &mut RawState) {
-    let plan = &mut state.plan;
-    let e = some(rng, plan.commands, COMMANDS_MAX);
+    let (counts, commands) = (state.plan.counts, &mut state.plan.commands);
+    let e = some(rng, counts.commands, COMMANDS_MAX);
     let beside = [e.saturating_sub(1), (e + 1).min(COMMANDS_MAX - 1)];
     let from = beside[rng.below(2)];
     match rng.below(4) {
         0 => {
-            let near_ticks = beside.map(|e| i64::from(plan.ticks[e]));
-            let (horizon, clock) = (plan.horizon.into(), state.run.clock.into());
+            let near_ticks = beside.map(|e| i64::from(commands.ticks[e]));
+            let (horizon, clock) = (state.plan.horizon.into(), state.run.clocks.clock.into());
             let limits = [0, horizon, horizon, clock, near_ticks[0], near_ticks[1]];
-            plan.ticks[e] = near(rng, plan.ticks[e].into(), &limits) as u32;
+            commands.ticks[e] = near(rng, commands.ticks[e].into(), &limits) as u32;
         }
         1 => {
-            let limits = [plan.m as i64, plan.numbers[from] as i64];
-            plan.numbers[e] = near(rng, plan.numbers[e] as i64, &limits) as usize;
+            let limits = [counts.m as i64, commands.inputs[from] as i64];
+            commands.inputs[e] = near(rng, commands.inputs[e] as i64, &limits) as usize;
         }
-        2 => plan.values[e] = near(rng, plan.values[e], &[M, -M]),
+        2 => commands.values[e] = near(rng, commands.values[e], &[M, -M]),
         _ => {
-            plan.ticks[e] = plan.ticks[from];
-            plan.numbers[e] = plan.numbers[from];
+            commands.ticks[e] = commands.ticks[from];
+            commands.inputs[e] = commands.inputs[from];
         }
     }
 }
 
 fn change_cell(rng: &mut Rng, state: &mut RawState) {
     let (plan, run) = (&state.plan, &mut state.run);
-    let i = some(rng, plan.n, INTEGRATORS_MAX);
-    let (x, q, quantum) = (run.x[i], run.q[i], plan.quanta[i]);
+    let i = some(rng, plan.counts.n, INTEGRATORS_MAX);
+    let (x, q, quantum) = (run.x[i], run.q[i], plan.integrators.quanta[i]);
     let levels = |of: i64| [of.wrapping_add(quantum), of.wrapping_sub(quantum)];
-    let clock = i64::from(run.clock);
+    let clock = i64::from(run.clocks.clock);
     match rng.below(7) {
         0 | 1 => run.x[i] = near(rng, x, &[levels(q)[0], levels(q)[1], q]),
         2 => run.q[i] = near(rng, q, &[M, -M, levels(x)[0], levels(x)[1]]),
@@ -200,7 +203,7 @@ fn change_cell(rng: &mut Rng, state: &mut RawState) {
             ) as u32
         }
         _ => {
-            let input = &mut run.inputs[some(rng, plan.m, INPUTS_MAX)];
+            let input = &mut run.inputs[some(rng, plan.counts.m, INPUTS_MAX)];
             *input = near(rng, *input, &[M, -M]);
         }
     }
@@ -208,27 +211,28 @@ fn change_cell(rng: &mut Rng, state: &mut RawState) {
 
 fn change_counter(rng: &mut Rng, state: &mut RawState) {
     let (plan, run) = (&state.plan, &mut state.run);
-    let clock = i64::from(run.clock);
+    let clocks = &mut run.clocks;
+    let clock = i64::from(clocks.clock);
     match rng.below(4) {
         0 => {
-            let used = plan.n.min(INTEGRATORS_MAX);
+            let used = plan.counts.n.min(INTEGRATORS_MAX);
             let due = run.d[..used].iter().copied().min().unwrap_or(NEVER);
             let moved = run.l[..used].iter().copied().max().unwrap_or(0);
-            let tick = plan.ticks[run.next.min(COMMANDS_MAX - 1)];
+            let tick = plan.commands.ticks[clocks.next.min(COMMANDS_MAX - 1)];
             let limits = [plan.horizon, due, moved, tick].map(i64::from);
-            run.clock = near(rng, clock, &limits) as u32;
+            clocks.clock = near(rng, clock, &limits) as u32;
         }
         1 => {
-            let limits = [0, plan.commands as i64, run.next as i64];
-            run.next = near(rng, run.next as i64, &limits) as usize;
+            let limits = [0, plan.counts.commands as i64, clocks.next as i64];
+            clocks.next = near(rng, clocks.next as i64, &limits) as usize;
         }
         2 => {
-            let least = run.updates.div_ceil(plan.n.max(1) as u64);
-            run.instants = near(rng, run.instants as i64, &[0, clock, least as i64]) as u64;
+            let least = clocks.updates.div_ceil(plan.counts.n.max(1) as u64);
+            clocks.instants = near(rng, clocks.instants as i64, &[0, clock, least as i64]) as u64;
         }
         _ => {
-            let most = run.instants.wrapping_mul(plan.n as u64) as i64;
-            run.updates = near(rng, run.updates as i64, &[0, most]) as u64;
+            let most = clocks.instants.wrapping_mul(plan.counts.n as u64) as i64;
+            clocks.updates = near(rng, clocks.updates as i64, &[0, most]) as u64;
         }
     }
 }
@@ -241,22 +245,30 @@ fn some(rng: &mut Rng, used: usize, most: usize) -> usize {
 /// Sets an entry behind the used ones, if there are any.
 fn spoil(rng: &mut Rng, state: &mut RawState) {
     let (plan, run) = (&mut state.plan, &mut state.run);
-    let (n, m, k) = (plan.n, plan.m, plan.k);
+    let RawCounts {
+        n,
+        m,
+        k,
+        links,
+        commands,
+    } = plan.counts;
     match rng.pick(&Array::ALL) {
-        Array::Starts => set_unused(rng, &mut plan.starts, n, |word| word),
-        Array::Quanta => set_unused(rng, &mut plan.quanta, n, |word| word),
-        Array::Firsts => set_unused(rng, &mut plan.firsts, m, |word| word),
-        Array::Kinds => set_unused(rng, &mut plan.kinds, k, |word| word as usize),
-        Array::Lefts => set_unused(rng, &mut plan.lefts, k, |word| word as usize),
-        Array::Rights => set_unused(rng, &mut plan.rights, k, |word| word as usize),
-        Array::Lows => set_unused(rng, &mut plan.lows, k, |word| word),
-        Array::Highs => set_unused(rng, &mut plan.highs, k, |word| word),
-        Array::Targets => set_unused(rng, &mut plan.targets, plan.links, |word| word as usize),
-        Array::Sources => set_unused(rng, &mut plan.sources, plan.links, |word| word as usize),
-        Array::Coefficients => set_unused(rng, &mut plan.coefficients, plan.links, |word| word),
-        Array::Ticks => set_unused(rng, &mut plan.ticks, plan.commands, |word| word as u32),
-        Array::Numbers => set_unused(rng, &mut plan.numbers, plan.commands, |word| word as usize),
-        Array::Values => set_unused(rng, &mut plan.values, plan.commands, |word| word),
+        Array::Starts => set_unused(rng, &mut plan.integrators.starts, n, |word| word),
+        Array::Quanta => set_unused(rng, &mut plan.integrators.quanta, n, |word| word),
+        Array::Firsts => set_unused(rng, &mut plan.inputs.firsts, m, |word| word),
+        Array::Kinds => set_unused(rng, &mut plan.nodes.kinds, k, |word| word as usize),
+        Array::A => set_unused(rng, &mut plan.nodes.a, k, |word| word as usize),
+        Array::B => set_unused(rng, &mut plan.nodes.b, k, |word| word as usize),
+        Array::Lows => set_unused(rng, &mut plan.nodes.lows, k, |word| word),
+        Array::Highs => set_unused(rng, &mut plan.nodes.highs, k, |word| word),
+        Array::Targets => set_unused(rng, &mut plan.links.targets, links, |word| word as usize),
+        Array::Sources => set_unused(rng, &mut plan.links.sources, links, |word| word as usize),
+        Array::Coefficients => set_unused(rng, &mut plan.links.coefficients, links, |word| word),
+        Array::Ticks => set_unused(rng, &mut plan.commands.ticks, commands, |word| word as u32),
+        Array::CommandInputs => set_unused(rng, &mut plan.commands.inputs, commands, |word| {
+            word as usize
+        }),
+        Array::Values => set_unused(rng, &mut plan.commands.values, commands, |word| word),
         Array::X => set_unused(rng, &mut run.x, n, |word| word),
         Array::Q => set_unused(rng, &mut run.q, n, |word| word),
         Array::S => set_unused(rng, &mut run.s, n, |word| word),
@@ -312,8 +324,8 @@ fn due(kept: &State, i: usize) -> u32 {
 }
 
 fn set_next(state: &mut RawState) {
-    let used = state.plan.commands.min(COMMANDS_MAX);
-    let ticks = &state.plan.ticks[..used];
-    let first = ticks.iter().position(|&tick| tick > state.run.clock);
-    state.run.next = first.unwrap_or(used);
+    let used = state.plan.counts.commands.min(COMMANDS_MAX);
+    let ticks = &state.plan.commands.ticks[..used];
+    let first = ticks.iter().position(|&tick| tick > state.run.clocks.clock);
+    state.run.clocks.next = first.unwrap_or(used);
 }

@@ -5,7 +5,7 @@ use crate::limits::{M, NEVER};
 use crate::plain::due::ticks_to_level;
 use crate::plain::values;
 use crate::plan::Plan;
-use crate::raw::{RawPlan, RawRunning, RawState};
+use crate::raw::{RawCounts, RawPlan, RawRunning, RawState};
 
 /// A sound state of a lawful plan with any clock, outputs, positions, inputs and counts. Slopes
 /// and due ticks come from the plain machine's rules, not from the engines'.
@@ -20,13 +20,13 @@ pub fn sound_state(rng: &mut Rng, plan: &Plan) -> RawState {
     for input in 0..plan.inputs.len() {
         run.inputs[input] = rng.within(-bound, bound);
     }
-    run.clock = clock(rng, plan);
-    run.instants = rng.within(0, i64::from(run.clock)) as u64;
-    let most = run.instants as i64 * plan.integrators.len() as i64;
-    run.updates = rng.within(0, most) as u64;
-    run.next = first_later_command(plan, run.clock);
+    run.clocks.clock = clock(rng, plan);
+    run.clocks.instants = rng.within(0, i64::from(run.clocks.clock)) as u64;
+    let most = run.clocks.instants as i64 * plan.integrators.len() as i64;
+    run.clocks.updates = rng.within(0, most) as u64;
+    run.clocks.next = first_later_command(plan, run.clocks.clock);
     for i in 0..plan.integrators.len() {
-        run.l[i] = rng.within(0, i64::from(run.clock)) as u32;
+        run.l[i] = rng.within(0, i64::from(run.clocks.clock)) as u32;
     }
     settle(&mut state);
     move_the_overdue(&mut state);
@@ -35,16 +35,16 @@ pub fn sound_state(rng: &mut Rng, plan: &Plan) -> RawState {
 
 /// The same state at a later clock before its next instant, as if a clock had run on by itself.
 pub fn between_instants(rng: &mut Rng, state: &RawState) -> RawState {
-    let n = state.plan.n;
+    let n = state.plan.counts.n;
     let run = &state.run;
     let next_due = run.d[..n].iter().copied().min().unwrap_or(NEVER);
-    let next_command = match run.next < state.plan.commands {
-        true => state.plan.ticks[run.next],
+    let next_command = match run.clocks.next < state.plan.counts.commands {
+        true => state.plan.commands.ticks[run.clocks.next],
         false => NEVER,
     };
     let last = (next_due.min(next_command) - 1).min(state.plan.horizon);
     let mut later = state.clone();
-    later.run.clock = rng.within(i64::from(run.clock), i64::from(last)) as u32;
+    later.run.clocks.clock = rng.within(i64::from(run.clocks.clock), i64::from(last)) as u32;
     later
 }
 
@@ -52,9 +52,9 @@ pub fn between_instants(rng: &mut Rng, state: &RawState) -> RawState {
 pub fn moved_to_clock(state: &RawState) -> RawState {
     let mut moved = state.clone();
     let run = &mut moved.run;
-    for i in 0..state.plan.n {
-        run.x[i] += run.s[i] * i64::from(run.clock - run.l[i]);
-        run.l[i] = run.clock;
+    for i in 0..state.plan.counts.n {
+        run.x[i] += run.s[i] * i64::from(run.clocks.clock - run.l[i]);
+        run.l[i] = run.clocks.clock;
     }
     moved
 }
@@ -64,9 +64,10 @@ pub fn moved_to_clock(state: &RawState) -> RawState {
 pub fn settle(state: &mut RawState) {
     let plan = state.plan.to_plan().expect("counts within their limits");
     let run = &mut state.run;
-    let (outputs, inputs) = (&run.q[..state.plan.n], &run.inputs[..state.plan.m]);
+    let RawCounts { n, m, .. } = state.plan.counts;
+    let (outputs, inputs) = (&run.q[..n], &run.inputs[..m]);
     let sources = values::of_all_sources(&plan, outputs, inputs);
-    for i in 0..state.plan.n {
+    for i in 0..state.plan.counts.n {
         run.s[i] = values::slope(&plan, i, &sources);
         run.d[i] = due_tick(&state.plan, run, i);
     }
@@ -74,7 +75,7 @@ pub fn settle(state: &mut RawState) {
 
 /// The due tick of one integrator from its x, q, s and l.
 pub fn due_tick(plan: &RawPlan, run: &RawRunning, i: usize) -> u32 {
-    let ticks = ticks_to_level(run.x[i], run.q[i], plan.quanta[i], run.s[i]);
+    let ticks = ticks_to_level(run.x[i], run.q[i], plan.integrators.quanta[i], run.s[i]);
     ticks.map_or(NEVER, |ticks| run.l[i] + ticks as u32)
 }
 
@@ -99,9 +100,9 @@ fn clock(rng: &mut Rng, plan: &Plan) -> u32 {
 /// tick above it.
 pub fn move_the_overdue(state: &mut RawState) {
     let run = &mut state.run;
-    for i in 0..state.plan.n {
-        if run.d[i] <= run.clock {
-            run.l[i] = run.clock;
+    for i in 0..state.plan.counts.n {
+        if run.d[i] <= run.clocks.clock {
+            run.l[i] = run.clocks.clock;
             run.d[i] = due_tick(&state.plan, run, i);
         }
     }

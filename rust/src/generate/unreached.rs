@@ -68,21 +68,22 @@ fn reached(rng: &mut Rng, plan: &Plan) -> RawState {
 fn at_limits(rng: &mut Rng, plan: &Plan) -> RawState {
     let mut state = RawState::start(plan);
     let run = &mut state.run;
-    run.clock = notable_clock(rng, plan);
-    run.next = first_later_command(plan, run.clock);
+    let clock = notable_clock(rng, plan);
+    run.clocks.clock = clock;
+    run.clocks.next = first_later_command(plan, clock);
     for (i, integrator) in plan.integrators.iter().enumerate() {
         let furthest = integrator.quantum - 1;
         run.q[i] = notable_value(rng);
         run.x[i] = run.q[i] + rng.pick(&[0, furthest, -furthest, furthest / 2]);
-        run.l[i] = rng.pick(&[0, run.clock, run.clock, run.clock.saturating_sub(1)]);
+        run.l[i] = rng.pick(&[0, clock, clock, clock.saturating_sub(1)]);
     }
     for input in 0..plan.inputs.len() {
         run.inputs[input] = notable_value(rng);
     }
-    let clock = u64::from(run.clock);
-    run.instants = rng.pick(&[0, 1.min(clock), clock, clock.saturating_sub(1)]);
-    let most = run.instants * plan.integrators.len() as u64;
-    run.updates = rng.pick(&[0, run.instants, most, most.saturating_sub(1)]);
+    let clock = u64::from(clock);
+    run.clocks.instants = rng.pick(&[0, 1.min(clock), clock, clock.saturating_sub(1)]);
+    let most = run.clocks.instants * plan.integrators.len() as u64;
+    run.clocks.updates = rng.pick(&[0, run.clocks.instants, most, most.saturating_sub(1)]);
     settle(&mut state);
     move_the_overdue(&mut state);
     state
@@ -109,11 +110,11 @@ fn notable_clock(rng: &mut Rng, plan: &Plan) -> u32 {
 /// are.
 fn due_together(rng: &mut Rng, plan: &Plan) -> RawState {
     let mut state = sound_state(rng, plan);
-    let clock = state.run.clock;
+    let clock = state.run.clocks.clock;
     if clock == plan.horizon {
         return state;
     }
-    let tick = match plan.commands.get(state.run.next) {
+    let tick = match plan.commands.get(state.run.clocks.next) {
         Some(command) if rng.once_in(2) => command.tick,
         _ => clock + 1 + rng.below(3) as u32,
     };
@@ -129,9 +130,10 @@ fn due_together(rng: &mut Rng, plan: &Plan) -> RawState {
 /// allows it.
 fn put_due_at(rng: &mut Rng, state: &mut RawState, i: usize, tick: u32) {
     let (plan, run) = (&state.plan, &mut state.run);
-    let (slope, quantum) = (run.s[i], plan.quanta[i]);
+    let (slope, quantum) = (run.s[i], plan.integrators.quanta[i]);
     let before = (run.x[i], run.l[i]);
-    run.l[i] = run.clock - run.clock.min(rng.below(3) as u32);
+    let clock = run.clocks.clock;
+    run.l[i] = clock - clock.min(rng.below(3) as u32);
     let way = i128::from(slope) * i128::from(tick - run.l[i]);
     if slope == 0 {
         return;

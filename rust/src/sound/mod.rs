@@ -16,7 +16,7 @@ use crate::file::rules;
 use crate::file::Refusal;
 use crate::limits::Section;
 use crate::plan::{Link, Node, Plan, LIMIT, THRESHOLD};
-use crate::raw::{RawPlan, RawState};
+use crate::raw::{RawCounts, RawState};
 use std::borrow::Cow;
 
 /// A clause that a state breaks, with the integrator or input where there is one.
@@ -101,38 +101,29 @@ fn within_counts<'r>(table: &Soundness, raw: &'r RawState) -> Option<(Cow<'r, Ra
         d: run.d[i],
     };
     let state = State {
-        cells: (0..counted.plan.n).map(cell).collect(),
-        inputs: run.inputs[..counted.plan.m].to_vec(),
-        clock: run.clock,
-        next: run.next,
-        instants: run.instants,
-        updates: run.updates,
+        cells: (0..counted.plan.counts.n).map(cell).collect(),
+        inputs: run.inputs[..counted.plan.counts.m].to_vec(),
+        clock: run.clocks.clock,
+        next: run.clocks.next,
+        instants: run.clocks.instants,
+        updates: run.clocks.updates,
         plan,
     };
     Some((counted, state))
 }
 
 fn with_counts<'r>(table: &Soundness, raw: &'r RawState) -> Option<Cow<'r, RawState>> {
-    let plan = &raw.plan;
-    let counts = [plan.n, plan.m, plan.k, plan.links, plan.commands];
-    let mut used = counts;
+    let mut used = raw.plan.counts.by_section();
     for (section, count) in Section::ALL.into_iter().zip(&mut used) {
         *count = (table.count)(section, *count)?;
     }
-    if used == counts {
+    let used = RawCounts::of_sections(used);
+    if used == raw.plan.counts {
         return Some(Cow::Borrowed(raw));
     }
-    let [n, m, k, links, commands] = used;
-    let plan = RawPlan {
-        n,
-        m,
-        k,
-        links,
-        commands,
-        ..plan.clone()
-    };
-    let run = raw.run.clone();
-    Some(Cow::Owned(RawState { plan, run }))
+    let mut counted = raw.clone();
+    counted.plan.counts = used;
+    Some(Cow::Owned(counted))
 }
 
 fn broken_in(table: &Soundness, raw: &RawState, state: &State) -> Vec<Clause> {

@@ -57,7 +57,7 @@ impl<'a> Listed<'a> {
     pub fn wrong(&self, name: &str) -> Declaration {
         Declaration::Theorem {
             name: name.to_string(),
-            cases: vec![self.growth_case(self.played.end().run.updates + 1)],
+            cases: vec![self.growth_case(self.played.end().run.clocks.updates + 1)],
         }
     }
 
@@ -152,7 +152,7 @@ impl<'a> Listed<'a> {
             nat_case(&format!("plainIntegrator {p} {last}"), integrator),
             nat_case(&format!("statusOf {p} {end}"), number),
             nat_case(&format!("integratorOf {p} {end}"), integrator),
-            self.growth_case(self.played.end().run.updates),
+            self.growth_case(self.played.end().run.clocks.updates),
             nat_case(&format!("movedNow {p} {end}"), self.moved_last()),
         ]
     }
@@ -169,7 +169,8 @@ impl<'a> Listed<'a> {
     /// "The number of integrators with l = c."
     fn moved_last(&self) -> u64 {
         let RawState { plan, run } = self.played.end();
-        run.l[..plan.n].iter().filter(|&&l| l == run.clock).count() as u64
+        let used = run.l[..plan.counts.n].iter();
+        used.filter(|&&l| l == run.clocks.clock).count() as u64
     }
 
     /// What each call answers that is made from the state before the last call: the last, and the
@@ -208,7 +209,7 @@ impl<'a> Listed<'a> {
                 int_case(&format!("{computed} .value"), answer.value),
             ]
         };
-        (0..=end.plan.n).flat_map(positioned).collect()
+        (0..=end.plan.counts.n).flat_map(positioned).collect()
     }
 
     /// The plan writer with a buffer of the file's length, and with one that is a byte too short.

@@ -140,6 +140,6 @@ fn list_by(seed: u64, family: Family, status: u32) -> Option<(Plan, Played)> {
     let list = short_list(&mut rng, &plan);
     let played = Played::of(&loaded(&plan), list);
     let (last, _) = played.answers.last()?;
-    let enough = played.end().run.instants >= LEAST_INSTANTS && last.status == status;
+    let enough = played.end().run.clocks.instants >= LEAST_INSTANTS && last.status == status;
     enough.then_some((plan, played))
 }

@@ -133,20 +133,20 @@ fn spoiled() -> Vec<Named> {
 /// Numbers at the ends of their types, the five counts first: nothing may be asked of so many
 /// entries.
 const WILD: [fn(&mut RawState); 14] = [
-    |state| state.plan.n = usize::MAX,
-    |state| state.plan.m = usize::MAX,
-    |state| state.plan.k = usize::MAX,
-    |state| state.plan.links = usize::MAX,
-    |state| state.plan.commands = usize::MAX,
+    |state| state.plan.counts.n = usize::MAX,
+    |state| state.plan.counts.m = usize::MAX,
+    |state| state.plan.counts.k = usize::MAX,
+    |state| state.plan.counts.links = usize::MAX,
+    |state| state.plan.counts.commands = usize::MAX,
     |state| state.run.x[0] = i64::MIN,
     |state| state.run.x[1] = i64::MAX,
     |state| state.run.q[0] = i64::MIN,
     |state| state.run.s[1] = i64::MIN,
     |state| state.run.inputs[0] = i64::MAX,
-    |state| state.run.clock = u32::MAX,
-    |state| state.run.next = usize::MAX,
-    |state| state.run.instants = u64::MAX,
-    |state| state.run.updates = u64::MAX,
+    |state| state.run.clocks.clock = u32::MAX,
+    |state| state.run.clocks.next = usize::MAX,
+    |state| state.run.clocks.instants = u64::MAX,
+    |state| state.run.clocks.updates = u64::MAX,
 ];
 
 fn wild() -> Vec<Named> {

@@ -30,20 +30,20 @@ pub fn every_section() -> Plan {
 
 /// An unused entry of each array of the plan set, for a plan as small as document 01's cup.
 const SPOIL_PLAN: [fn(&mut RawPlan); 14] = [
-    |plan| plan.starts[31] = 1,
-    |plan| plan.quanta[2] = 1,
-    |plan| plan.firsts[1] = -1,
-    |plan| plan.kinds[0] = 1,
-    |plan| plan.lefts[15] = 1,
-    |plan| plan.rights[0] = 1,
-    |plan| plan.lows[3] = -1,
-    |plan| plan.highs[0] = 1,
-    |plan| plan.targets[2] = 1,
-    |plan| plan.sources[255] = 1,
-    |plan| plan.coefficients[2] = 1,
-    |plan| plan.ticks[63] = 1,
-    |plan| plan.numbers[1] = 1,
-    |plan| plan.values[1] = 1,
+    |plan| plan.integrators.starts[31] = 1,
+    |plan| plan.integrators.quanta[2] = 1,
+    |plan| plan.inputs.firsts[1] = -1,
+    |plan| plan.nodes.kinds[0] = 1,
+    |plan| plan.nodes.a[15] = 1,
+    |plan| plan.nodes.b[0] = 1,
+    |plan| plan.nodes.lows[3] = -1,
+    |plan| plan.nodes.highs[0] = 1,
+    |plan| plan.links.targets[2] = 1,
+    |plan| plan.links.sources[255] = 1,
+    |plan| plan.links.coefficients[2] = 1,
+    |plan| plan.commands.ticks[63] = 1,
+    |plan| plan.commands.inputs[1] = 1,
+    |plan| plan.commands.values[1] = 1,
 ];
 
 /// The same for the running part.

@@ -49,7 +49,7 @@ pub fn loaded(plan: &Plan) -> RawState {
 
 /// A run with a buffer of exactly the length asked for; also the bytes written.
 pub fn run(engine: Engine, state: &RawState, budget: u64) -> (Ran, Vec<u8>) {
-    let events = budget as usize * (state.plan.n + state.plan.m);
+    let events = budget as usize * state.plan.counts.events_per_instant();
     let mut buffer = vec![MARK; events * EVENT_BYTES];
     let ran = CHECKER.run(engine, state, budget, &mut buffer);
     assert_eq!(ran.number, 0);

@@ -127,10 +127,10 @@ fn running(run: &RawRunning) -> String {
         words(&run.l),
         words(&run.d),
         ints(&run.inputs),
-        run.clock,
-        run.next,
-        run.instants,
-        run.updates
+        run.clocks.clock,
+        run.clocks.next,
+        run.clocks.instants,
+        run.clocks.updates
     )
 }
 
@@ -141,25 +141,25 @@ fn plan(plan: &RawPlan) -> String {
          kinds = {}; lefts = {}; rights = {}; lows = {}; highs = {}; targets = {}; sources = {}; coefficients = {}; \
          ticks = {}; numbers = {}; values = {} }})",
         plan.horizon,
-        plan.n,
-        plan.m,
-        plan.k,
-        plan.links,
-        plan.commands,
-        ints(&plan.starts),
-        ints(&plan.quanta),
-        ints(&plan.firsts),
-        sizes(&plan.kinds),
-        sizes(&plan.lefts),
-        sizes(&plan.rights),
-        ints(&plan.lows),
-        ints(&plan.highs),
-        sizes(&plan.targets),
-        sizes(&plan.sources),
-        ints(&plan.coefficients),
-        words(&plan.ticks),
-        sizes(&plan.numbers),
-        ints(&plan.values)
+        plan.counts.n,
+        plan.counts.m,
+        plan.counts.k,
+        plan.counts.links,
+        plan.counts.commands,
+        ints(&plan.integrators.starts),
+        ints(&plan.integrators.quanta),
+        ints(&plan.inputs.firsts),
+        sizes(&plan.nodes.kinds),
+        sizes(&plan.nodes.a),
+        sizes(&plan.nodes.b),
+        ints(&plan.nodes.lows),
+        ints(&plan.nodes.highs),
+        sizes(&plan.links.targets),
+        sizes(&plan.links.sources),
+        ints(&plan.links.coefficients),
+        words(&plan.commands.ticks),
+        sizes(&plan.commands.inputs),
+        ints(&plan.commands.values)
     )
 }
 

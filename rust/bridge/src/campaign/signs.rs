@@ -19,11 +19,11 @@ impl Signs {
     /// Counts the signs of a sound state.
     pub fn count(&mut self, state: &RawState) {
         let run = &state.run;
-        self.clock_alone += u64::from(run.clock > 0 && run.instants == 0);
+        self.clock_alone += u64::from(run.clocks.clock > 0 && run.clocks.instants == 0);
         let changed_alone = |input: usize| {
-            run.inputs[input] != state.plan.firsts[input] && !is_commanded(state, input)
+            run.inputs[input] != state.plan.inputs.firsts[input] && !is_commanded(state, input)
         };
-        self.input_alone += u64::from((0..state.plan.m).any(changed_alone));
+        self.input_alone += u64::from((0..state.plan.counts.m).any(changed_alone));
     }
 
     /// Each sign and how often it was met.
@@ -44,8 +44,8 @@ impl Signs {
 
 /// Whether a command of this input has a tick up to the clock.
 fn is_commanded(state: &RawState, input: usize) -> bool {
-    let plan = &state.plan;
-    let commands = 0..plan.commands;
-    let mut past = commands.filter(|&e| plan.ticks[e] <= state.run.clock);
-    past.any(|e| plan.numbers[e] == input)
+    let commands = &state.plan.commands;
+    let numbers = 0..state.plan.counts.commands;
+    let mut past = numbers.filter(|&e| commands.ticks[e] <= state.run.clocks.clock);
+    past.any(|e| commands.inputs[e] == input)
 }

@@ -105,7 +105,7 @@ impl Met {
         self.numbers[loaded.number as usize] += 1;
         if loaded.number == 0 {
             *self.families.entry(origin.to_string()).or_default() += 1;
-            let dues = &loaded.state.run.d[..loaded.state.plan.n];
+            let dues = &loaded.state.run.d[..loaded.state.plan.counts.n];
             let never = |due: &u32| *due == cup_check::limits::NEVER;
             self.due[0] += u64::from(!dues.iter().all(never));
             self.due[1] += u64::from(dues.iter().any(never));

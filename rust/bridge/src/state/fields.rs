@@ -48,7 +48,7 @@ impl<T: Words, const N: usize> Words for [T; N] {
 /// One field of a state.
 #[derive(Clone, Debug, PartialEq, Eq)]
 pub struct Field {
-    /// Its name, with that of the part: `plan.starts`.
+    /// Its name, with those of the structs that it stands in: `plan.integrators.starts`.
     pub name: &'static str,
     /// Where it starts in the struct.
     pub offset: usize,
@@ -67,34 +67,62 @@ fn field<T: Words>(name: &'static str, offset: usize, value: &T) -> Field {
     }
 }
 
-/// Hands every field to a macro that is given the state and the two names.
+/// Hands the path of every field, in the header's order, to a macro that is given the state too.
 macro_rules! each_field {
-    ($one:ident, $state:expr, $($part:ident: $($field:ident)+;)+) => {
-        [$($($one!($state, $part, $field)),+),+]
+    ($one:ident, $state:expr, $($part:ident $(. $name:ident)+,)+) => {
+        [$($one!($state, $part $(. $name)+)),+]
     };
     ($one:ident, $state:expr) => {
         each_field!(
-            $one, $state,
-            plan: horizon n m k links commands starts quanta firsts kinds lefts rights lows highs
-                targets sources coefficients ticks numbers values;
-            run: x q s l d inputs clock next instants updates;
+            $one,
+            $state,
+            plan.horizon,
+            plan.counts.n,
+            plan.counts.m,
+            plan.counts.k,
+            plan.counts.links,
+            plan.counts.commands,
+            plan.integrators.starts,
+            plan.integrators.quanta,
+            plan.inputs.firsts,
+            plan.nodes.kinds,
+            plan.nodes.a,
+            plan.nodes.b,
+            plan.nodes.lows,
+            plan.nodes.highs,
+            plan.links.targets,
+            plan.links.sources,
+            plan.links.coefficients,
+            plan.commands.ticks,
+            plan.commands.inputs,
+            plan.commands.values,
+            run.x,
+            run.q,
+            run.s,
+            run.l,
+            run.d,
+            run.inputs,
+            run.clocks.clock,
+            run.clocks.next,
+            run.clocks.instants,
+            run.clocks.updates,
         )
     };
 }
 
 macro_rules! named {
-    ($state:expr, $part:ident, $field:ident) => {
+    ($state:expr, $part:ident $(. $name:ident)+) => {
         field(
-            concat!(stringify!($part), ".", stringify!($field)),
-            offset_of!(State, $part.$field),
-            &$state.$part.$field,
+            concat!(stringify!($part), $(".", stringify!($name)),+),
+            offset_of!(State, $part $(. $name)+),
+            &$state.$part $(. $name)+,
         )
     };
 }
 
 macro_rules! as_words {
-    ($state:expr, $part:ident, $field:ident) => {
-        &mut $state.$part.$field as &mut dyn Fill
+    ($state:expr, $part:ident $(. $name:ident)+) => {
+        &mut $state.$part $(. $name)+ as &mut dyn Fill
     };
 }
 

@@ -1,43 +1,105 @@
 //! The structs of include/cup.h, field for field, and the second simulator's state as one of them.
 //!
-//! The fields and their order are those of the header. `bridge/tests/echo.rs` compares size and place
-//! of every field with what a program in C says of the header.
+//! The fields and their order are those of the header. `bridge/tests/layout.rs` fixes size and place of
+//! every field, here and in the header; `bridge/tests/echo.rs` compares the two.
 
 mod fields;
 
 pub use fields::{Field, Words};
 
 use cup_check::limits::{COMMANDS_MAX, INPUTS_MAX, INTEGRATORS_MAX, LINKS_MAX, NODES_MAX};
-use cup_check::raw::{RawPlan, RawRunning, RawState};
+use cup_check::raw::{
+    RawClocks, RawCommands, RawCounts, RawInputs, RawIntegrators, RawLinks, RawNodes, RawPlan,
+    RawRunning, RawState,
+};
 
 /// Entries of a table by source number. A plan has at most 56 sources.
 pub const TABLE_SOURCES: usize = 64;
 
-/// `CupPlan`: what the plan file says, with 0 in unused entries.
-#[derive(Clone, Debug, PartialEq, Eq)]
+/// `CupCounts`: how many entries each section of a plan has.
+#[derive(Clone, Copy, Debug, PartialEq, Eq)]
 #[repr(C)]
 #[allow(missing_docs)] // The fields carry the header's names.
-pub struct Plan {
-    pub horizon: u32,
+pub struct Counts {
     pub n: usize,
     pub m: usize,
     pub k: usize,
     pub links: usize,
     pub commands: usize,
+}
+
+/// `CupIntegrators`.
+#[derive(Clone, Debug, PartialEq, Eq)]
+#[repr(C)]
+#[allow(missing_docs)]
+pub struct Integrators {
     pub starts: [i64; INTEGRATORS_MAX],
     pub quanta: [i64; INTEGRATORS_MAX],
+}
+
+/// `CupInputs`.
+#[derive(Clone, Debug, PartialEq, Eq)]
+#[repr(C)]
+#[allow(missing_docs)]
+pub struct Inputs {
     pub firsts: [i64; INPUTS_MAX],
+}
+
+/// `CupNodes`; `a` and `b` are source numbers.
+#[derive(Clone, Debug, PartialEq, Eq)]
+#[repr(C)]
+#[allow(missing_docs)]
+pub struct Nodes {
     pub kinds: [usize; NODES_MAX],
-    pub lefts: [usize; NODES_MAX],
-    pub rights: [usize; NODES_MAX],
+    pub a: [usize; NODES_MAX],
+    pub b: [usize; NODES_MAX],
     pub lows: [i64; NODES_MAX],
     pub highs: [i64; NODES_MAX],
+}
+
+/// `CupLinks`.
+#[derive(Clone, Debug, PartialEq, Eq)]
+#[repr(C)]
+#[allow(missing_docs)]
+pub struct Links {
     pub targets: [usize; LINKS_MAX],
     pub sources: [usize; LINKS_MAX],
     pub coefficients: [i64; LINKS_MAX],
+}
+
+/// `CupCommands`; `inputs` are input numbers, counted from 0.
+#[derive(Clone, Debug, PartialEq, Eq)]
+#[repr(C)]
+#[allow(missing_docs)]
+pub struct Commands {
     pub ticks: [u32; COMMANDS_MAX],
-    pub numbers: [usize; COMMANDS_MAX],
+    pub inputs: [usize; COMMANDS_MAX],
     pub values: [i64; COMMANDS_MAX],
+}
+
+/// `CupPlan`: what the plan file says, with 0 in unused entries.
+#[derive(Clone, Debug, PartialEq, Eq)]
+#[repr(C)]
+#[allow(missing_docs)]
+pub struct Plan {
+    pub horizon: u32,
+    pub counts: Counts,
+    pub integrators: Integrators,
+    pub inputs: Inputs,
+    pub nodes: Nodes,
+    pub links: Links,
+    pub commands: Commands,
+}
+
+/// `CupClocks`: the clock, the next command, instants and updates.
+#[derive(Clone, Copy, Debug, PartialEq, Eq)]
+#[repr(C)]
+#[allow(missing_docs)]
+pub struct Clocks {
+    pub clock: u32,
+    pub next: usize,
+    pub instants: u64,
+    pub updates: u64,
 }
 
 /// `CupRunning`: how far the plan has run.
@@ -51,10 +113,7 @@ pub struct Running {
     pub l: [u32; INTEGRATORS_MAX],
     pub d: [u32; INTEGRATORS_MAX],
     pub inputs: [i64; INPUTS_MAX],
-    pub clock: u32,
-    pub next: usize,
-    pub instants: u64,
-    pub updates: u64,
+    pub clocks: Clocks,
 }
 
 /// `CupState`, which may hold any numbers.
@@ -141,64 +200,31 @@ impl Tables {
     };
 }
 
-/// Conversions by the fields' names, so that no two can be exchanged on the way.
+/// Conversions by the fields' names, so that no two can be exchanged on the way. The first list has
+/// the fields that are numbers or arrays, the second those that are structs.
 macro_rules! same_fields {
-    ($mirror:ident, $raw:ident, $($field:ident),+) => {
+    ($mirror:ident, $raw:ident, [$($field:ident)*], [$($part:ident)*]) => {
         impl From<&$raw> for $mirror {
             fn from(raw: &$raw) -> $mirror {
-                $mirror { $($field: raw.$field),+ }
+                $mirror { $($field: raw.$field,)* $($part: (&raw.$part).into(),)* }
             }
         }
 
         impl From<&$mirror> for $raw {
             fn from(mirror: &$mirror) -> $raw {
-                $raw { $($field: mirror.$field),+ }
+                $raw { $($field: mirror.$field,)* $($part: (&mirror.$part).into(),)* }
             }
         }
     };
 }
 
-same_fields!(
-    Plan,
-    RawPlan,
-    horizon,
-    n,
-    m,
-    k,
-    links,
-    commands,
-    starts,
-    quanta,
-    firsts,
-    kinds,
-    lefts,
-    rights,
-    lows,
-    highs,
-    targets,
-    sources,
-    coefficients,
-    ticks,
-    numbers,
-    values
-);
-
-same_fields!(Running, RawRunning, x, q, s, l, d, inputs, clock, next, instants, updates);
-
-impl From<&RawState> for State {
-    fn from(raw: &RawState) -> State {
-        State {
-            plan: Plan::from(&raw.plan),
-            run: Running::from(&raw.run),
-        }
-    }
-}
-
-impl From<&State> for RawState {
-    fn from(state: &State) -> RawState {
-        RawState {
-            plan: RawPlan::from(&state.plan),
-            run: RawRunning::from(&state.run),
-        }
-    }
-}
+same_fields!(Counts, RawCounts, [n m k links commands], []);
+same_fields!(Integrators, RawIntegrators, [starts quanta], []);
+same_fields!(Inputs, RawInputs, [firsts], []);
+same_fields!(Nodes, RawNodes, [kinds a b lows highs], []);
+same_fields!(Links, RawLinks, [targets sources coefficients], []);
+same_fields!(Commands, RawCommands, [ticks inputs values], []);
+same_fields!(Plan, RawPlan, [horizon], [counts integrators inputs nodes links commands]);
+same_fields!(Clocks, RawClocks, [clock next instants updates], []);
+same_fields!(Running, RawRunning, [x q s l d inputs], [clocks]);
+same_fields!(State, RawState, [], [plan run]);

@@ -166,7 +166,8 @@ impl Faulty {
     /// The answer of an accepted run, spoilt.
     fn spoil_accepted(&self, asked: &Asked, ran: &mut Ran, buffer: &mut [u8]) {
         let (before, room) = (asked.state, buffer.len());
-        let taken = ran.state.run.instants - before.run.instants;
+        let n = before.plan.counts.n;
+        let taken = ran.state.run.clocks.instants - before.run.clocks.instants;
         let asks = (asked.budget as usize).saturating_mul(asked.instant_bytes());
         match self.fault {
             Fault::FinishedBeforehand => *ran = beforehand(before, 1),
@@ -177,7 +178,7 @@ impl Faulty {
                 (ran.status, ran.integrator) = (entry.status, entry.integrator);
             }
             Fault::RangeWithoutIntegrator => ran.integrator = 0,
-            Fault::IntegratorOfFinished if ran.status == 1 => ran.integrator = before.plan.n - 1,
+            Fault::IntegratorOfFinished if ran.status == 1 => ran.integrator = n - 1,
             Fault::ZeroBudgetIsPaused if asked.budget == 0 => (ran.status, ran.integrator) = (0, 0),
             Fault::WrittenIsRoom => ran.written = room,
             Fault::LaterBytesCleared => buffer[ran.written..].fill(0),
@@ -195,22 +196,23 @@ impl Faulty {
 
     /// The state that an accepted run returns, spoilt.
     fn spoil_state(&self, asked: &Asked, state: &mut RawState) {
-        let (before, n) = (asked.state, state.plan.n);
+        let (before, n) = (asked.state, state.plan.counts.n);
         let run = &mut state.run;
-        let taken = run.instants - before.run.instants;
+        let (former, clocks) = (before.run.clocks, &mut run.clocks);
+        let taken = clocks.instants - former.instants;
         match self.fault {
-            Fault::InventedCount => run.updates = run.instants,
-            Fault::CountOfEagerRuns => run.updates = before.run.updates + taken * n as u64,
+            Fault::InventedCount => clocks.updates = clocks.instants,
+            Fault::CountOfEagerRuns => clocks.updates = former.updates + taken * n as u64,
             Fault::CountOfLastInstant if taken > 0 => {
-                let moved = run.l[..n].iter().filter(|&&l| l == run.clock).count();
-                run.updates = before.run.updates + moved as u64;
+                let moved = run.l[..n].iter().filter(|&&l| l == clocks.clock).count();
+                clocks.updates = former.updates + moved as u64;
             }
-            Fault::InstantsOfBudget => run.instants = before.run.instants + asked.budget,
-            Fault::ClockRunsOn if taken < asked.budget => run.clock = state.plan.horizon,
+            Fault::InstantsOfBudget => clocks.instants = former.instants + asked.budget,
+            Fault::ClockRunsOn if taken < asked.budget => clocks.clock = state.plan.horizon,
             Fault::PositionsMovedToClock => *state = moved_to_clock(state),
             // The same lines, stated at the tick before the clock: neither positions nor l = c tell it.
             Fault::UnmovedStatedLater if taken > 0 => {
-                let (last, after_l) = (run.clock - 1, run.l);
+                let (last, after_l) = (clocks.clock - 1, run.l);
                 for i in (0..n).filter(|&i| after_l[i] <= last) {
                     run.x[i] += run.s[i] * i64::from(last - run.l[i]);
                     run.l[i] = last;
@@ -230,7 +232,7 @@ impl Faulty {
                 *ran = Archive.run(asked.engine, before, asked.budget, &mut longer);
             }
             Fault::BufferOfIntegratorsAlone if number == SHORT_RUN_BUFFER => {
-                let needed = asked.budget as usize * before.plan.n * EVENT_BYTES;
+                let needed = asked.budget as usize * before.plan.counts.n * EVENT_BYTES;
                 if buffer.len() >= needed {
                     let mut longer = vec![0; asked.budget as usize * asked.instant_bytes()];
                     *ran = Archive.run(asked.engine, before, asked.budget, &mut longer);
@@ -244,7 +246,7 @@ impl Faulty {
             Fault::DeclineWrites if !empty => buffer[0] ^= 1,
             Fault::DeclineKeepsStatus => ran.status = 1,
             Fault::DeclineGivesIdle => ran.state = RawState::idle(),
-            Fault::DeclineForgetsUpdates => ran.state.run.updates = 0,
+            Fault::DeclineForgetsUpdates => ran.state.run.clocks.updates = 0,
             _ => (),
         }
     }
@@ -260,8 +262,9 @@ struct Asked<'a> {
 impl Asked<'_> {
     /// The bytes of an instant; of an unsound state whatever its counts say.
     fn instant_bytes(&self) -> usize {
-        let plan = &self.state.plan;
-        plan.n.wrapping_add(plan.m).wrapping_mul(EVENT_BYTES).max(1)
+        let counts = self.state.plan.counts;
+        let events = counts.n.wrapping_add(counts.m);
+        events.wrapping_mul(EVENT_BYTES).max(1)
     }
 }
 
@@ -324,7 +327,7 @@ impl Simulator for Faulty {
         }
         let disturbed = self.after_unsound.replace(ran.number == UNSOUND);
         if disturbed && self.fault == Fault::DisturbedByUnsound && ran.number == 0 {
-            ran.state.run.updates = 0;
+            ran.state.run.clocks.updates = 0;
         }
         ran
     }
@@ -335,7 +338,7 @@ impl Simulator for Faulty {
             _ => integrator,
         };
         let mut answer = Archive.position(state, asked);
-        let (run, n, i) = (&state.run, state.plan.n, integrator);
+        let (run, n, i) = (&state.run, state.plan.counts.n, integrator);
         match (self.fault, answer.number) {
             (Fault::StoredPosition, 0) => answer.value = run.x[i],
             (Fault::PositionAtNextTick, 0) => answer.value += run.s[i],

@@ -55,15 +55,15 @@ fn print_speeds(plans: &[(String, Plan)]) {
                 calls: (INSTANTS / budget) as usize,
             };
             let end = start.agreed(course);
-            let run = &end.state.run;
-            assert_eq!((end.status, run.instants), (0, INSTANTS));
+            let clocks = &end.state.run.clocks;
+            assert_eq!((end.status, clocks.instants), (0, INSTANTS));
             let taken = timed(&start, course);
             let each = |sum: f64| sum / INSTANTS as f64;
-            let (moved, events) = (each(run.updates as f64), each(end.events_count() as f64));
+            let (moved, events) = (each(clocks.updates as f64), each(end.events_count() as f64));
             let what = format!(
                 "{name}, {budget}; {}; {moved:.2}, {events:.2}; {}",
                 plan.links.len(),
-                run.clock
+                clocks.clock
             );
             print_line(taken, taken.map(|ns| INSTANTS as f64 * 1e6 / ns), 0, &what);
         }
@@ -100,13 +100,16 @@ fn print_chains() {
         let budget = BUDGET_MAX;
         let course = Course { budget, calls: 10 };
         let end = start.agreed(course);
-        let run = &end.state.run;
+        let clocks = &end.state.run.clocks;
         assert_eq!(end.status, 1);
         let taken = timed(&start, course);
-        let calls = run.instants / budget + 1;
-        let each = |sum: f64| sum / run.instants as f64;
-        let (moved, events) = (each(run.updates as f64), each(end.events_count() as f64));
-        let what = format!("{cups}; {}; {calls}; {moved:.2}, {events:.2}", run.instants);
+        let calls = clocks.instants / budget + 1;
+        let each = |sum: f64| sum / clocks.instants as f64;
+        let (moved, events) = (each(clocks.updates as f64), each(end.events_count() as f64));
+        let what = format!(
+            "{cups}; {}; {calls}; {moved:.2}, {events:.2}",
+            clocks.instants
+        );
         print_line(taken, taken.map(|ns| ns / 1e3), 1, &what);
     }
 }

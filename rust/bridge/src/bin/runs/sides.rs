@@ -174,11 +174,11 @@ fn collected(side: impl FnOnce(Events) -> (u32, RawState)) -> End {
 /// An eager state with the l, the x and the updates of a lazy one.
 fn as_lazy(eager: &State, lazy: &RawState) -> RawState {
     let mut state = RawState::from(eager);
-    let (n, clock) = (state.plan.n, state.run.clock);
+    let (n, clock) = (state.plan.counts.n, state.run.clocks.clock);
     assert!(state.run.l[..n].iter().all(|&l| l == clock));
-    assert!(state.run.updates == n as u64 * state.run.instants);
+    assert!(state.run.clocks.updates == n as u64 * state.run.clocks.instants);
     state.run.x = lazy.run.x;
     state.run.l = lazy.run.l;
-    state.run.updates = lazy.run.updates;
+    state.run.clocks.updates = lazy.run.clocks.updates;
     state
 }

@@ -153,7 +153,7 @@ impl<'a> Comparison<'a> {
         let expected = (status.number() as usize, status.integrator());
         same("status of the plain machine", answered, expected)?;
         same("events", written, &plain.event_bytes()[..])?;
-        let positions = &moved_to_clock(&after).run.x[..before.plan.n];
+        let positions = &moved_to_clock(&after).run.x[..before.plan.counts.n];
         same("positions", positions, &plain.positions[..])?;
         holds("the plan changed", after.plan == before.plan)?;
         met.count_answer(engine, before, plain);
@@ -168,11 +168,11 @@ impl<'a> Comparison<'a> {
     fn check_moved(&self, met: &mut Met, engine: Engine, taken: &Taken, after: &RawState) -> Found {
         let moved = Observer::of(self.plan).moved(taken, engine == Engine::Lazy);
         let (before, after) = (&self.state.run, &after.run);
-        let grown = after.updates.wrapping_sub(before.updates);
+        let grown = after.clocks.updates.wrapping_sub(before.clocks.updates);
         same("growth of updates", grown, moved.len() as u64)?;
         for i in 0..self.plan.integrators.len() {
             if moved.contains(&i) {
-                same("l of a moved integrator", after.l[i], after.clock)?;
+                same("l of a moved integrator", after.l[i], after.clocks.clock)?;
             } else {
                 let figures = |run: &RawRunning| (run.x[i], run.q[i], run.s[i], run.l[i], run.d[i]);
                 same("who is not moved", figures(after), figures(before))?;

@@ -62,12 +62,12 @@ impl Met {
     pub fn count_state(&mut self, fill: Fill, state: &RawState) {
         *self.fills.entry(fill).or_default() += 1;
         self.signs.count(state);
-        self.widest += u64::from(state.plan.n == INTEGRATORS_MAX);
+        self.widest += u64::from(state.plan.counts.n == INTEGRATORS_MAX);
     }
 
     /// Counts an accepted call from a state, by the plain machine after it.
     pub fn count_answer(&mut self, engine: Engine, before: &RawState, plain: &Plain) {
-        let taken = (plain.instants - before.run.instants) as usize;
+        let taken = (plain.instants - before.run.clocks.instants) as usize;
         self.instants
             .count_accepted(engine == Engine::Eager, taken, plain);
         self.instants.count_events(&plain.events);

@@ -111,10 +111,10 @@ fn bounded(rng: &mut Rng, plan: Plan) -> Plan {
         return plan;
     }
     let mut shorter = plan;
-    shorter.horizon = ran.state.run.clock;
+    shorter.horizon = ran.state.run.clocks.clock;
     shorter
         .commands
-        .retain(|command| command.tick <= ran.state.run.clock);
+        .retain(|command| command.tick <= ran.state.run.clocks.clock);
     shorter
 }
 

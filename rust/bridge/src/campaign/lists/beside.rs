@@ -81,7 +81,7 @@ impl Between<'_> {
     /// A state that is not sound is declined by 10, whatever else the call is given.
     fn check_unsound(&mut self, near: &RawState) -> Found {
         let state = self.unsound(near);
-        let n = state.plan.n;
+        let n = state.plan.counts.n;
         for engine in [Engine::Lazy, Engine::Eager] {
             let budget = self
                 .rng

@@ -144,7 +144,7 @@ const BUFFERS: [&str; 7] = [
 
 /// The class of a call's buffer; none for a budget above 1,024 whose buffer would not do for it.
 fn buffer_of(call: &Call, state: &RawState) -> Option<usize> {
-    let room = (state.plan.n + state.plan.m) * EVENT_BYTES;
+    let room = state.plan.counts.events_per_instant() * EVENT_BYTES;
     let asked = u128::from(call.budget) * room as u128;
     let length = call.buffer as u128;
     if call.budget > BUDGET_MAX {
@@ -191,7 +191,7 @@ impl Calls {
         if let Some(class) = buffer_of(call, called.before) {
             self.buffers[class] += 1;
         }
-        let at_start = called.before.run.clock == 0 && called.instants == 0;
+        let at_start = called.before.run.clocks.clock == 0 && called.instants == 0;
         match called.ran.status {
             status @ 1..=2 if at_start => self.never_started[status as usize - 1] += 1,
             _ => (),

@@ -5,7 +5,7 @@ use crate::campaign::Signs;
 use cup_check::file::Cause;
 use cup_check::generate::Fill;
 use cup_check::limits::Section;
-use cup_check::raw::{RawPlan, RawState};
+use cup_check::raw::{RawCounts, RawState};
 use cup_check::sound::{Array, Clause};
 use std::collections::{BTreeMap, BTreeSet};
 use std::fmt;
@@ -88,7 +88,7 @@ impl Part {
         let mut parts = BTreeSet::new();
         for clause in broken {
             match clause {
-                Clause::Counts => parts.extend(wrong_counts(&state.plan)),
+                Clause::Counts => parts.extend(wrong_counts(state.plan.counts)),
                 Clause::Plan(refusal) => parts.extend([Part::Plan(refusal.cause)]),
                 Clause::UnusedInPlan => parts.extend(left_over(state, true)),
                 Clause::UnusedInRun => parts.extend(left_over(state, false)),
@@ -109,9 +109,8 @@ impl Part {
     }
 }
 
-fn wrong_counts(plan: &RawPlan) -> impl Iterator<Item = Part> {
-    let counts = [plan.n, plan.m, plan.k, plan.links, plan.commands];
-    let sections = Section::ALL.into_iter().zip(counts);
+fn wrong_counts(counts: RawCounts) -> impl Iterator<Item = Part> {
+    let sections = Section::ALL.into_iter().zip(counts.by_section());
     sections.filter_map(|(section, count)| {
         if count < section.least() {
             Some(Part::TooFew(section))
