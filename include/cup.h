@@ -18,28 +18,63 @@
 extern "C" {
 #endif
 
-/* The numbers that the functions answer:
- *
- *    0  accepted
- *    1  the file is shorter than 44 bytes
- *    2  a pair breaks the offset rule, or the file does not end with its last section
- *    3  a section is no whole number of entries, or has too few or too many
- *    4  the horizon is outside its limits
- *    5  an integrator's start or quantum is outside its limits
- *    6  an input's first value is outside its limits
- *    7  a node has a kind above 3, names a source that is not below it, or breaks its kind's rule
- *       for B, lo and hi
- *    8  a link's target, source or coefficient is outside its limits, or it does not stand above
- *       its predecessor
- *    9  a command's tick, input or value is outside its limits, or it does not stand above its
- *       predecessor
- *   10  the state is not sound
- *   11  a run's budget is above 1,024
- *   12  a run's buffer is shorter than budget × (n + m) × 12 bytes
- *   13  the plan writer's buffer is shorter than the file
- *   14  the position call's integrator number is n or more
- *
- * Of several that a file or a call meets, the lowest is answered. */
+/* The numbers that the functions answer. Of several that a file or a call meets, the lowest is answered. */
+
+/* accepted */
+#define CUP_ACCEPTED 0
+/* the file is shorter than 44 bytes */
+#define CUP_REFUSED_SHORT 1
+/* a pair breaks the offset rule, or the file does not end with its last section */
+#define CUP_REFUSED_OFFSETS 2
+/* a section is no whole number of entries, or has too few or too many */
+#define CUP_REFUSED_SIZES 3
+/* the horizon is outside its limits */
+#define CUP_REFUSED_HORIZON 4
+/* an integrator's start or quantum is outside its limits */
+#define CUP_REFUSED_INTEGRATOR 5
+/* an input's first value is outside its limits */
+#define CUP_REFUSED_INPUT 6
+/* a node has a kind above 3, names a source that is not below it, or breaks its kind's rule for B, lo
+ * and hi */
+#define CUP_REFUSED_NODE 7
+/* a link's target, source or coefficient is outside its limits, or it does not stand above its
+ * predecessor */
+#define CUP_REFUSED_LINK 8
+/* a command's tick, input or value is outside its limits, or it does not stand above its predecessor */
+#define CUP_REFUSED_COMMAND 9
+/* the state is not sound */
+#define CUP_REFUSED_UNSOUND 10
+/* a run's budget is above 1,024 */
+#define CUP_REFUSED_BUDGET 11
+/* a run's buffer is shorter than budget × (n + m) × 12 bytes */
+#define CUP_REFUSED_RUN_BUFFER 12
+/* the plan writer's buffer is shorter than the file */
+#define CUP_REFUSED_WRITE_BUFFER 13
+/* the position call's integrator number is n or more */
+#define CUP_REFUSED_INTEGRATOR_NUMBER 14
+
+/* The status of a state: the next instant can be taken, there is none up to the horizon, or it is barred
+ * because an output would leave ±M. */
+#define CUP_PAUSED 0
+#define CUP_FINISHED 1
+#define CUP_RANGE 2
+
+/* M: the bound of starts, quanta, input values, node limits and outputs, in grains of 1/65,536 ml. */
+#define CUP_M 1073741824
+
+/* The due tick of an integrator that is never due. */
+#define CUP_NEVER UINT32_MAX
+
+/* The sections of a plan file: integrators, inputs, nodes, links and commands. */
+#define CUP_SECTIONS 5
+
+/* The bytes of a plan file's header, and of an entry of each section. */
+#define CUP_HEADER_BYTES 44
+#define CUP_INTEGRATOR_BYTES 8
+#define CUP_INPUT_BYTES 4
+#define CUP_NODE_BYTES 20
+#define CUP_LINK_BYTES 12
+#define CUP_COMMAND_BYTES 12
 
 /* The longest file that is accepted, and so the longest that cup_rewrite and cup_write write. */
 #define CUP_FILE_BYTES_MAX 4492
@@ -54,9 +89,6 @@ extern "C" {
 /* The entries of a table by source number: integrators from 0, inputs from n, nodes from n + m. A
  * plan has at most 56 sources. */
 #define CUP_TABLE_SOURCES 64
-
-/* The due tick of an integrator that is never due. */
-#define CUP_NEVER UINT32_MAX
 
 /* The bytes of an event: tick, source and signed value, little-endian, 32 bits each. */
 #define CUP_EVENT_BYTES 12
@@ -163,8 +195,8 @@ typedef struct {
     int64_t values[CUP_TABLE_SOURCES];
 } CupTables;
 
-/* Reads a plan file: returns 0 for an accepted file, else 1 to 9. *entry becomes the lowest faulty
- * entry of the section, counted from 0, and 0 for the numbers 0 to 4. */
+/* Reads a plan file: returns CUP_ACCEPTED, or one of CUP_REFUSED_SHORT to CUP_REFUSED_COMMAND. *entry
+ * becomes the lowest faulty entry of the section, counted from 0, and 0 up to CUP_REFUSED_HORIZON. */
 size_t cup_read(const uint8_t *file, size_t file_length, size_t *entry);
 
 /* The section view: returns the length of a part of the file, and *offset becomes where in the file
@@ -173,10 +205,10 @@ size_t cup_read(const uint8_t *file, size_t file_length, size_t *entry);
  * above 4, length and offset are 0. */
 size_t cup_section(const uint8_t *file, size_t file_length, size_t number, size_t *offset);
 
-/* Reads a plan file and writes its plan from the buffer's start: returns 0, and *length becomes the
- * number of bytes written; bytes behind them keep their value. If the file is refused it returns the
- * reader's number 1 to 9, else 13 if the buffer is shorter than the file; then *length becomes 0 and
- * no byte of the buffer changes. */
+/* Reads a plan file and writes its plan from the buffer's start: returns CUP_ACCEPTED, and *length
+ * becomes the number of bytes written; bytes behind them keep their value. If the file is refused it
+ * returns what cup_read returns, else CUP_REFUSED_WRITE_BUFFER if the buffer is shorter than the file;
+ * then *length becomes 0 and no byte of the buffer changes. */
 size_t cup_rewrite(const uint8_t *file, size_t file_length, uint8_t *buffer, size_t buffer_length,
                    size_t *length);
 
@@ -184,10 +216,10 @@ size_t cup_rewrite(const uint8_t *file, size_t file_length, uint8_t *buffer, siz
  * plan starts with; the idle state if the file is refused. */
 CupLoaded cup_load(const uint8_t *file, size_t file_length);
 
-/* The plan writer: writes the state's plan from the buffer's start and answers 0, the number of bytes
- * written and the state handed in; bytes behind them keep their value. If the state is not sound it
- * answers 10, else 13 if the buffer is shorter than the file; then the length is 0 and no byte of the
- * buffer changes. */
+/* The plan writer: writes the state's plan from the buffer's start and answers CUP_ACCEPTED, the number
+ * of bytes written and the state handed in; bytes behind them keep their value. If the state is not sound
+ * it answers CUP_REFUSED_UNSOUND, else CUP_REFUSED_WRITE_BUFFER if the buffer is shorter than the file;
+ * then the length is 0 and no byte of the buffer changes. */
 CupWritten cup_write(CupState state, uint8_t *buffer, size_t buffer_length);
 
 /* Whether the state is sound. */
@@ -211,21 +243,21 @@ CupState cup_echo(CupState state);
 CupTables cup_tables(CupState state);
 
 /* The lazy run and the eager run. Each takes as many instants as the budget says, or fewer if the
- * status is first 1 or 2, writes their events from the buffer's start and answers 0, the status of the
- * state that it answers (0 paused, 1 finished, 2 range), the integrator that bars the next instant (0
- * unless the status is 2), the number of bytes written and the state; bytes behind them keep their
- * value. If the state is not sound they answer 10, else 11 if the budget is above 1,024, else 12 if the
- * buffer is shorter than budget × (n + m) × 12 bytes; then the other figures are 0, the state is the
- * one handed in and no byte of the buffer changes.
+ * status is first CUP_FINISHED or CUP_RANGE, writes their events from the buffer's start and answers
+ * CUP_ACCEPTED, the status of the state that it answers, the integrator that bars the next instant (0
+ * unless the status is CUP_RANGE), the number of bytes written and the state; bytes behind them keep
+ * their value. If the state is not sound they answer CUP_REFUSED_UNSOUND, else CUP_REFUSED_BUDGET if the
+ * budget is above 1,024, else CUP_REFUSED_RUN_BUFFER if the buffer is shorter than budget × (n + m) × 12
+ * bytes; then the other figures are 0, the state is the one handed in and no byte of the buffer changes.
  *
  * Both write the same events and lead to the same status, clock and positions, in any mix of calls. The
  * lazy run moves those integrators that an instant concerns, the eager run all; updates count them. */
 CupRan cup_run_lazy(CupState state, uint64_t budget, uint8_t *buffer, size_t buffer_length);
 CupRan cup_run_eager(CupState state, uint64_t budget, uint8_t *buffer, size_t buffer_length);
 
-/* The position call: answers 0, where the integrator is at the state's clock, and the state handed in.
- * If the state is not sound it answers 10, else 14 if the integrator's number is n or more; then the
- * value is 0. */
+/* The position call: answers CUP_ACCEPTED, where the integrator is at the state's clock, and the state
+ * handed in. If the state is not sound it answers CUP_REFUSED_UNSOUND, else
+ * CUP_REFUSED_INTEGRATOR_NUMBER if the integrator's number is n or more; then the value is 0. */
 CupPositioned cup_position(CupState state, size_t integrator);
 
 #ifdef __cplusplus

@@ -3,26 +3,19 @@
 use crate::engine::run::run;
 use crate::engine::{Engine, Rules, State, Wrong};
 use crate::file::{read, section, write};
-use crate::limits::{BUDGET_MAX, EVENT_BYTES};
+use crate::limits::{ACCEPTED, BUDGET_MAX, EVENT_BYTES};
+use crate::limits::{
+    REFUSED_BUDGET, REFUSED_INTEGRATOR_NUMBER, REFUSED_RUN_BUFFER, REFUSED_UNSOUND,
+    REFUSED_WRITE_BUFFER,
+};
 use crate::raw::RawState;
 use crate::sound::accept;
-
-/// The state is not sound.
-pub const UNSOUND: u32 = 10;
-/// A run's budget is above 1,024.
-pub const BUDGET_ABOVE: u32 = 11;
-/// A run's buffer is too short for its budget.
-pub const SHORT_RUN_BUFFER: u32 = 12;
-/// The plan writer's buffer is shorter than the file.
-pub const SHORT_FILE_BUFFER: u32 = 13;
-/// There is no such integrator.
-pub const NO_SUCH_INTEGRATOR: u32 = 14;
 
 /// What load answers.
 #[derive(Clone, Debug, PartialEq, Eq)]
 pub struct Loaded {
     /// 0 or the refusal.
-    pub number: u32,
+    pub number: usize,
     /// The lowest faulty entry, 0 for refusals 1 to 4.
     pub entry: usize,
     /// The start state, or the idle state.
@@ -33,7 +26,7 @@ pub struct Loaded {
 #[derive(Clone, Debug, PartialEq, Eq)]
 pub struct Written {
     /// 0 or the decline.
-    pub number: u32,
+    pub number: usize,
     /// Bytes of the file.
     pub length: usize,
     /// The state handed in.
@@ -44,9 +37,9 @@ pub struct Written {
 #[derive(Clone, Debug, PartialEq, Eq)]
 pub struct Ran {
     /// 0 or the decline.
-    pub number: u32,
+    pub number: usize,
     /// The status of the returned state.
-    pub status: u32,
+    pub status: usize,
     /// The integrator of status 2.
     pub integrator: usize,
     /// Bytes written.
@@ -59,7 +52,7 @@ pub struct Ran {
 #[derive(Clone, Debug, PartialEq, Eq)]
 pub struct Positioned {
     /// 0 or the decline.
-    pub number: u32,
+    pub number: usize,
     /// x + s × (c − l).
     pub value: i64,
     /// The state handed in.
@@ -91,7 +84,7 @@ impl Simulator for Checker {
     fn load(&self, file: &[u8]) -> Loaded {
         match read(file) {
             Ok(plan) => Loaded {
-                number: 0,
+                number: ACCEPTED,
                 entry: 0,
                 state: RawState::from(&State::start(plan)),
             },
@@ -114,11 +107,11 @@ impl Simulator for Checker {
             state: state.clone(),
         };
         let Some(sound) = accept(state) else {
-            return answer(UNSOUND, 0);
+            return answer(REFUSED_UNSOUND, 0);
         };
         match write(&sound.plan, buffer) {
-            None => answer(SHORT_FILE_BUFFER, 0),
-            Some(length) => answer(0, length),
+            None => answer(REFUSED_WRITE_BUFFER, 0),
+            Some(length) => answer(ACCEPTED, length),
         }
     }
 
@@ -131,18 +124,18 @@ impl Simulator for Checker {
             state: state.clone(),
         };
         let Some(mut running) = accept(state) else {
-            return declined(UNSOUND);
+            return declined(REFUSED_UNSOUND);
         };
         if budget > BUDGET_MAX {
-            return declined(BUDGET_ABOVE);
+            return declined(REFUSED_BUDGET);
         }
         if buffer.len() < run_bytes(&running, budget) {
-            return declined(SHORT_RUN_BUFFER);
+            return declined(REFUSED_RUN_BUFFER);
         }
         let rules: Rules = self.wrong.rules();
         let outcome = run(&mut running, engine, budget, buffer, &rules);
         Ran {
-            number: 0,
+            number: ACCEPTED,
             status: outcome.status.number(),
             integrator: outcome.status.integrator(),
             written: outcome.written,
@@ -157,13 +150,16 @@ impl Simulator for Checker {
             state: state.clone(),
         };
         let Some(sound) = accept(state) else {
-            return answer(UNSOUND, 0);
+            return answer(REFUSED_UNSOUND, 0);
         };
         match sound.cells.get(integrator) {
-            None => answer(NO_SUCH_INTEGRATOR, 0),
+            None => answer(REFUSED_INTEGRATOR_NUMBER, 0),
             Some(cell) => {
                 let position = cell.position_at(sound.clock);
-                answer(0, i64::try_from(position).expect("between the levels"))
+                answer(
+                    ACCEPTED,
+                    i64::try_from(position).expect("between the levels"),
+                )
             }
         }
     }

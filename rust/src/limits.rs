@@ -1,9 +1,13 @@
-//! The figures of document 01 under names.
+//! The figures of document 01 under names, those of the header by the header's without `CUP_`.
+//!
+//! `bridge/tests/numbers.rs` compares each with document 01's number and with the header's.
 
 /// M: the bound of starts, input values, node limits and outputs, in grains.
 pub const M: i64 = 1 << 30;
 /// Grains in a millilitre: the divisor of the rate and of node kind 1.
-pub const GRAINS: i64 = 65_536;
+pub const GRAINS: i64 = 1 << GRAIN_BITS;
+/// The same as a number of bits: an arithmetic shift by them rounds towards minus infinity.
+pub const GRAIN_BITS: u32 = 16;
 /// The bound of a link's coefficient.
 pub const COEFFICIENT_BOUND: i64 = 1 << 24;
 /// The last tick that a horizon may name.
@@ -13,8 +17,20 @@ pub const NEVER: u32 = u32::MAX;
 
 /// Bytes of a word, the width of all numbers in files and events.
 pub const WORD_BYTES: usize = 4;
+/// Sections of a plan file.
+pub const SECTIONS: usize = 5;
 /// Bytes of the horizon and the five pairs.
 pub const HEADER_BYTES: usize = 44;
+/// Bytes of an entry of each section.
+pub const INTEGRATOR_BYTES: usize = 8;
+/// The same of the inputs.
+pub const INPUT_BYTES: usize = 4;
+/// The same of the nodes.
+pub const NODE_BYTES: usize = 20;
+/// The same of the links.
+pub const LINK_BYTES: usize = 12;
+/// The same of the commands.
+pub const COMMAND_BYTES: usize = 12;
 /// Bytes of one event.
 pub const EVENT_BYTES: usize = 12;
 /// Bytes of the longest plan that is accepted.
@@ -23,7 +39,7 @@ pub const FILE_BYTES_MAX: usize = 4_492;
 /// The largest budget that a run accepts.
 pub const BUDGET_MAX: u64 = 1_024;
 /// What the listing program reads at most: one byte more than the longest plan.
-pub const LISTING_BYTES: usize = 4_493;
+pub const LISTING_BYTES: usize = FILE_BYTES_MAX + 1;
 /// The budget of each run of the listing program.
 pub const LISTING_BUDGET: u64 = 64;
 
@@ -37,6 +53,46 @@ pub const NODES_MAX: usize = 16;
 pub const LINKS_MAX: usize = 256;
 /// The most commands of a plan.
 pub const COMMANDS_MAX: usize = 64;
+/// Entries of a table by source number. A plan has at most 56 sources.
+pub const TABLE_SOURCES: usize = 64;
+
+/// The number of an accepted call.
+pub const ACCEPTED: usize = 0;
+/// The file is shorter than 44 bytes.
+pub const REFUSED_SHORT: usize = 1;
+/// A pair breaks the offset rule.
+pub const REFUSED_OFFSETS: usize = 2;
+/// A section is no whole number of entries, or its count is outside its limits.
+pub const REFUSED_SIZES: usize = 3;
+/// The horizon is outside its limits.
+pub const REFUSED_HORIZON: usize = 4;
+/// An integrator entry breaks its rule.
+pub const REFUSED_INTEGRATOR: usize = 5;
+/// An input entry breaks its rule.
+pub const REFUSED_INPUT: usize = 6;
+/// A node has a kind above 3 or breaks its kind's rule.
+pub const REFUSED_NODE: usize = 7;
+/// A link breaks its rule, order included.
+pub const REFUSED_LINK: usize = 8;
+/// A command breaks its rule, order included.
+pub const REFUSED_COMMAND: usize = 9;
+/// The state is not sound.
+pub const REFUSED_UNSOUND: usize = 10;
+/// A run's budget is above 1,024.
+pub const REFUSED_BUDGET: usize = 11;
+/// A run's buffer is shorter than budget × (n + m) × 12 bytes.
+pub const REFUSED_RUN_BUFFER: usize = 12;
+/// The plan writer's buffer is shorter than the file.
+pub const REFUSED_WRITE_BUFFER: usize = 13;
+/// The position call's integrator number is n or more.
+pub const REFUSED_INTEGRATOR_NUMBER: usize = 14;
+
+/// The status of a state whose next instant can be taken.
+pub const PAUSED: usize = 0;
+/// The status of a state that has no next instant up to the horizon.
+pub const FINISHED: usize = 1;
+/// The status of a state whose next instant is barred.
+pub const RANGE: usize = 2;
 
 /// A section of the plan file.
 #[derive(Clone, Copy, Debug, PartialEq, Eq, PartialOrd, Ord)]
@@ -55,7 +111,7 @@ pub enum Section {
 
 impl Section {
     /// The sections in file order.
-    pub const ALL: [Section; 5] = [
+    pub const ALL: [Section; SECTIONS] = [
         Section::Integrators,
         Section::Inputs,
         Section::Nodes,
@@ -66,10 +122,11 @@ impl Section {
     /// Bytes of one entry.
     pub const fn entry_bytes(self) -> usize {
         match self {
-            Section::Integrators => 8,
-            Section::Inputs => 4,
-            Section::Nodes => 20,
-            Section::Links | Section::Commands => 12,
+            Section::Integrators => INTEGRATOR_BYTES,
+            Section::Inputs => INPUT_BYTES,
+            Section::Nodes => NODE_BYTES,
+            Section::Links => LINK_BYTES,
+            Section::Commands => COMMAND_BYTES,
         }
     }
 

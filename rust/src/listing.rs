@@ -2,7 +2,7 @@
 
 use crate::calls::{Checker, Ran, Simulator};
 use crate::engine::Engine;
-use crate::limits::{EVENT_BYTES, LISTING_BUDGET, LISTING_BYTES, WORD_BYTES};
+use crate::limits::{ACCEPTED, EVENT_BYTES, LISTING_BUDGET, LISTING_BYTES, PAUSED, WORD_BYTES};
 use crate::raw::RawState;
 use crate::words::{signed_at, word_at};
 use std::io::{self, Write};
@@ -20,7 +20,7 @@ pub fn write_listing(input: &[u8], output: &mut impl Write) -> io::Result<()> {
     let file = &input[..input.len().min(LISTING_BYTES)];
     let loaded = Checker::default().load(file);
     match loaded.number {
-        0 => write_runs(loaded.state, output),
+        ACCEPTED => write_runs(loaded.state, output),
         number => {
             let refused = format!("refused {number} {}\n", loaded.entry);
             output.write_all(refused.as_bytes())
@@ -34,11 +34,14 @@ fn write_runs(mut state: RawState, output: &mut impl Write) -> io::Result<()> {
     let mut buffer = vec![0; events * EVENT_BYTES];
     loop {
         let ran = Checker::default().run(Engine::Lazy, &state, LISTING_BUDGET, &mut buffer);
-        assert_eq!(ran.number, 0, "a declined run would be repeated for ever");
+        assert_eq!(
+            ran.number, ACCEPTED,
+            "a declined run would be repeated for ever"
+        );
         let events = buffer[..ran.written].chunks_exact(EVENT_BYTES);
         let lines: String = events.map(event_line).collect();
         output.write_all(lines.as_bytes())?;
-        if ran.status != 0 {
+        if ran.status != PAUSED {
             return output.write_all(end_line(&ran).as_bytes());
         }
         state = ran.state;

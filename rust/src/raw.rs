@@ -4,7 +4,7 @@
 //! entries are 0, also unused due ticks.
 
 use crate::engine::State;
-use crate::limits::Section;
+use crate::limits::{Section, SECTIONS};
 use crate::limits::{COMMANDS_MAX, INPUTS_MAX, INTEGRATORS_MAX, LINKS_MAX, NODES_MAX};
 use crate::plan::{Command, Integrator, Link, Node, Plan};
 
@@ -121,12 +121,12 @@ impl RawState {
 
 impl RawCounts {
     /// The counts in file order, as [`Section::ALL`] has the sections.
-    pub fn by_section(self) -> [usize; 5] {
+    pub fn by_section(self) -> [usize; SECTIONS] {
         [self.n, self.m, self.k, self.links, self.commands]
     }
 
     /// The same from such a list.
-    pub fn of_sections([n, m, k, links, commands]: [usize; 5]) -> RawCounts {
+    pub fn of_sections([n, m, k, links, commands]: [usize; SECTIONS]) -> RawCounts {
         RawCounts {
             n,
             m,

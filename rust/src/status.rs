@@ -1,5 +1,7 @@
 //! The three statuses, as words that the plain machine and the engines have in common.
 
+use crate::limits::{FINISHED, PAUSED, RANGE};
+
 /// What a state says about its next instant.
 #[derive(Clone, Copy, Debug, PartialEq, Eq)]
 pub enum Status {
@@ -12,12 +14,12 @@ pub enum Status {
 }
 
 impl Status {
-    /// The status as a number: 0, 1 or 2.
-    pub fn number(self) -> u32 {
+    /// The status as document 01's number.
+    pub fn number(self) -> usize {
         match self {
-            Status::Paused => 0,
-            Status::Finished => 1,
-            Status::Range(_) => 2,
+            Status::Paused => PAUSED,
+            Status::Finished => FINISHED,
+            Status::Range(_) => RANGE,
         }
     }
 

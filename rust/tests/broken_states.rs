@@ -7,6 +7,10 @@ use cup_check::calls::Simulator;
 use cup_check::generate::breakage::with_wild_number;
 use cup_check::generate::states::sound_state;
 use cup_check::generate::{plans, Breakage, Rng};
+use cup_check::limits::{
+    ACCEPTED, REFUSED_COMMAND, REFUSED_INPUT, REFUSED_INTEGRATOR, REFUSED_LINK, REFUSED_NODE,
+    REFUSED_UNSOUND,
+};
 use cup_check::plan::Plan;
 use cup_check::raw::{RawPlan, RawState};
 use cup_check::sound::{broken_clauses, is_sound, Clause};
@@ -22,15 +26,15 @@ fn assert_declined(state: &RawState) {
     let mut buffer = [MARK; 5_000];
     for engine in ENGINES {
         let ran = CHECKER.run(engine, state, 1, &mut buffer);
-        assert_eq!((ran.number, ran.status), (10, 0));
+        assert_eq!((ran.number, ran.status), (REFUSED_UNSOUND, 0));
         assert_eq!((ran.integrator, ran.written), (0, 0));
         assert_eq!(&ran.state, state);
     }
     let position = CHECKER.position(state, 0);
-    assert_eq!((position.number, position.value), (10, 0));
+    assert_eq!((position.number, position.value), (REFUSED_UNSOUND, 0));
     assert_eq!(&position.state, state);
     let written = CHECKER.write(state, &mut buffer);
-    assert_eq!((written.number, written.length), (10, 0));
+    assert_eq!((written.number, written.length), (REFUSED_UNSOUND, 0));
     assert_eq!(&written.state, state);
     assert_eq!(buffer, [MARK; 5_000]);
 }
@@ -62,7 +66,7 @@ fn wild_numbers_anywhere_are_answered() {
         let state = sound_state(&mut rng, &plan);
         let wild = with_wild_number(&mut rng, &state);
         if is_sound(&wild) {
-            assert_eq!(CHECKER.position(&wild, 0).number, 0);
+            assert_eq!(CHECKER.position(&wild, 0).number, ACCEPTED);
             sound += 1;
         } else {
             assert_declined(&wild);
@@ -85,20 +89,26 @@ fn numbers_wider_than_a_file_holds_break_the_plans_rules() {
     let state = loaded(&lawful.link(0, 1, 1).command(5, 0, 0));
     // 2^32 more is the same word in a file, but not the same number in a state.
     type Change = fn(&mut RawPlan);
-    let changes: [(Change, u32); 13] = [
-        (|plan| plan.integrators.starts[0] = i64::MIN, 5),
-        (|plan| plan.integrators.quanta[0] = -1, 5),
-        (|plan| plan.integrators.quanta[0] = i64::MIN, 5),
-        (|plan| plan.inputs.firsts[0] = i64::MAX, 6),
-        (|plan| plan.nodes.kinds[0] += 1 << 32, 7),
-        (|plan| plan.nodes.a[0] += 1 << 32, 7),
-        (|plan| plan.nodes.b[0] += 1 << 32, 7),
-        (|plan| plan.nodes.lows[0] = i64::MIN, 7),
-        (|plan| plan.links.targets[0] += 1 << 32, 8),
-        (|plan| plan.links.sources[0] += 1 << 32, 8),
-        (|plan| plan.links.coefficients[0] = i64::MIN, 8),
-        (|plan| plan.commands.inputs[0] += 1 << 32, 9),
-        (|plan| plan.commands.values[0] = i64::MIN, 9),
+    let changes: [(Change, usize); 13] = [
+        (
+            |plan| plan.integrators.starts[0] = i64::MIN,
+            REFUSED_INTEGRATOR,
+        ),
+        (|plan| plan.integrators.quanta[0] = -1, REFUSED_INTEGRATOR),
+        (
+            |plan| plan.integrators.quanta[0] = i64::MIN,
+            REFUSED_INTEGRATOR,
+        ),
+        (|plan| plan.inputs.firsts[0] = i64::MAX, REFUSED_INPUT),
+        (|plan| plan.nodes.kinds[0] += 1 << 32, REFUSED_NODE),
+        (|plan| plan.nodes.a[0] += 1 << 32, REFUSED_NODE),
+        (|plan| plan.nodes.b[0] += 1 << 32, REFUSED_NODE),
+        (|plan| plan.nodes.lows[0] = i64::MIN, REFUSED_NODE),
+        (|plan| plan.links.targets[0] += 1 << 32, REFUSED_LINK),
+        (|plan| plan.links.sources[0] += 1 << 32, REFUSED_LINK),
+        (|plan| plan.links.coefficients[0] = i64::MIN, REFUSED_LINK),
+        (|plan| plan.commands.inputs[0] += 1 << 32, REFUSED_COMMAND),
+        (|plan| plan.commands.values[0] = i64::MIN, REFUSED_COMMAND),
     ];
     for (change, number) in changes {
         let mut broken = state.clone();

@@ -9,7 +9,10 @@ use cup_check::file::read::split;
 use cup_check::file::{encode, read, Cause, Refusal};
 use cup_check::generate::damage::damaged;
 use cup_check::generate::{plans, Damage, Rng};
-use cup_check::limits::{Section, FILE_BYTES_MAX};
+use cup_check::limits::{
+    Section, ACCEPTED, FILE_BYTES_MAX, HEADER_BYTES, REFUSED_HORIZON, REFUSED_INTEGRATOR,
+    REFUSED_OFFSETS, REFUSED_SHORT, SECTIONS,
+};
 use cup_check::raw::RawState;
 use cup_check::words::word_at;
 use std::collections::BTreeMap;
@@ -20,7 +23,7 @@ fn check(file: &[u8]) -> Option<Cause> {
     let loaded = CHECKER.load(file);
     match answer {
         Ok(_) => {
-            assert_eq!((loaded.number, loaded.entry), (0, 0));
+            assert_eq!((loaded.number, loaded.entry), (ACCEPTED, 0));
             let mut buffer = vec![0; FILE_BYTES_MAX];
             let written = CHECKER.write(&loaded.state, &mut buffer);
             assert_eq!(&buffer[..written.length], file);
@@ -31,7 +34,7 @@ fn check(file: &[u8]) -> Option<Cause> {
                 (refusal.number(), refusal.entry)
             );
             assert_eq!(loaded.state, RawState::idle());
-            assert!((0..6).all(|number| CHECKER.section(file, number).is_empty()));
+            assert!((0..=SECTIONS).all(|number| CHECKER.section(file, number).is_empty()));
             assert_is_lowest(file, refusal);
         }
     }
@@ -41,7 +44,7 @@ fn check(file: &[u8]) -> Option<Cause> {
 /// With the later sections emptied and its own section cut after the faulty entry, a file is
 /// refused alike; cut before that entry it is accepted.
 fn assert_is_lowest(file: &[u8], answered: Refusal) {
-    if answered.number() <= 4 {
+    if answered.number() <= REFUSED_HORIZON {
         assert_eq!(answered.entry, 0);
         return;
     }
@@ -49,7 +52,7 @@ fn assert_is_lowest(file: &[u8], answered: Refusal) {
         let mut sections = split(file)
             .expect("refused for an entry")
             .map(<[u8]>::to_vec);
-        let place = answered.number() as usize - 5;
+        let place = answered.number() - REFUSED_INTEGRATOR;
         let section = Section::ALL[place];
         sections[place].truncate(entries * section.entry_bytes());
         sections[place + 1..].iter_mut().for_each(Vec::clear);
@@ -57,8 +60,8 @@ fn assert_is_lowest(file: &[u8], answered: Refusal) {
     };
     let expected = (answered.number(), answered.entry);
     assert_eq!(cut_to(answered.entry + 1), expected);
-    if answered.entry > 0 || answered.number() > 5 {
-        assert_eq!(cut_to(answered.entry), (0, 0));
+    if answered.entry > 0 || answered.number() > REFUSED_INTEGRATOR {
+        assert_eq!(cut_to(answered.entry), (ACCEPTED, 0));
     }
 }
 
@@ -99,7 +102,10 @@ fn every_way_of_damage_leads_to_refusals() {
 fn every_beginning_of_a_file_is_refused() {
     let file = encode(&plans::Family::Tiny.plan(&mut Rng::new(3)));
     for length in 0..file.len() {
-        let number = if length < 44 { 1 } else { 2 };
+        let number = match length < HEADER_BYTES {
+            true => REFUSED_SHORT,
+            false => REFUSED_OFFSETS,
+        };
         assert_eq!(refusal(&file[..length]), (number, 0));
     }
 }

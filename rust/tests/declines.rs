@@ -29,7 +29,7 @@ fn run_with(engine: Engine, state: &RawState, budget: u64, length: usize) -> (Ra
 }
 
 /// Asserts that both runs decline with a number and change nothing.
-fn assert_declined(state: &RawState, budget: u64, length: usize, number: u32) {
+fn assert_declined(state: &RawState, budget: u64, length: usize, number: usize) {
     for engine in ENGINES {
         let (ran, buffer) = run_with(engine, state, budget, length);
         let expected = Ran {

@@ -8,7 +8,7 @@ use cup_check::compare::{continued_list, loaded_list, Met};
 use cup_check::engine::Engine;
 use cup_check::fast::{run_lazy, Fast};
 use cup_check::generate::{run_list, Call, Family, Fill};
-use cup_check::limits::{BUDGET_MAX, EVENT_BYTES};
+use cup_check::limits::{ACCEPTED, BUDGET_MAX, EVENT_BYTES};
 use cup_check::plan::Plan;
 use cup_check::raw::RawState;
 
@@ -81,7 +81,7 @@ fn a_call_answers_what_the_lazy_engine_does() {
                 let expected = CHECKER.run(Engine::Lazy, &state, call.budget, &mut right);
                 assert!(ran == expected, "{family:?} seed {seed}: {call:?}");
                 assert_eq!(bytes, right, "{family:?} seed {seed}: {call:?}");
-                compared += u64::from(ran.number == 0);
+                compared += u64::from(ran.number == ACCEPTED);
                 state = ran.state;
             }
         }

@@ -6,6 +6,7 @@ mod common;
 use common::{first_difference, CHECKER};
 use cup_check::calls::{Loaded, Positioned, Ran, Simulator, Written};
 use cup_check::engine::Engine;
+use cup_check::limits::{ACCEPTED, BUDGET_MAX, EVENT_BYTES, FINISHED, RANGE};
 use cup_check::raw::RawState;
 
 #[derive(Clone, Copy, Debug, PartialEq)]
@@ -69,10 +70,10 @@ impl Faulty {
         match self.0 {
             Fault::EagerBodyUnderLazy => (Engine::Eager, budget),
             Fault::LazyBodyUnderEager => (Engine::Lazy, budget),
-            Fault::OnlyFirstInstant if budget <= 1_024 => (engine, budget.min(1)),
-            Fault::OneInstantTooMany if budget < fitting.min(1_024) => (engine, budget + 1),
-            Fault::BudgetNotTested => (engine, budget.min(1_024)),
-            Fault::BufferNotTested if budget <= 1_024 => (engine, budget.min(fitting)),
+            Fault::OnlyFirstInstant if budget <= BUDGET_MAX => (engine, budget.min(1)),
+            Fault::OneInstantTooMany if budget < fitting.min(BUDGET_MAX) => (engine, budget + 1),
+            Fault::BudgetNotTested => (engine, budget.min(BUDGET_MAX)),
+            Fault::BufferNotTested if budget <= BUDGET_MAX => (engine, budget.min(fitting)),
             _ => (engine, budget),
         }
     }
@@ -81,15 +82,15 @@ impl Faulty {
     fn spoil_accepted(&self, entry: &RawState, ran: &mut Ran, buffer: &mut [u8]) {
         let clocks = &mut ran.state.run.clocks;
         match self.0 {
-            Fault::FinishedBeforehand => ran.status = 1,
-            Fault::RangeBeforehand => ran.status = 2,
+            Fault::FinishedBeforehand => ran.status = FINISHED,
+            Fault::RangeBeforehand => ran.status = RANGE,
             Fault::StateUntouched => ran.state = entry.clone(),
             Fault::InventedCount => clocks.updates = clocks.instants,
             Fault::StatusOfEntry => {
                 ran.status = CHECKER.run(Engine::Lazy, entry, 0, &mut []).status
             }
             Fault::LaterByteChanged if ran.written < buffer.len() => buffer[ran.written] ^= 1,
-            Fault::ClockRunsOn if ran.status == 1 => clocks.clock = entry.plan.horizon,
+            Fault::ClockRunsOn if ran.status == FINISHED => clocks.clock = entry.plan.horizon,
             _ => {}
         }
     }
@@ -138,11 +139,11 @@ impl Simulator for Faulty {
     }
 
     fn run(&self, engine: Engine, state: &RawState, budget: u64, buffer: &mut [u8]) -> Ran {
-        let instant = state.plan.counts.events_per_instant() * 12;
+        let instant = state.plan.counts.events_per_instant() * EVENT_BYTES;
         let (engine, budget) = self.asked(engine, budget, buffer.len(), instant);
         let mut ran = CHECKER.run(engine, state, budget, buffer);
         match ran.number {
-            0 => self.spoil_accepted(state, &mut ran, buffer),
+            ACCEPTED => self.spoil_accepted(state, &mut ran, buffer),
             _ => self.spoil_declined(&mut ran, buffer),
         }
         ran
@@ -150,7 +151,7 @@ impl Simulator for Faulty {
 
     fn position(&self, state: &RawState, integrator: usize) -> Positioned {
         let mut answer = CHECKER.position(state, integrator);
-        if self.0 == Fault::PositionStored && answer.number == 0 {
+        if self.0 == Fault::PositionStored && answer.number == ACCEPTED {
             answer.value = state.run.x[integrator];
         }
         answer

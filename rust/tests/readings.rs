@@ -20,7 +20,7 @@ fn filled(start: i64, quantum: i64, rate: i64, horizon: u32) -> Plan {
 }
 
 /// Refusal of a cup and an input with one node.
-fn refusal_of_node(kind: usize, a: usize, b: usize, low: i64, high: i64) -> (u32, usize) {
+fn refusal_of_node(kind: usize, a: usize, b: usize, low: i64, high: i64) -> (usize, usize) {
     let plan = Plan::new(1).integrator(0, 1).input(0);
     refusal_of_plan(&plan.node(kind, a, b, low, high))
 }

@@ -15,7 +15,7 @@ use cup_check::raw::RawState;
 use cup_check::samples::document_cup;
 
 /// The answer for the plan with every section after a change.
-fn changed(change: impl Fn(&mut Plan)) -> (u32, usize) {
+fn changed(change: impl Fn(&mut Plan)) -> (usize, usize) {
     let mut plan = every_section();
     change(&mut plan);
     refusal_of_plan(&plan)

@@ -15,6 +15,12 @@ pub mod machine;
 pub mod state;
 pub mod timing;
 
+use cup_check::limits::{
+    ACCEPTED, REFUSED_BUDGET, REFUSED_COMMAND, REFUSED_HORIZON, REFUSED_INPUT, REFUSED_INTEGRATOR,
+    REFUSED_INTEGRATOR_NUMBER, REFUSED_LINK, REFUSED_NODE, REFUSED_OFFSETS, REFUSED_RUN_BUFFER,
+    REFUSED_SHORT, REFUSED_SIZES, REFUSED_UNSOUND, REFUSED_WRITE_BUFFER,
+};
+
 /// What the reader answers.
 #[derive(Clone, Copy, Debug, PartialEq, Eq)]
 pub struct Answer {
@@ -75,21 +81,21 @@ pub fn rewrite(file: &[u8], buffer: &mut [u8]) -> Rewritten {
 /// What a number of document 01 means, in the words of the repository's README.
 pub fn meaning(number: usize) -> &'static str {
     match number {
-        0 => "accepted",
-        1 => "the file is shorter than 44 bytes",
-        2 => "a pair breaks the offset rule, or the file does not end with its last section",
-        3 => "a section is no whole number of entries, or has too few or too many",
-        4 => "the horizon is outside its limits",
-        5 => "an integrator's start or quantum is outside its limits",
-        6 => "an input's first value is outside its limits",
-        7 => "a node has a kind above 3, names a source that is not below it, or breaks its kind's rule for B, lo and hi",
-        8 => "a link's target, source or coefficient is outside its limits, or it does not stand above its predecessor",
-        9 => "a command's tick, input or value is outside its limits, or it does not stand above its predecessor",
-        10 => "the state is not sound",
-        11 => "a run's budget is above 1,024",
-        12 => "a run's buffer is shorter than budget × (n + m) × 12 bytes",
-        13 => "the plan writer's buffer is shorter than the file",
-        14 => "the position call's integrator number is n or more",
+        ACCEPTED => "accepted",
+        REFUSED_SHORT => "the file is shorter than 44 bytes",
+        REFUSED_OFFSETS => "a pair breaks the offset rule, or the file does not end with its last section",
+        REFUSED_SIZES => "a section is no whole number of entries, or has too few or too many",
+        REFUSED_HORIZON => "the horizon is outside its limits",
+        REFUSED_INTEGRATOR => "an integrator's start or quantum is outside its limits",
+        REFUSED_INPUT => "an input's first value is outside its limits",
+        REFUSED_NODE => "a node has a kind above 3, names a source that is not below it, or breaks its kind's rule for B, lo and hi",
+        REFUSED_LINK => "a link's target, source or coefficient is outside its limits, or it does not stand above its predecessor",
+        REFUSED_COMMAND => "a command's tick, input or value is outside its limits, or it does not stand above its predecessor",
+        REFUSED_UNSOUND => "the state is not sound",
+        REFUSED_BUDGET => "a run's budget is above 1,024",
+        REFUSED_RUN_BUFFER => "a run's buffer is shorter than budget × (n + m) × 12 bytes",
+        REFUSED_WRITE_BUFFER => "the plan writer's buffer is shorter than the file",
+        REFUSED_INTEGRATOR_NUMBER => "the position call's integrator number is n or more",
         _ => "no number of document 01",
     }
 }

@@ -207,7 +207,7 @@ fn every_number_means_what_the_readme_says() {
     assert_eq!(meaning(15), meaning(usize::MAX));
 }
 
-/// So has the C header.
+/// So has the C header, above the name of each number.
 #[test]
 fn every_number_means_what_the_header_says() {
     let header = String::from_utf8(kept("include/cup.h")).expect("text");
@@ -217,7 +217,12 @@ fn every_number_means_what_the_header_says() {
         .collect();
     let header = words.join(" ");
     for number in 0..=14 {
-        let row = format!(" {number} {} ", meaning(number));
-        assert!(header.contains(&row), "{row}");
+        let words = format!(" /* {} */ #define CUP_", meaning(number));
+        let (_, defined) = header.split_once(&words).expect(&words);
+        assert_eq!(
+            defined.split(' ').nth(1),
+            Some(&*number.to_string()),
+            "{words}"
+        );
     }
 }

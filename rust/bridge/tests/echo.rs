@@ -13,6 +13,7 @@ use cup_bridge::state::{Loaded, Plan, Positioned, Ran, Running, State, Tables, W
 use cup_check::calls::{Checker, Simulator};
 use cup_check::engine::Engine;
 use cup_check::generate::{plans, Fill, Rng};
+use cup_check::limits::{EVENT_BYTES, FILE_BYTES_MAX, INPUTS_MAX, INTEGRATORS_MAX};
 use cup_check::raw::RawState;
 use std::collections::BTreeSet;
 use std::io::Write;
@@ -120,12 +121,11 @@ struct Answers {
     runs: Vec<(usize, usize, usize, Vec<u8>, State)>,
 }
 
-/// Buffers are long enough for every plan and every instant.
-const PLAN_BYTES: usize = 4_492;
-const INSTANT_BYTES: usize = 480;
+/// A buffer of these is long enough for every instant.
+const INSTANT_BYTES: usize = (INTEGRATORS_MAX + INPUTS_MAX) * EVENT_BYTES;
 
 fn proved(state: &State) -> Answers {
-    let mut file = vec![0; PLAN_BYTES];
+    let mut file = vec![0; FILE_BYTES_MAX];
     let number = write(state, &mut file).number;
     let runs = [false, true].map(|eager| {
         let mut events = vec![0; INSTANT_BYTES];
@@ -141,19 +141,13 @@ fn proved(state: &State) -> Answers {
 fn second(state: &State) -> Answers {
     let raw = RawState::from(state);
     let checker = Checker::default();
-    let mut file = vec![0; PLAN_BYTES];
-    let number = checker.write(&raw, &mut file).number as usize;
+    let mut file = vec![0; FILE_BYTES_MAX];
+    let number = checker.write(&raw, &mut file).number;
     let runs = [Engine::Lazy, Engine::Eager].map(|engine| {
         let mut events = vec![0; INSTANT_BYTES];
         let ran = checker.run(engine, &raw, 1, &mut events);
-        let (number, status) = (ran.number as usize, ran.status as usize);
-        (
-            number,
-            status,
-            ran.integrator,
-            events,
-            State::from(&ran.state),
-        )
+        let state = State::from(&ran.state);
+        (ran.number, ran.status, ran.integrator, events, state)
     });
     Answers {
         plan: (number, file),

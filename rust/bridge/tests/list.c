@@ -54,16 +54,18 @@ static void check_sections(size_t length, const CupState *state)
 {
     const CupCounts *counts = &state->plan.counts;
     const size_t entries[] = { counts->n, counts->m, counts->k, counts->links, counts->commands };
-    const size_t bytes[] = { 8, 4, 20, 12, 12 };
-    size_t offset, next = 44;
-    for (size_t section = 0; section < 5; section++) {
+    const size_t bytes[] = { CUP_INTEGRATOR_BYTES, CUP_INPUT_BYTES, CUP_NODE_BYTES, CUP_LINK_BYTES,
+                             CUP_COMMAND_BYTES };
+    size_t offset, next = CUP_HEADER_BYTES;
+    for (size_t section = 0; section < CUP_SECTIONS; section++) {
         demand(cup_section(file, length, section, &offset) == entries[section] * bytes[section],
                "a section has another length");
         demand(offset == next, "a section starts elsewhere");
         next += entries[section] * bytes[section];
     }
     demand(next == length, "the last section ends elsewhere");
-    demand(cup_section(file, length, 5, &offset) == 0 && offset == 0, "there is a sixth section");
+    demand(cup_section(file, length, CUP_SECTIONS, &offset) == 0 && offset == 0,
+           "there is a sixth section");
     demand(cup_section(file, length, 0, &offset) > 0 &&
                (int32_t)word(file + offset) == state->plan.integrators.starts[0],
            "the first integrator starts elsewhere");
@@ -88,7 +90,7 @@ static void check_positions(const CupState *lazy, const CupState *eager)
     size_t n = lazy->plan.counts.n;
     for (size_t i = 0; i < n; i++) {
         CupPositioned one = cup_position(*lazy, i), other = cup_position(*eager, i);
-        demand(one.number == 0 && other.number == 0, "a position is declined");
+        demand(one.number == CUP_ACCEPTED && other.number == CUP_ACCEPTED, "a position is declined");
         demand(one.value == other.value, "the engines have other positions");
         demand(is_same(&one.state, lazy) && is_same(&other.state, eager),
                "a position call answers another state");
@@ -96,8 +98,9 @@ static void check_positions(const CupState *lazy, const CupState *eager)
         if (eager->run.clocks.instants > 0)
             demand(other.value == eager->run.x[i], "the eager run has not moved all");
     }
-    demand(cup_position(*lazy, n).number == 14 && cup_position(*lazy, n).value == 0 &&
-               cup_position(*eager, SIZE_MAX).number == 14,
+    demand(cup_position(*lazy, n).number == CUP_REFUSED_INTEGRATOR_NUMBER &&
+               cup_position(*lazy, n).value == 0 &&
+               cup_position(*eager, SIZE_MAX).number == CUP_REFUSED_INTEGRATOR_NUMBER,
            "there are more positions than integrators");
 }
 
@@ -107,22 +110,27 @@ static int is_declined(CupRan ran, size_t number, const CupState *state)
            is_same(&ran.state, state);
 }
 
-/* Declined by 11, 12 and 10, with the state handed back and no byte written. */
+/* Declined for the budget, for the buffer and as not sound, with the state handed back and no byte
+ * written. */
 static void check_declines(const CupState *state)
 {
     size_t needed = (state->plan.counts.n + state->plan.counts.m) * CUP_EVENT_BYTES;
     memset(others, 0xa5, sizeof others);
-    demand(is_declined(cup_run_lazy(*state, CUP_BUDGET_MAX + 1, others, sizeof others), 11, state) &&
-               is_declined(cup_run_eager(*state, UINT64_MAX, none, 0), 11, state),
+    demand(is_declined(cup_run_lazy(*state, CUP_BUDGET_MAX + 1, others, sizeof others),
+                       CUP_REFUSED_BUDGET, state) &&
+               is_declined(cup_run_eager(*state, UINT64_MAX, none, 0), CUP_REFUSED_BUDGET, state),
            "a budget above 1,024 is not declined");
-    demand(is_declined(cup_run_lazy(*state, 1, others, needed - 1), 12, state) &&
-               is_declined(cup_run_eager(*state, BUDGET, others, BUDGET * needed - 1), 12, state),
+    demand(is_declined(cup_run_lazy(*state, 1, others, needed - 1), CUP_REFUSED_RUN_BUFFER, state) &&
+               is_declined(cup_run_eager(*state, BUDGET, others, BUDGET * needed - 1),
+                           CUP_REFUSED_RUN_BUFFER, state),
            "a short buffer is not declined");
     CupState unsound = *state;
     unsound.run.clocks.updates = unsound.run.clocks.instants * unsound.plan.counts.n + 1;
-    demand(is_declined(cup_run_lazy(unsound, 1, others, needed), 10, &unsound) &&
-               is_declined(cup_run_eager(unsound, CUP_BUDGET_MAX + 1, none, 0), 10, &unsound) &&
-               cup_position(unsound, 0).number == 10 && cup_position(unsound, SIZE_MAX).number == 10,
+    demand(is_declined(cup_run_lazy(unsound, 1, others, needed), CUP_REFUSED_UNSOUND, &unsound) &&
+               is_declined(cup_run_eager(unsound, CUP_BUDGET_MAX + 1, none, 0), CUP_REFUSED_UNSOUND,
+                           &unsound) &&
+               cup_position(unsound, 0).number == CUP_REFUSED_UNSOUND &&
+               cup_position(unsound, SIZE_MAX).number == CUP_REFUSED_UNSOUND,
            "an unsound state is not declined");
     for (size_t at = 0; at < sizeof others; at++)
         demand(others[at] == 0xa5, "a declined call writes");
@@ -133,7 +141,7 @@ static void check_call(CupRan *lazy, CupRan *eager)
 {
     *lazy = cup_run_lazy(lazy->state, BUDGET, events, sizeof events);
     *eager = cup_run_eager(eager->state, BUDGET, others, sizeof others);
-    demand(lazy->number == 0 && eager->number == 0, "a run is declined");
+    demand(lazy->number == CUP_ACCEPTED && eager->number == CUP_ACCEPTED, "a run is declined");
     demand(cup_sound(lazy->state) && cup_sound(eager->state), "a run leaves an unsound state");
     demand(lazy->written == eager->written && memcmp(events, others, lazy->written) == 0,
            "the engines write other events");
@@ -152,7 +160,7 @@ int main(int count, char **words)
     demand(count == 2, "usage: list FILE");
     size_t length = read_file(words[1]);
     CupLoaded loaded = cup_load(file, length);
-    if (loaded.number != 0) {
+    if (loaded.number != CUP_ACCEPTED) {
         printf("refused %zu %zu\n", loaded.number, loaded.entry);
         return 0;
     }
@@ -162,12 +170,13 @@ int main(int count, char **words)
         check_declines(&lazy.state);
         check_call(&lazy, &eager);
         print_events(lazy.written);
-    } while (lazy.status == 0);
+    } while (lazy.status == CUP_PAUSED);
     const CupState *end = &lazy.state;
     CupTables tables = cup_tables(*end);
     demand(tables.ranges[end->plan.counts.n] == end->plan.counts.links, "the tables have other links");
     CupWritten written = cup_write(*end, copy, sizeof copy);
-    demand(written.number == 0 && written.length == length && memcmp(file, copy, length) == 0,
+    demand(written.number == CUP_ACCEPTED && written.length == length &&
+               memcmp(file, copy, length) == 0,
            "the plan is written otherwise");
     demand(is_same(&written.state, end), "another state comes back");
     const CupClocks *clocks = &end->run.clocks;

@@ -31,7 +31,7 @@ int main(int count, char **words)
     }
     size_t number = cup_read(file, file_length, &entry);
     printf("read %zu, entry %zu\n", number, entry);
-    for (size_t section = 0; section <= 5; section++) {
+    for (size_t section = 0; section <= CUP_SECTIONS; section++) {
         length = cup_section(file, file_length, section, &offset);
         printf("section %zu: %zu bytes at %zu\n", section, length, offset);
     }

@@ -4,13 +4,19 @@
 use cup_bridge::campaign::{instants, soundness, starts, tables, writes, Archive, Machine};
 use cup_bridge::state::{Loaded, Ran, State, Tables, Written};
 use cup_check::engine::Wrong;
-use cup_check::limits::{EVENT_BYTES, NEVER};
+use cup_check::limits::{
+    ACCEPTED, EVENT_BYTES, FINISHED, HEADER_BYTES, INPUTS_MAX, INTEGRATORS_MAX, INTEGRATOR_BYTES,
+    NEVER, PAUSED, REFUSED_COMMAND, REFUSED_RUN_BUFFER, REFUSED_UNSOUND, REFUSED_WRITE_BUFFER,
+    TABLE_SOURCES, WORD_BYTES,
+};
 use cup_check::sound::Lapse;
 
 /// States tried for each lapse; most are found within the first hundreds.
 const SOUNDNESS: u64 = 40_000;
 /// States and files tried for each wrong rule and each fault.
 const OTHERS: u64 = 2_000;
+/// The bytes of the shortest plan's file.
+const SHORTEST: usize = HEADER_BYTES + INTEGRATOR_BYTES;
 /// Where the tried ones start from.
 const SEED: u64 = 1;
 
@@ -168,10 +174,12 @@ impl Machine for Fault {
         match self {
             Fault::LoadsEntryZero => loaded.entry = 0,
             Fault::LoadsIdleAlways => loaded.state = Archive.load(&[]).state,
-            Fault::LoadsPlanOfRefused if loaded.number == 9 => loaded.state.plan.horizon = 2,
+            Fault::LoadsPlanOfRefused if loaded.number == REFUSED_COMMAND => {
+                loaded.state.plan.horizon = 2
+            }
             Fault::LoadsNothingDue => run.d[0] = NEVER,
             Fault::LoadsNeverAsZero if run.d[0] == NEVER => run.d[0] = 0,
-            Fault::LoadsWithoutInputs => run.inputs = [0; 8],
+            Fault::LoadsWithoutInputs => run.inputs = [0; INPUTS_MAX],
             _ => (),
         }
         loaded
@@ -182,16 +190,20 @@ impl Machine for Fault {
         let mut written = Archive.write(state, buffer);
         let (number, length, room) = (written.number, written.length, before.len());
         match self {
-            Fault::WritesWithoutLastByte if number == 0 => buffer[length - 1] = before[length - 1],
-            Fault::WritesBehind if number == 0 && length < room => buffer[length] ^= 1,
-            Fault::WritesIntoShort if number == 13 && room > 0 => buffer[0] ^= 1,
-            Fault::WritesOneByteShort if number == 13 => {
+            Fault::WritesWithoutLastByte if number == ACCEPTED => {
+                buffer[length - 1] = before[length - 1]
+            }
+            Fault::WritesBehind if number == ACCEPTED && length < room => buffer[length] ^= 1,
+            Fault::WritesIntoShort if number == REFUSED_WRITE_BUFFER && room > 0 => buffer[0] ^= 1,
+            Fault::WritesOneByteShort if number == REFUSED_WRITE_BUFFER => {
                 let mut longer = [before, vec![0]].concat();
                 return Archive.write(state, &mut longer);
             }
-            Fault::WritesShortBeforeUnsound if number == 10 && room < 52 => written.number = 13,
-            Fault::WritesLengthOfShort if number == 13 => written.length = room,
-            Fault::WritesStateBackOtherwise if number == 13 => {
+            Fault::WritesShortBeforeUnsound if number == REFUSED_UNSOUND && room < SHORTEST => {
+                written.number = REFUSED_WRITE_BUFFER
+            }
+            Fault::WritesLengthOfShort if number == REFUSED_WRITE_BUFFER => written.length = room,
+            Fault::WritesStateBackOtherwise if number == REFUSED_WRITE_BUFFER => {
                 written.state.run.clocks.updates = 0;
             }
             _ => (),
@@ -209,17 +221,19 @@ impl Machine for Fault {
         let mut ran = Archive.instant(state, eager, buffer);
         let taken = ran.state.run.clocks.clock > state.run.clocks.clock;
         match ran.number {
-            0 if taken => self.spoil_taken(state, &mut ran, buffer),
-            0 => (),
+            ACCEPTED if taken => self.spoil_taken(state, &mut ran, buffer),
+            ACCEPTED => (),
             _ => self.spoil_declined(state, eager, &mut ran, &before, buffer),
         }
         let (number, room) = (ran.number, before.len());
         match self {
-            Fault::InstantWritesBehind if number == 0 && ran.written < room => {
+            Fault::InstantWritesBehind if number == ACCEPTED && ran.written < room => {
                 buffer[ran.written] ^= 1;
             }
-            Fault::InstantWrittenRoom if number == 0 => ran.written = room,
-            Fault::InstantIntegratorAlways if number == 0 && ran.status == 1 => ran.integrator = 1,
+            Fault::InstantWrittenRoom if number == ACCEPTED => ran.written = room,
+            Fault::InstantIntegratorAlways if number == ACCEPTED && ran.status == FINISHED => {
+                ran.integrator = 1
+            }
             _ => (),
         }
         ran
@@ -229,11 +243,13 @@ impl Machine for Fault {
         let mut tables = Archive.tables(state);
         let nodes = state.plan.counts.n.wrapping_add(state.plan.counts.m);
         match self {
-            Fault::TablesWithoutEnd => tables.ranges[state.plan.counts.n.min(32)] = 0,
+            Fault::TablesWithoutEnd => tables.ranges[state.plan.counts.n.min(INTEGRATORS_MAX)] = 0,
             Fault::TablesInnerRange if state.plan.counts.n > 1 => tables.ranges[1] = 0,
-            Fault::TablesWithoutOwnBit if nodes < 64 => tables.reach[nodes] &= !(1 << 32),
+            Fault::TablesWithoutOwnBit if nodes < TABLE_SOURCES => {
+                tables.reach[nodes] &= !(1 << 32)
+            }
             Fault::TablesOfInputsAlone => tables.values[0] = 0,
-            Fault::TablesNodeValue if nodes < 64 => tables.values[nodes] = 0,
+            Fault::TablesNodeValue if nodes < TABLE_SOURCES => tables.values[nodes] = 0,
             Fault::TablesWithoutNodes => {
                 tables
                     .reach
@@ -260,7 +276,7 @@ impl Fault {
                 let lowest = run.l[..n].iter().position(|&l| l == clock);
                 lowest.into_iter().for_each(|i| keep(state, ran, i));
             }
-            Fault::InstantSkipsThirtyTwo if n == 32 => keep(state, ran, 31),
+            Fault::InstantSkipsThirtyTwo if n == INTEGRATORS_MAX => keep(state, ran, n - 1),
             Fault::InstantEventsDescend => {
                 let events = buffer[..ran.written].chunks(EVENT_BYTES);
                 let descending: Vec<u8> = events.rev().flatten().copied().collect();
@@ -268,16 +284,20 @@ impl Fault {
             }
             Fault::InstantInputWithoutN => {
                 for event in buffer[..ran.written].chunks_mut(EVENT_BYTES) {
-                    if usize::from(event[4]) >= n {
-                        event[4] -= n as u8;
+                    if usize::from(event[WORD_BYTES]) >= n {
+                        event[WORD_BYTES] -= n as u8;
                     }
                 }
             }
-            Fault::InstantStatusBefore => (ran.status, ran.integrator) = (0, 0),
+            Fault::InstantStatusBefore => (ran.status, ran.integrator) = (PAUSED, 0),
             Fault::InstantNotCounted => run.clocks.instants -= 1,
             Fault::InstantCommandsStay => run.clocks.next = state.run.clocks.next,
-            Fault::InstantClockRunsOn if ran.status == 1 => run.clocks.clock = state.plan.horizon,
-            Fault::InstantUnusedTouched if n < 32 => run.d[31] = NEVER,
+            Fault::InstantClockRunsOn if ran.status == FINISHED => {
+                run.clocks.clock = state.plan.horizon
+            }
+            Fault::InstantUnusedTouched if n < INTEGRATORS_MAX => {
+                run.d[INTEGRATORS_MAX - 1] = NEVER
+            }
             _ => (),
         }
     }
@@ -297,7 +317,9 @@ impl Fault {
                 let mut longer = [before, &[0]].concat();
                 *ran = *Archive.instant(state, eager, &mut longer);
             }
-            Fault::InstantShortBeforeUnsound if buffer.is_empty() => ran.number = 12,
+            Fault::InstantShortBeforeUnsound if buffer.is_empty() => {
+                ran.number = REFUSED_RUN_BUFFER
+            }
             _ => (),
         }
     }

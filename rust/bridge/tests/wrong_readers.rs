@@ -4,6 +4,9 @@ use cup_bridge::campaign::{Archive, Campaign, Reader};
 use cup_bridge::{Answer, Rewritten};
 use cup_check::file::read::{place_in, split};
 use cup_check::file::Slip;
+use cup_check::limits::{
+    Section, ACCEPTED, LINK_BYTES, REFUSED_COMMAND, REFUSED_SIZES, REFUSED_WRITE_BUFFER, SECTIONS,
+};
 
 /// Enough for all files next to samples and some thousand random ones.
 const FILES: u64 = 45_000;
@@ -90,8 +93,8 @@ impl Reader for Fault {
     fn read(&self, file: &[u8]) -> Answer {
         let mut answer = Archive.read(file);
         match self {
-            Fault::EntryOneHigher if answer.number == 9 => answer.entry += 1,
-            Fault::EntryOfWholeFile if answer.number == 3 => answer.entry = 1,
+            Fault::EntryOneHigher if answer.number == REFUSED_COMMAND => answer.entry += 1,
+            Fault::EntryOfWholeFile if answer.number == REFUSED_SIZES => answer.entry = 1,
             _ => (),
         }
         answer
@@ -102,11 +105,15 @@ impl Reader for Fault {
         let at = place_in(file, part);
         match self {
             Fault::SectionShifted if !part.is_empty() => &file[at - 1..][..part.len()],
-            Fault::SectionOneEntryLate if number == 3 => &part[part.len().min(12)..],
+            Fault::SectionOneEntryLate if number == Section::Links as usize => {
+                &part[part.len().min(LINK_BYTES)..]
+            }
             Fault::EmptySectionAtTheStart if part.is_empty() => &file[..0],
             Fault::EmptySectionAtTheEnd if part.is_empty() => &file[file.len()..],
-            Fault::SectionOfRefused if number < 5 => split(file).map_or(part, |all| all[number]),
-            Fault::SectionAboveFour => Archive.section(file, number.min(4)),
+            Fault::SectionOfRefused if number < SECTIONS => {
+                split(file).map_or(part, |all| all[number])
+            }
+            Fault::SectionAboveFour => Archive.section(file, number.min(SECTIONS - 1)),
             Fault::SectionNumberIn32Bits => Archive.section(file, number as u32 as usize),
             _ => part,
         }
@@ -117,16 +124,24 @@ impl Reader for Fault {
         let mut answer = Archive.rewrite(file, buffer);
         let (number, length) = (answer.number, answer.length);
         match self {
-            Fault::LastByteUnwritten if number == 0 => buffer[length - 1] = before[length - 1],
-            Fault::ByteBehindTouched if number == 0 && length < before.len() => buffer[length] ^= 1,
-            Fault::ShortBufferTouched if number == 13 => {
+            Fault::LastByteUnwritten if number == ACCEPTED => {
+                buffer[length - 1] = before[length - 1]
+            }
+            Fault::ByteBehindTouched if number == ACCEPTED && length < before.len() => {
+                buffer[length] ^= 1
+            }
+            Fault::ShortBufferTouched if number == REFUSED_WRITE_BUFFER => {
                 buffer.copy_from_slice(&file[..before.len()]);
             }
-            Fault::OneByteShortAccepted if number == 13 && before.len() + 1 == file.len() => {
-                answer.number = 0;
+            Fault::OneByteShortAccepted
+                if number == REFUSED_WRITE_BUFFER && before.len() + 1 == file.len() =>
+            {
+                answer.number = ACCEPTED;
             }
-            Fault::ShortBeforeRefused if before.len() < file.len() => answer.number = 13,
-            Fault::LengthOfShort if number == 13 => answer.length = file.len(),
+            Fault::ShortBeforeRefused if before.len() < file.len() => {
+                answer.number = REFUSED_WRITE_BUFFER
+            }
+            Fault::LengthOfShort if number == REFUSED_WRITE_BUFFER => answer.length = file.len(),
             _ => (),
         }
         answer

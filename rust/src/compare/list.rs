@@ -4,13 +4,13 @@ use super::buffer::Marked;
 use super::state::{moment_of, same_as_plain};
 use super::{holds, same, same_events, Beside, Called, Found, Met};
 use crate::calls::{Ran, Simulator};
-use crate::calls::{BUDGET_ABOVE, NO_SUCH_INTEGRATOR, SHORT_RUN_BUFFER};
 use crate::engine::Engine;
 use crate::file::encode;
 use crate::file::layout::section_bytes;
 use crate::file::read::place_in;
 use crate::generate::Call;
-use crate::limits::{BUDGET_MAX, EVENT_BYTES, HEADER_BYTES, INTEGRATORS_MAX};
+use crate::limits::{ACCEPTED, REFUSED_BUDGET, REFUSED_INTEGRATOR_NUMBER, REFUSED_RUN_BUFFER};
+use crate::limits::{BUDGET_MAX, EVENT_BYTES, HEADER_BYTES, INTEGRATORS_MAX, SECTIONS};
 use crate::plain::{Event, Observer, Plain};
 use crate::plan::Plan;
 use crate::raw::RawState;
@@ -43,7 +43,7 @@ pub fn loaded_list_beside(
 ) -> Found {
     let file = encode(plan);
     let loaded = simulator.load(&file);
-    same("load", (loaded.number, loaded.entry), (0, 0))?;
+    same("load", (loaded.number, loaded.entry), (ACCEPTED, 0))?;
     same("updates at the start", loaded.state.run.clocks.updates, 0)?;
     check_sections(simulator, plan, &file)?;
     let start = Plain::start(plan);
@@ -112,14 +112,18 @@ fn check_sections(simulator: &dyn Simulator, plan: &Plan, file: &[u8]) -> Found 
         same("a section's offset", place_in(file, part), offset)?;
         offset += expected.len();
     }
-    same("section 5", simulator.section(file, 5), &[])
+    same("section 5", simulator.section(file, SECTIONS), &[])
 }
 
 /// The writer gives the plan's file back from whatever state the runs have reached.
 fn check_written(simulator: &dyn Simulator, state: &RawState, file: &[u8]) -> Found {
     let mut buffer = Marked::new(file.len() + 5);
     let written = simulator.write(state, buffer.handed());
-    same("write", (written.number, written.length), (0, file.len()))?;
+    same(
+        "write",
+        (written.number, written.length),
+        (ACCEPTED, file.len()),
+    )?;
     same("written plan", buffer.first(file.len()), Some(file))?;
     same("byte changed", buffer.changed_beside(file.len()), None)?;
     holds("write changed the state", written.state == *state)
@@ -143,11 +147,11 @@ impl Comparison<'_> {
             .run(call.engine, &self.state, call.budget, buffer.handed());
         let instants_before = self.plain.instants;
         match self.expected_decline(call) {
-            0 => self.check_accepted(call, &ran, &buffer)?,
+            ACCEPTED => self.check_accepted(call, &ran, &buffer)?,
             number => self.check_declined(number, &ran, &buffer)?,
         }
         let before = std::mem::replace(&mut self.state, ran.state.clone());
-        if ran.number == 0 {
+        if ran.number == ACCEPTED {
             self.check_state()?;
         }
         beside.after(&Called {
@@ -160,20 +164,20 @@ impl Comparison<'_> {
     }
 
     /// In a list "a call is declined by 11 or 12 only".
-    fn expected_decline(&mut self, call: &Call) -> u32 {
+    fn expected_decline(&mut self, call: &Call) -> usize {
         if call.budget > BUDGET_MAX {
             self.met.declined_budget += 1;
-            return BUDGET_ABOVE;
+            return REFUSED_BUDGET;
         }
         let events = call.budget as usize * self.plain.plan.events_per_instant();
         if call.buffer < events * EVENT_BYTES {
             self.met.declined_buffer += 1;
-            return SHORT_RUN_BUFFER;
+            return REFUSED_RUN_BUFFER;
         }
-        0
+        ACCEPTED
     }
 
-    fn check_declined(&self, number: u32, ran: &Ran, buffer: &Marked) -> Found {
+    fn check_declined(&self, number: usize, ran: &Ran, buffer: &Marked) -> Found {
         same("number", ran.number, number)?;
         let figures = (ran.status, ran.integrator, ran.written);
         same("figures of a declined call", figures, (0, 0, 0))?;
@@ -186,7 +190,7 @@ impl Comparison<'_> {
     }
 
     fn check_accepted(&mut self, call: &Call, ran: &Ran, buffer: &Marked) -> Found {
-        same("number", ran.number, 0)?;
+        same("number", ran.number, ACCEPTED)?;
         let events_before = self.plain.events.len();
         let moves = self.run_plain(call);
         let status = self.plain.status();
@@ -253,7 +257,7 @@ impl Comparison<'_> {
         let mut instant_buffer = vec![0; self.plain.plan.events_per_instant() * EVENT_BYTES];
         for moved in moves {
             let step = self.simulator.run(engine, &state, 1, &mut instant_buffer);
-            same("number of a single instant", step.number, 0)?;
+            same("number of a single instant", step.number, ACCEPTED)?;
             let (before, after) = (state.run.clocks, step.state.run.clocks);
             let grown = after.updates.checked_sub(before.updates);
             same("growth of updates", grown, Some(moved.len() as u64))?;
@@ -286,14 +290,18 @@ impl Comparison<'_> {
         same_as_plain(&self.state, &self.plain)?;
         for (i, &expected) in self.plain.positions.iter().enumerate() {
             let answer = self.simulator.position(&self.state, i);
-            same("position", (answer.number, answer.value), (0, expected))?;
+            same(
+                "position",
+                (answer.number, answer.value),
+                (ACCEPTED, expected),
+            )?;
             holds("position changed the state", answer.state == self.state)?;
         }
         let n = self.state.plan.counts.n;
         for number in WILD.into_iter().chain([n, n + 1]) {
             let none = self.simulator.position(&self.state, number);
             let answered = (none.number, none.value);
-            same("position of none", answered, (NO_SUCH_INTEGRATOR, 0))?;
+            same("position of none", answered, (REFUSED_INTEGRATOR_NUMBER, 0))?;
             let kept = none.state == self.state;
             holds("position of none changed the state", kept)?;
             self.met.declined_position += 1;

@@ -67,7 +67,7 @@ impl Met {
         self.eager += u64::from(eager);
         self.without_instant += u64::from(instants == 0);
         let status = plain.status();
-        self.statuses[status.number() as usize] += 1;
+        self.statuses[status.number()] += 1;
         if let Status::Range(integrator) = status {
             self.count_range(integrator, plain);
         }

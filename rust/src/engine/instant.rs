@@ -3,8 +3,9 @@
 use super::rules::Rules;
 use super::state::{Cell, State};
 use super::Engine;
-use crate::limits::NEVER;
+use crate::limits::{NEVER, WORD_BYTES};
 use crate::status::Status;
+use crate::words::set_word;
 
 /// "Next instant t: the least of all d and the next command's tick", or [`NEVER`].
 pub fn next_tick(state: &State) -> u32 {
@@ -161,8 +162,8 @@ fn write_events(state: &State, instant: &Instant, buffer: &mut [u8]) -> usize {
     for (source, (value, &occurs)) in values.zip(flags).enumerate() {
         if occurs {
             for word in [instant.tick, source as u32, value as i32 as u32] {
-                buffer[written..written + 4].copy_from_slice(&word.to_le_bytes());
-                written += 4;
+                set_word(buffer, written, word);
+                written += WORD_BYTES;
             }
         }
     }

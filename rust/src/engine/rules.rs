@@ -4,7 +4,7 @@
 //! values and a sum of 256 products of a value and a coefficient both fit.
 
 use super::Engine;
-use crate::limits::M;
+use crate::limits::{GRAIN_BITS, M};
 use crate::plan::{Node, DIFFERENCE, LIMIT, PRODUCT};
 
 /// The rules that a test may exchange; [`Rules::DOCUMENT`] is document 01.
@@ -58,7 +58,7 @@ pub fn beyond(value: i128, bound: i128) -> bool {
 
 /// floor(sum / 65,536): an arithmetic shift rounds towards minus infinity.
 pub fn slope(sum: i128) -> i128 {
-    sum >> 16
+    sum >> GRAIN_BITS
 }
 
 /// The distance to the level ahead divided by the speed, rounded up, and at least 1. With x past
@@ -88,7 +88,7 @@ pub fn node_value(node: &Node, a: i128, b: i128) -> i128 {
     let (low, high) = (i128::from(node.low), i128::from(node.high));
     match node.kind {
         DIFFERENCE => (a - b).clamp(-bound, bound),
-        PRODUCT => ((a * b) >> 16).clamp(-bound, bound),
+        PRODUCT => ((a * b) >> GRAIN_BITS).clamp(-bound, bound),
         LIMIT => a.clamp(low, high),
         _ if a >= b => high,
         _ => low,

@@ -2,7 +2,7 @@
 
 use super::rules::{divided_rounding_up, node_value, ticks_to_level, Rules};
 use super::Engine;
-use crate::limits::{GRAINS, M};
+use crate::limits::{GRAINS, GRAIN_BITS, M};
 use crate::plan::{Node, DIFFERENCE, PRODUCT, THRESHOLD};
 
 /// One exchanged rule, or none.
@@ -157,7 +157,7 @@ fn wide_clip(node: &Node, a: i128, b: i128) -> i128 {
     let bound = 2 * i128::from(M);
     match node.kind {
         DIFFERENCE => (a - b).clamp(-bound, bound),
-        PRODUCT => ((a * b) >> 16).clamp(-bound, bound),
+        PRODUCT => ((a * b) >> GRAIN_BITS).clamp(-bound, bound),
         _ => node_value(node, a, b),
     }
 }

@@ -1,8 +1,8 @@
 //! One instant, and what is ahead of it.
 
-use super::tables::{NODES_FROM, SOURCES};
+use super::tables::NODES_FROM;
 use super::{Cell, Fast};
-use crate::limits::{EVENT_BYTES, INTEGRATORS_MAX, M, NEVER};
+use crate::limits::{EVENT_BYTES, INTEGRATORS_MAX, M, NEVER, TABLE_SOURCES, WORD_BYTES};
 use crate::status::Status;
 
 /// Due ticks that are looked at together.
@@ -71,9 +71,9 @@ impl Fast {
         for source in members_of_64(changed) {
             reached |= self.tables.reach[source];
             let event = &mut buffer[end..end + EVENT_BYTES];
-            event[..4].copy_from_slice(&tick.to_le_bytes());
-            event[4..8].copy_from_slice(&(source as u32).to_le_bytes());
-            event[8..].copy_from_slice(&(self.values[source] as i32).to_le_bytes());
+            event[..WORD_BYTES].copy_from_slice(&tick.to_le_bytes());
+            event[WORD_BYTES..2 * WORD_BYTES].copy_from_slice(&(source as u32).to_le_bytes());
+            event[2 * WORD_BYTES..].copy_from_slice(&(self.values[source] as i32).to_le_bytes());
             end += EVENT_BYTES;
         }
         self.work_nodes((reached >> NODES_FROM) as u32);
@@ -181,7 +181,7 @@ fn members_of_64(mut mask: u64) -> impl Iterator<Item = usize> {
         if mask == 0 {
             return None;
         }
-        let lowest = mask.trailing_zeros() as usize % SOURCES;
+        let lowest = mask.trailing_zeros() as usize % TABLE_SOURCES;
         mask &= mask - 1;
         Some(lowest)
     })

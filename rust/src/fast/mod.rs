@@ -15,7 +15,8 @@
 mod instant;
 mod tables;
 
-use crate::calls::{Ran, BUDGET_ABOVE, SHORT_RUN_BUFFER};
+use crate::calls::Ran;
+use crate::limits::{ACCEPTED, REFUSED_BUDGET, REFUSED_RUN_BUFFER};
 use crate::limits::{BUDGET_MAX, EVENT_BYTES, INTEGRATORS_MAX, NEVER};
 use crate::raw::{RawClocks, RawRunning, RawState};
 use crate::status::Status;
@@ -129,17 +130,17 @@ pub fn run_lazy(mut state: RawState, budget: u64, buffer: &mut [u8]) -> Ran {
         state,
     };
     if budget > BUDGET_MAX {
-        return declined(BUDGET_ABOVE, state);
+        return declined(REFUSED_BUDGET, state);
     }
     let room = budget as usize * state.plan.counts.events_per_instant() * EVENT_BYTES;
     if buffer.len() < room {
-        return declined(SHORT_RUN_BUFFER, state);
+        return declined(REFUSED_RUN_BUFFER, state);
     }
     let mut fast = Fast::prepared(&state);
     let outcome = fast.run(budget, buffer);
     state.run = fast.figures();
     Ran {
-        number: 0,
+        number: ACCEPTED,
         status: outcome.status.number(),
         integrator: outcome.status.integrator(),
         written: outcome.written,

@@ -1,13 +1,12 @@
 //! What is worked out of a plan once.
 
-use crate::limits::{COMMANDS_MAX, INPUTS_MAX, INTEGRATORS_MAX, LINKS_MAX, M};
+use crate::limits::{COMMANDS_MAX, INPUTS_MAX, INTEGRATORS_MAX, LINKS_MAX};
+use crate::limits::{GRAIN_BITS, M, TABLE_SOURCES};
 use crate::plan::{DIFFERENCE, LIMIT, PRODUCT};
 use crate::raw::RawPlan;
 
 /// Places by source number: a plan has at most 56 sources, and a byte is always one of these.
 pub const PLACES: usize = 256;
-/// Sources of a mask.
-pub const SOURCES: usize = 64;
 /// Where the nodes begin in an entry of the table of reach.
 pub const NODES_FROM: usize = 32;
 /// Links that are summed up together.
@@ -81,7 +80,7 @@ pub struct Tables {
     /// By tick, as in the plan.
     pub commands: [Command; COMMANDS_MAX],
     /// For each source the integrators, and from bit 32 on the nodes, that a change of it reaches.
-    pub reach: [u64; SOURCES],
+    pub reach: [u64; TABLE_SOURCES],
 }
 
 impl Tables {
@@ -97,7 +96,7 @@ impl Tables {
             links: [[Link::default(); TERMS]; ROWS],
             nodes: [Node::default(); NODES_FROM],
             commands: [Command::default(); COMMANDS_MAX],
-            reach: [0; SOURCES],
+            reach: [0; TABLE_SOURCES],
         };
         tables.fill_links(plan);
         tables.fill_nodes(plan);
@@ -177,7 +176,7 @@ impl Tables {
                 sum += i64::from(link.coefficient) * values[usize::from(link.source)];
             }
         }
-        sum >> 16
+        sum >> GRAIN_BITS
     }
 }
 
@@ -188,7 +187,7 @@ impl Node {
         let (a, b) = (values[usize::from(self.a)], values[usize::from(self.b)]);
         match usize::from(self.kind) {
             DIFFERENCE => limited(a - b, -M, M),
-            PRODUCT => limited((a * b) >> 16, -M, M),
+            PRODUCT => limited((a * b) >> GRAIN_BITS, -M, M),
             LIMIT => limited(a, self.low, self.high),
             _ if a >= b => self.high,
             _ => self.low,

@@ -3,6 +3,11 @@
 //! Only the number and the entry are part of the answer; the causes let a test campaign count which
 //! of the rules behind a number it has met.
 
+use crate::limits::{
+    REFUSED_COMMAND, REFUSED_HORIZON, REFUSED_INPUT, REFUSED_INTEGRATOR, REFUSED_LINK,
+    REFUSED_NODE, REFUSED_OFFSETS, REFUSED_SHORT, REFUSED_SIZES,
+};
+
 /// One way of breaking a rule. The leading digit of each group is its refusal number.
 #[derive(Clone, Copy, Debug, PartialEq, Eq, PartialOrd, Ord, Hash)]
 pub enum Cause {
@@ -116,14 +121,14 @@ impl Cause {
     ];
 
     /// The refusal number of document 01.
-    pub fn number(self) -> u32 {
+    pub fn number(self) -> usize {
         match self {
-            Cause::ShortFile => 1,
-            Cause::FirstOffset | Cause::NextOffset | Cause::FileEnd => 2,
-            Cause::PartOfEntry | Cause::TooFewEntries | Cause::TooManyEntries => 3,
-            Cause::HorizonZero | Cause::HorizonAbove => 4,
-            Cause::StartBeyond | Cause::QuantumBelow | Cause::QuantumAbove => 5,
-            Cause::FirstValueBeyond => 6,
+            Cause::ShortFile => REFUSED_SHORT,
+            Cause::FirstOffset | Cause::NextOffset | Cause::FileEnd => REFUSED_OFFSETS,
+            Cause::PartOfEntry | Cause::TooFewEntries | Cause::TooManyEntries => REFUSED_SIZES,
+            Cause::HorizonZero | Cause::HorizonAbove => REFUSED_HORIZON,
+            Cause::StartBeyond | Cause::QuantumBelow | Cause::QuantumAbove => REFUSED_INTEGRATOR,
+            Cause::FirstValueBeyond => REFUSED_INPUT,
             Cause::KindAbove
             | Cause::AOutOfPlace
             | Cause::BOutOfPlace
@@ -132,19 +137,19 @@ impl Cause {
             | Cause::UnusedHighNotZero
             | Cause::LowBeyond
             | Cause::HighBeyond
-            | Cause::LowAboveHigh => 7,
+            | Cause::LowAboveHigh => REFUSED_NODE,
             Cause::TargetOutOfPlace
             | Cause::SourceOutOfPlace
             | Cause::CoefficientZero
             | Cause::CoefficientBeyond
             | Cause::LinkRepeats
-            | Cause::LinkDescends => 8,
+            | Cause::LinkDescends => REFUSED_LINK,
             Cause::TickZero
             | Cause::TickAboveHorizon
             | Cause::InputOutOfPlace
             | Cause::ValueBeyond
             | Cause::CommandRepeats
-            | Cause::CommandDescends => 9,
+            | Cause::CommandDescends => REFUSED_COMMAND,
         }
     }
 }
@@ -165,7 +170,7 @@ impl Refusal {
     }
 
     /// The refusal number of document 01.
-    pub fn number(self) -> u32 {
+    pub fn number(self) -> usize {
         self.cause.number()
     }
 }

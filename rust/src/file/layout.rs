@@ -1,6 +1,6 @@
 //! Putting a plan file together.
 
-use crate::limits::{HEADER_BYTES, WORD_BYTES};
+use crate::limits::{HEADER_BYTES, SECTIONS, WORD_BYTES};
 use crate::plan::Plan;
 
 /// The file of a plan. A plan that breaks the rules is encoded as well, each field by its lowest
@@ -18,7 +18,7 @@ pub fn write(plan: &Plan, buffer: &mut [u8]) -> Option<usize> {
 }
 
 /// A file from a horizon and the bytes of its sections, with the pairs that the offset rule asks.
-pub fn assemble(horizon: u32, sections: &[Vec<u8>; 5]) -> Vec<u8> {
+pub fn assemble(horizon: u32, sections: &[Vec<u8>; SECTIONS]) -> Vec<u8> {
     let mut file = Vec::new();
     put(&mut file, i64::from(horizon));
     let mut offset = HEADER_BYTES;
@@ -34,7 +34,7 @@ pub fn assemble(horizon: u32, sections: &[Vec<u8>; 5]) -> Vec<u8> {
 }
 
 /// The bytes of the five sections.
-pub fn section_bytes(plan: &Plan) -> [Vec<u8>; 5] {
+pub fn section_bytes(plan: &Plan) -> [Vec<u8>; SECTIONS] {
     [
         entries(&plan.integrators, |entry| [entry.start, entry.quantum]),
         entries(&plan.inputs, |&first| [first]),

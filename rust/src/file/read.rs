@@ -3,15 +3,15 @@
 use super::cause::{Cause, Refusal};
 use super::reading::Reading;
 use super::rules;
-use crate::limits::{Section, HEADER_BYTES, WORD_BYTES};
+use crate::limits::{Section, HEADER_BYTES, SECTIONS, WORD_BYTES};
 use crate::plan::{Command, Integrator, Link, Node, Plan};
 use crate::words::{signed_at, word_at};
 
 /// The five sections of a file, each a part of the file itself.
-pub type Parts<'f> = [&'f [u8]; 5];
+pub type Parts<'f> = [&'f [u8]; SECTIONS];
 
 /// Offset and length of the five sections.
-type Pairs = [(u64, u64); 5];
+type Pairs = [(u64, u64); SECTIONS];
 
 /// The plan of a file, or the first of the refusals 1 to 9 that it meets.
 pub fn read(file: &[u8]) -> Result<Plan, Refusal> {
@@ -139,40 +139,45 @@ fn decode(file: &[u8], parts: &Parts) -> Plan {
 fn integrator(entry: &[u8]) -> Integrator {
     Integrator {
         start: signed(entry, 0),
-        quantum: i64::from(word_at(entry, 4)),
+        quantum: i64::from(unsigned(entry, 1)),
     }
 }
 
 fn node(entry: &[u8]) -> Node {
     Node {
         kind: index(entry, 0),
-        a: index(entry, 4),
-        b: index(entry, 8),
-        low: signed(entry, 12),
-        high: signed(entry, 16),
+        a: index(entry, 1),
+        b: index(entry, 2),
+        low: signed(entry, 3),
+        high: signed(entry, 4),
     }
 }
 
 fn link(entry: &[u8]) -> Link {
     Link {
         target: index(entry, 0),
-        source: index(entry, 4),
-        coefficient: signed(entry, 8),
+        source: index(entry, 1),
+        coefficient: signed(entry, 2),
     }
 }
 
 fn command(entry: &[u8]) -> Command {
     Command {
-        tick: word_at(entry, 0),
-        input: index(entry, 4),
-        value: signed(entry, 8),
+        tick: unsigned(entry, 0),
+        input: index(entry, 1),
+        value: signed(entry, 2),
     }
 }
 
-fn signed(bytes: &[u8], at: usize) -> i64 {
-    i64::from(signed_at(bytes, at))
+/// A word of an entry, counted from 0.
+fn unsigned(entry: &[u8], number: usize) -> u32 {
+    word_at(entry, number * WORD_BYTES)
 }
 
-fn index(bytes: &[u8], at: usize) -> usize {
-    word_at(bytes, at) as usize
+fn signed(entry: &[u8], number: usize) -> i64 {
+    i64::from(signed_at(entry, number * WORD_BYTES))
+}
+
+fn index(entry: &[u8], number: usize) -> usize {
+    unsigned(entry, number) as usize
 }

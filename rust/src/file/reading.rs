@@ -2,6 +2,9 @@
 
 use super::cause::{Cause, Refusal};
 use crate::limits::Section;
+use crate::limits::{
+    REFUSED_COMMAND, REFUSED_HORIZON, REFUSED_INPUT, REFUSED_INTEGRATOR, REFUSED_LINK, REFUSED_NODE,
+};
 use crate::plan::{Node, Plan, LIMIT};
 use std::cmp::Ordering;
 
@@ -20,7 +23,7 @@ pub struct Reading {
     /// Whether the counts of all sections are tried before the horizon.
     pub counts_first: bool,
     /// The numbers 4 to 9 in the order in which they are tried.
-    pub order: [u32; 6],
+    pub order: [usize; 6],
     /// Which of a section's faults is answered.
     pub answered: fn(faults: Faults) -> Option<Refusal>,
     /// The entry of a fault that is found at an entry.
@@ -53,7 +56,14 @@ impl Reading {
         ends_file: |end, file_length| end == file_length,
         most: Section::most,
         counts_first: true,
-        order: [4, 5, 6, 7, 8, 9],
+        order: [
+            REFUSED_HORIZON,
+            REFUSED_INTEGRATOR,
+            REFUSED_INPUT,
+            REFUSED_NODE,
+            REFUSED_LINK,
+            REFUSED_COMMAND,
+        ],
         answered: |faults| faults.next(),
         // "an order fault is the later entry's", which is where it is found.
         entry: |_, found_at| found_at,

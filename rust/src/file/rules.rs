@@ -3,6 +3,9 @@
 use super::cause::{Cause, Refusal};
 use super::reading::Reading;
 use crate::limits::{COEFFICIENT_BOUND, HORIZON_MAX, M};
+use crate::limits::{
+    REFUSED_HORIZON, REFUSED_INPUT, REFUSED_INTEGRATOR, REFUSED_LINK, REFUSED_NODE,
+};
 use crate::plan::{Command, Integrator, Link, Node, Plan};
 use crate::plan::{DIFFERENCE, PRODUCT, THRESHOLD};
 use std::cmp::Ordering;
@@ -18,20 +21,22 @@ pub fn check_by(rules: &Reading, plan: &Plan) -> Result<(), Refusal> {
     numbers.try_for_each(|number| check_number(rules, plan, number))
 }
 
-fn check_number(rules: &Reading, plan: &Plan, number: u32) -> Result<(), Refusal> {
+fn check_number(rules: &Reading, plan: &Plan, number: usize) -> Result<(), Refusal> {
     match number {
-        4 => horizon(plan.horizon).or_else(|refusal| match asked(rules, refusal.cause) {
-            true => Err(refusal),
-            false => Ok(()),
-        }),
-        5 => check_entries(rules, &plan.integrators, |_, entry| {
+        REFUSED_HORIZON => {
+            horizon(plan.horizon).or_else(|refusal| match asked(rules, refusal.cause) {
+                true => Err(refusal),
+                false => Ok(()),
+            })
+        }
+        REFUSED_INTEGRATOR => check_entries(rules, &plan.integrators, |_, entry| {
             integrator(rules, entry)
         }),
-        6 => check_entries(rules, &plan.inputs, |_, &first| input(rules, first)),
-        7 => check_entries(rules, &plan.nodes, |number, entry| {
+        REFUSED_INPUT => check_entries(rules, &plan.inputs, |_, &first| input(rules, first)),
+        REFUSED_NODE => check_entries(rules, &plan.nodes, |number, entry| {
             node(rules, entry, plan.node_source(number))
         }),
-        8 => check_links(rules, plan),
+        REFUSED_LINK => check_links(rules, plan),
         _ => check_commands(rules, plan),
     }
 }

@@ -2,7 +2,7 @@
 
 use super::cause::Cause;
 use super::reading::Reading;
-use crate::limits::Section;
+use crate::limits::{Section, REFUSED_LINK, REFUSED_NODE};
 use crate::plan::{Plan, LIMIT, THRESHOLD};
 use std::cmp::Ordering;
 
@@ -92,7 +92,7 @@ impl Slip {
                 ..right
             },
             Slip::NodesAfterLinks => Reading {
-                order: [4, 5, 6, 8, 7, 9],
+                order: nodes_after_links(right.order),
                 ..right
             },
             Slip::HighestEntry => Reading {
@@ -137,6 +137,15 @@ impl Slip {
             },
         }
     }
+}
+
+/// The same numbers with those of nodes and links exchanged.
+fn nodes_after_links(order: [usize; 6]) -> [usize; 6] {
+    order.map(|number| match number {
+        REFUSED_NODE => REFUSED_LINK,
+        REFUSED_LINK => REFUSED_NODE,
+        _ => number,
+    })
 }
 
 fn earlier_entry(cause: Cause, found_at: usize) -> usize {

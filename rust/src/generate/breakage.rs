@@ -4,7 +4,8 @@ use super::plant::in_plan;
 use super::rng::Rng;
 use super::states::{due_tick, first_later_command, moved_to_clock, settle};
 use crate::file::{Cause, Refusal};
-use crate::limits::{GRAINS, M, NEVER};
+use crate::limits::{COMMANDS_MAX, INPUTS_MAX, INTEGRATORS_MAX, LINKS_MAX, NODES_MAX};
+use crate::limits::{GRAINS, M, NEVER, REFUSED_SIZES};
 use crate::plan::Plan;
 use crate::raw::{RawPlan, RawState};
 use crate::sound::Clause;
@@ -131,17 +132,20 @@ fn break_count(rng: &mut Rng, mut state: RawState) -> Broken {
     let wild = [1 << 32, usize::MAX - 1, usize::MAX];
     match rng.below(6) {
         0 => plan.counts.n = 0,
-        1 => plan.counts.n = rng.pick(&[33, wild[0], wild[1], wild[2]]),
-        2 => plan.counts.m = rng.pick(&[9, wild[0], wild[1], wild[2]]),
-        3 => plan.counts.k = rng.pick(&[17, wild[0], wild[1], wild[2]]),
-        4 => plan.counts.links = rng.pick(&[257, wild[0], wild[1], wild[2]]),
-        _ => plan.counts.commands = rng.pick(&[65, wild[0], wild[1], wild[2]]),
+        1 => plan.counts.n = rng.pick(&[INTEGRATORS_MAX + 1, wild[0], wild[1], wild[2]]),
+        2 => plan.counts.m = rng.pick(&[INPUTS_MAX + 1, wild[0], wild[1], wild[2]]),
+        3 => plan.counts.k = rng.pick(&[NODES_MAX + 1, wild[0], wild[1], wild[2]]),
+        4 => plan.counts.links = rng.pick(&[LINKS_MAX + 1, wild[0], wild[1], wild[2]]),
+        _ => plan.counts.commands = rng.pick(&[COMMANDS_MAX + 1, wild[0], wild[1], wild[2]]),
     }
     (state, Clause::Counts)
 }
 
 fn break_plan(rng: &mut Rng, mut state: RawState, mut plan: Plan) -> Option<Broken> {
-    let of_entries: Vec<Cause> = Cause::ALL.into_iter().filter(|c| c.number() > 3).collect();
+    let of_entries: Vec<Cause> = Cause::ALL
+        .into_iter()
+        .filter(|c| c.number() > REFUSED_SIZES)
+        .collect();
     let cause = rng.pick(&of_entries);
     let entry = in_plan(rng, &mut plan, cause)?;
     state.plan = RawPlan::from(&plan);
@@ -260,6 +264,11 @@ fn input_beyond(rng: &mut Rng, state: RawState) -> Option<Broken> {
 
 fn change_next(rng: &mut Rng, mut state: RawState) -> Broken {
     let right = state.run.clocks.next;
-    state.run.clocks.next = rng.pick(&[right + 1, right.wrapping_sub(1), 65, usize::MAX]);
+    state.run.clocks.next = rng.pick(&[
+        right + 1,
+        right.wrapping_sub(1),
+        COMMANDS_MAX + 1,
+        usize::MAX,
+    ]);
     (state, Clause::NextCommand)
 }

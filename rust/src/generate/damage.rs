@@ -7,7 +7,7 @@ use crate::file::layout::assemble;
 use crate::file::read::split;
 use crate::limits::{
     Section, COEFFICIENT_BOUND, COMMANDS_MAX, GRAINS, HEADER_BYTES, HORIZON_MAX, INPUTS_MAX,
-    INTEGRATORS_MAX, LINKS_MAX, M, NODES_MAX, WORD_BYTES,
+    INTEGRATORS_MAX, LINKS_MAX, M, NODES_MAX, SECTIONS, WORD_BYTES,
 };
 use crate::words::{set_word, word_at};
 
@@ -222,10 +222,10 @@ fn replace_word(
     damaged
 }
 
-/// Replaces the offset (`part` 0) or the length (`part` 4) of a section.
+/// Replaces the offset (`part` 0) or the length (`part` 4, a word behind it) of a section.
 fn replace_pair_word(rng: &mut Rng, file: &[u8], part: usize) -> Vec<u8> {
     let mut damaged = file.to_vec();
-    let place = offset_place(rng.below(5)) + part;
+    let place = offset_place(rng.below(SECTIONS)) + part;
     if place + WORD_BYTES <= file.len() {
         let former = word_at(file, place);
         let change = rng.pick(&[nudged_word, boundary_word]);
@@ -240,7 +240,7 @@ fn move_border(rng: &mut Rng, file: &[u8]) -> Vec<u8> {
     let Ok(parts) = split(file) else {
         return flip_bits(rng, file);
     };
-    let first = rng.below(4);
+    let first = rng.below(SECTIONS - 1);
     let joined = [parts[first], parts[first + 1]].concat();
     let border = rng.below(joined.len() / WORD_BYTES + 1) * WORD_BYTES;
     let mut sections = parts.map(<[u8]>::to_vec);
@@ -259,8 +259,8 @@ fn wrap_sums(rng: &mut Rng, file: &[u8]) -> Vec<u8> {
     let near = rng.pick(&[4_u32, 8, 12, 20, 1 << 24, 1 << 31]);
     let any = rng.bits() as u32;
     let change = rng.pick(&[near, near.wrapping_neg(), any]);
-    let first = rng.below(4);
-    let last = first + 1 + rng.below(4 - first);
+    let first = rng.below(SECTIONS - 1);
+    let last = first + 1 + rng.below(SECTIONS - 1 - first);
     let mut add = |place, change| {
         let word = word_at(&damaged, place).wrapping_add(change);
         set_word(&mut damaged, place, word);

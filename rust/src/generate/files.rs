@@ -9,8 +9,10 @@ use super::Damage;
 use crate::file::layout::{assemble, section_bytes};
 use crate::file::{encode, Cause};
 use crate::limits::{Section, HORIZON_MAX, WORD_BYTES};
+use crate::limits::{REFUSED_COMMAND, REFUSED_HORIZON, REFUSED_SHORT, REFUSED_SIZES};
 use crate::plan::Plan;
 use crate::words::set_word;
+use std::ops::RangeInclusive;
 
 /// How a file comes about.
 #[derive(Clone, Copy, Debug, PartialEq, Eq, PartialOrd, Ord)]
@@ -97,7 +99,7 @@ fn file(rng: &mut Rng, origin: Origin) -> Vec<u8> {
             }
         }
         Origin::FaultyFileAndEntry => {
-            let (entry_cause, cause) = (cause_of(rng, 4..=9), cause_of(rng, 1..=3));
+            let (entry_cause, cause) = (cause_of(rng, OF_ENTRIES), cause_of(rng, OF_THE_FILE));
             in_plan(rng, &mut plan, entry_cause);
             return in_file(rng, &plan, cause);
         }
@@ -114,7 +116,12 @@ fn file(rng: &mut Rng, origin: Origin) -> Vec<u8> {
     encode(&plan)
 }
 
-fn cause_of(rng: &mut Rng, numbers: std::ops::RangeInclusive<u32>) -> Cause {
+/// The refusals of a file as a whole.
+const OF_THE_FILE: RangeInclusive<usize> = REFUSED_SHORT..=REFUSED_SIZES;
+/// The refusals of what stands in it.
+const OF_ENTRIES: RangeInclusive<usize> = REFUSED_HORIZON..=REFUSED_COMMAND;
+
+fn cause_of(rng: &mut Rng, numbers: RangeInclusive<usize>) -> Cause {
     let all = Cause::ALL.into_iter();
     let fitting: Vec<Cause> = all.filter(|c| numbers.contains(&c.number())).collect();
     rng.pick(&fitting)
@@ -132,10 +139,10 @@ fn one_fault(rng: &mut Rng, mut plan: Plan) -> Vec<u8> {
 }
 
 fn two_faults(rng: &mut Rng, plan: &mut Plan) {
-    let first = cause_of(rng, 4..=9);
+    let first = cause_of(rng, OF_ENTRIES);
     let second = match rng.once_in(2) {
         true => cause_of(rng, first.number()..=first.number()),
-        false => cause_of(rng, 4..=9),
+        false => cause_of(rng, OF_ENTRIES),
     };
     in_plan(rng, plan, first);
     in_plan(rng, plan, second);

@@ -59,11 +59,18 @@ fn budget(rng: &mut Rng) -> u64 {
         3 => 2,
         4..=7 => rng.within(2, 30) as u64,
         8 | 9 => LISTING_BUDGET,
-        10 | 11 => rng.within(65, 400) as u64,
-        12 => rng.within(31, 63) as u64,
+        10 | 11 => rng.within(LISTING_BUDGET as i64 + 1, 400) as u64,
+        12 => rng.within(31, LISTING_BUDGET as i64 - 1) as u64,
         13 => BUDGET_MAX,
         14 => BUDGET_MAX + 1,
-        _ => rng.pick(&[u64::MAX, u64::MAX, u64::MAX / 12, 1 << 63, 1 << 32, 5_000]),
+        _ => rng.pick(&[
+            u64::MAX,
+            u64::MAX,
+            u64::MAX / EVENT_BYTES as u64,
+            1 << 63,
+            1 << 32,
+            5_000,
+        ]),
     }
 }
 

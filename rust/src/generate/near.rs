@@ -6,7 +6,7 @@ use crate::limits::{
     COEFFICIENT_BOUND, COMMANDS_MAX, HORIZON_MAX, INPUTS_MAX, INTEGRATORS_MAX, LINKS_MAX, M, NEVER,
     NODES_MAX,
 };
-use crate::plan::{Plan, THRESHOLD};
+use crate::plan::{Plan, LIMIT, THRESHOLD};
 use crate::raw::{RawCounts, RawPlan, RawState};
 use crate::sound::table::first_command_after;
 use crate::sound::{as_kept, has_values, Array};
@@ -120,7 +120,13 @@ fn change_node(rng: &mut Rng, plan: &mut RawPlan) {
     let j = some(rng, counts.k, NODES_MAX);
     let own = counts.n.wrapping_add(counts.m).wrapping_add(j) as i64;
     match rng.below(5) {
-        0 => nodes.kinds[j] = near(rng, nodes.kinds[j] as i64, &[0, 2, THRESHOLD as i64]) as usize,
+        0 => {
+            nodes.kinds[j] = near(
+                rng,
+                nodes.kinds[j] as i64,
+                &[0, LIMIT as i64, THRESHOLD as i64],
+            ) as usize
+        }
         1 => nodes.a[j] = near(rng, nodes.a[j] as i64, &[0, own]) as usize,
         2 => nodes.b[j] = near(rng, nodes.b[j] as i64, &[0, own]) as usize,
         3 => nodes.lows[j] = near(rng, nodes.lows[j], &[M, -M, 0, nodes.highs[j]]),

@@ -2,7 +2,8 @@
 
 use super::recipe::{Recipe, Spread};
 use super::rng::Rng;
-use crate::limits::{COEFFICIENT_BOUND, GRAINS, HORIZON_MAX, M, NODES_MAX};
+use crate::limits::{COEFFICIENT_BOUND, GRAINS, HORIZON_MAX, M};
+use crate::limits::{COMMANDS_MAX, INPUTS_MAX, INTEGRATORS_MAX, LINKS_MAX, NODES_MAX, SECTIONS};
 use crate::plan::{Plan, DIFFERENCE, LIMIT, THRESHOLD};
 
 /// What a plan is made for.
@@ -84,7 +85,13 @@ pub fn any(rng: &mut Rng) -> Plan {
 }
 
 /// Every section as long as it may be.
-const FULL_COUNTS: [(usize, usize); 5] = [(32, 32), (8, 8), (16, 16), (256, 256), (64, 64)];
+const FULL_COUNTS: [(usize, usize); SECTIONS] = [
+    (INTEGRATORS_MAX, INTEGRATORS_MAX),
+    (INPUTS_MAX, INPUTS_MAX),
+    (NODES_MAX, NODES_MAX),
+    (LINKS_MAX, LINKS_MAX),
+    (COMMANDS_MAX, COMMANDS_MAX),
+];
 
 const ORDINARY: Recipe = Recipe {
     horizon: Spread::Within(100, 4_000),
@@ -173,7 +180,7 @@ const TINY: Recipe = Recipe {
 
 const CHAIN: Recipe = Recipe {
     horizon: Spread::Within(200, 50_000),
-    counts: [(2, 6), (1, 3), (16, 16), (4, 20), (0, 8)],
+    counts: [(2, 6), (1, 3), (NODES_MAX, NODES_MAX), (4, 20), (0, 8)],
     start: Spread::Within(-3 * GRAINS, 3 * GRAINS),
     quantum: Spread::Within(GRAINS / 8, 2 * GRAINS),
     value: Spread::Within(-3 * GRAINS, 3 * GRAINS),
@@ -184,7 +191,7 @@ const CHAIN: Recipe = Recipe {
 
 const COMMANDED: Recipe = Recipe {
     horizon: Spread::Within(20, 400),
-    counts: [(1, 5), (2, 8), (0, 4), (2, 20), (10, 64)],
+    counts: [(1, 5), (2, INPUTS_MAX), (0, 4), (2, 20), (10, COMMANDS_MAX)],
     start: Spread::Within(-50, 50),
     quantum: Spread::Within(2, 40),
     value: Spread::OneOf(&[-3, 0, 3]),
@@ -208,7 +215,13 @@ const LADDER: Recipe = Recipe {
 /// [`bare`] leaves sections out.
 const BARE: Recipe = Recipe {
     horizon: Spread::OneOf(&[1, 2, 50, 1_000, HORIZON_MAX as i64]),
-    counts: [(1, 32), (1, 8), (0, 3), (1, 40), (0, 20)],
+    counts: [
+        (1, INTEGRATORS_MAX),
+        (1, INPUTS_MAX),
+        (0, 3),
+        (1, 40),
+        (0, 20),
+    ],
     start: Spread::Within(-400, 400),
     quantum: Spread::Within(20, 300),
     value: Spread::Within(-40, 40),

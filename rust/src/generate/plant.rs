@@ -3,7 +3,12 @@
 use super::rng::Rng;
 use crate::file::layout::{assemble, section_bytes};
 use crate::file::{encode, Cause, Refusal};
-use crate::limits::{Section, COEFFICIENT_BOUND, HEADER_BYTES, HORIZON_MAX, M, WORD_BYTES};
+use crate::limits::{
+    Section, COEFFICIENT_BOUND, HEADER_BYTES, HORIZON_MAX, M, SECTIONS, WORD_BYTES,
+};
+use crate::limits::{
+    REFUSED_HORIZON, REFUSED_INPUT, REFUSED_INTEGRATOR, REFUSED_LINK, REFUSED_NODE, REFUSED_SIZES,
+};
 use crate::plan::{Plan, DIFFERENCE, LIMIT, PRODUCT, THRESHOLD};
 use crate::words::{set_word, word_at};
 
@@ -23,7 +28,7 @@ pub struct Planted {
 
 /// A lawful plan's file with one fault; `None` if the plan has no entry that can carry it.
 pub fn planted(rng: &mut Rng, plan: &Plan, cause: Cause) -> Option<Planted> {
-    if cause.number() <= 3 {
+    if cause.number() <= REFUSED_SIZES {
         let refusal = Refusal::whole(cause);
         let file = in_file(rng, plan, cause);
         return Some(Planted { file, refusal });
@@ -38,11 +43,11 @@ pub fn planted(rng: &mut Rng, plan: &Plan, cause: Cause) -> Option<Planted> {
 /// Plants one of the causes of refusals 4 to 9 and answers its entry.
 pub fn in_plan(rng: &mut Rng, plan: &mut Plan, cause: Cause) -> Option<usize> {
     match cause.number() {
-        4 => Some(plant_horizon(rng, plan, cause)),
-        5 => Some(plant_integrator(rng, plan, cause)),
-        6 => plant_input(rng, plan),
-        7 => plant_node(rng, plan, cause),
-        8 => plant_link(rng, plan, cause),
+        REFUSED_HORIZON => Some(plant_horizon(rng, plan, cause)),
+        REFUSED_INTEGRATOR => Some(plant_integrator(rng, plan, cause)),
+        REFUSED_INPUT => plant_input(rng, plan),
+        REFUSED_NODE => plant_node(rng, plan, cause),
+        REFUSED_LINK => plant_link(rng, plan, cause),
         _ => plant_command(rng, plan, cause),
     }
 }
@@ -57,7 +62,7 @@ pub fn twice_in_one_entry(rng: &mut Rng, plan: &mut Plan) -> Option<usize> {
     ]);
     let entry = in_plan(rng, plan, cause)?;
     match cause.number() {
-        8 => plan.links[entry].coefficient = rng.pick(&[0, COEFFICIENT_BOUND + 1]),
+        REFUSED_LINK => plan.links[entry].coefficient = rng.pick(&[0, COEFFICIENT_BOUND + 1]),
         _ => plan.commands[entry].value = rng.pick(&BEYOND_M),
     }
     Some(entry)
@@ -100,7 +105,9 @@ fn plant_node(rng: &mut Rng, plan: &mut Plan, cause: Cause) -> Option<usize> {
     let places = plan.node_source(entry);
     let node = &mut plan.nodes[entry];
     match cause {
-        Cause::KindAbove => node.kind = rng.pick(&[4, 5, 256, u32::MAX as usize]),
+        Cause::KindAbove => {
+            node.kind = rng.pick(&[THRESHOLD + 1, THRESHOLD + 2, 256, u32::MAX as usize]);
+        }
         Cause::AOutOfPlace => node.a = rng.pick(&[places, places + 1, u32::MAX as usize]),
         Cause::BOutOfPlace => node.b = rng.pick(&[places, places + 1, u32::MAX as usize]),
         Cause::UnusedBNotZero => node.b = rng.pick(&[1, places, u32::MAX as usize]),
@@ -181,7 +188,7 @@ pub fn in_file(rng: &mut Rng, plan: &Plan, cause: Cause) -> Vec<u8> {
         Cause::ShortFile => file.truncate(rng.below(HEADER_BYTES)),
         Cause::FirstOffset => move_word(rng, &mut file, offset_place(0)),
         Cause::NextOffset => {
-            let section = rng.below(4) + 1;
+            let section = rng.below(SECTIONS - 1) + 1;
             move_word(rng, &mut file, offset_place(section));
         }
         Cause::FileEnd => move_end(rng, &mut file),
@@ -211,7 +218,7 @@ fn move_end(rng: &mut Rng, file: &mut Vec<u8>) {
     match rng.below(3) {
         0 => file.extend(vec![0; rng.below(30) + 1]),
         1 => file.truncate(file.len() - 1 - rng.below(file.len() - HEADER_BYTES)),
-        _ => move_word(rng, file, offset_place(4) + WORD_BYTES),
+        _ => move_word(rng, file, offset_place(SECTIONS - 1) + WORD_BYTES),
     }
 }
 

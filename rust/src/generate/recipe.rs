@@ -1,7 +1,7 @@
 //! Lawful plans from ranges for their counts and numbers.
 
 use super::rng::Rng;
-use crate::limits::Section;
+use crate::limits::{Section, SECTIONS};
 use crate::plan::{Command, Integrator, Link, Node, Plan, LIMIT, THRESHOLD};
 use std::collections::BTreeSet;
 
@@ -31,7 +31,7 @@ pub struct Recipe {
     /// The horizon.
     pub horizon: Spread,
     /// Least and greatest count of each section.
-    pub counts: [(usize, usize); 5],
+    pub counts: [(usize, usize); SECTIONS],
     /// Starts.
     pub start: Spread,
     /// Quanta.

@@ -1,7 +1,7 @@
 //! Node values and slopes of the plain machine.
 
 use crate::limits::{GRAINS, M};
-use crate::plan::{Node, Plan};
+use crate::plan::{Node, Plan, DIFFERENCE, LIMIT, PRODUCT, THRESHOLD};
 
 /// The values of all sources by source number: "integrators give q, inputs their value, nodes
 /// their value", the nodes "worked out in node order".
@@ -33,9 +33,9 @@ pub fn clipped_nodes(plan: &Plan, sources: &[i64]) -> usize {
 fn node_value(node: &Node, sources: &[i64]) -> i64 {
     let value = unlimited(node, sources);
     match node.kind {
-        0 | 1 => value.clamp(-M, M),
-        2 => value.clamp(node.low, node.high),
-        3 => value,
+        DIFFERENCE | PRODUCT => value.clamp(-M, M),
+        LIMIT => value.clamp(node.low, node.high),
+        THRESHOLD => value,
         kind => panic!("no node kind {kind} in a plan that keeps the rules"),
     }
 }
@@ -44,9 +44,9 @@ fn node_value(node: &Node, sources: &[i64]) -> i64 {
 fn unlimited(node: &Node, sources: &[i64]) -> i64 {
     let a = sources[node.a];
     match node.kind {
-        0 => a - sources[node.b],
-        1 => (a * sources[node.b]).div_euclid(GRAINS),
-        2 => a,
+        DIFFERENCE => a - sources[node.b],
+        PRODUCT => (a * sources[node.b]).div_euclid(GRAINS),
+        LIMIT => a,
         _ => {
             if a >= sources[node.b] {
                 node.high

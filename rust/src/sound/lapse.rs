@@ -4,7 +4,7 @@ use super::table::{first_command_after, Soundness};
 use super::unused::Array;
 use crate::engine::Wrong;
 use crate::file::{Cause, Reading, Slip};
-use crate::limits::M;
+use crate::limits::{M, REFUSED_HORIZON, REFUSED_INTEGRATOR};
 
 /// M as the tests take it.
 const BOUND: i128 = M as i128;
@@ -23,7 +23,7 @@ pub enum Lapse {
     /// A plan may have no integrator.
     NoIntegrator,
     /// The plan's rules with this number, 4 to 9, are not asked.
-    PlanRule(u32),
+    PlanRule(usize),
     /// This way of breaking the plan's rules is passed over.
     PlanCause(Cause),
     /// The plan's rules as a reader with this slip has them.
@@ -195,7 +195,7 @@ impl Lapse {
     pub fn all() -> Vec<Lapse> {
         let plain = PLAIN.into_iter();
         plain
-            .chain((4..=9).map(Lapse::PlanRule))
+            .chain(Reading::DOCUMENT.order.map(Lapse::PlanRule))
             .chain(CAUSES.map(Lapse::PlanCause))
             .chain(SLIPS.map(Lapse::PlanSlip))
             .chain(ENGINES.map(Lapse::Machine))
@@ -282,9 +282,12 @@ impl Lapse {
 }
 
 /// The numbers 4 to 9 but one; trying another twice does no harm.
-fn without_rule(number: u32) -> Reading {
+fn without_rule(number: usize) -> Reading {
     let right = Reading::DOCUMENT;
-    let other = if number == 4 { 5 } else { 4 };
+    let other = match number {
+        REFUSED_HORIZON => REFUSED_INTEGRATOR,
+        _ => REFUSED_HORIZON,
+    };
     Reading {
         order: right.order.map(|n| if n == number { other } else { n }),
         ..right

@@ -8,6 +8,7 @@ use cup_check::calls::Simulator;
 use cup_check::file::{encode, read, Cause};
 use cup_check::generate::plant::planted;
 use cup_check::generate::{Damage, Rng};
+use cup_check::limits::{ACCEPTED, REFUSED_SHORT};
 use std::collections::BTreeMap;
 
 /// Damaged files of each family.
@@ -74,10 +75,10 @@ fn theorem(name: String, file: &[u8], met: &mut Met) -> Declaration {
     let answer = CHECKER.load(file);
     let load = format!("loadOf {}", bytes(file));
     let mut cases = vec![
-        nat_case(&format!("{load} .number"), u64::from(answer.number)),
+        nat_case(&format!("{load} .number"), answer.number as u64),
         nat_case(&format!("{load} .entry"), answer.entry as u64),
     ];
-    if answer.number != 0 {
+    if answer.number != ACCEPTED {
         let state = state(&answer.state);
         cases.push(case(STATE, &format!("{load} .state"), &state));
     }
@@ -89,6 +90,9 @@ pub fn wrong(name: &str) -> Declaration {
     let file = bytes(&encode(&every_section()));
     Declaration::Theorem {
         name: name.to_string(),
-        cases: vec![nat_case(&format!("loadOf {file} .number"), 1)],
+        cases: vec![nat_case(
+            &format!("loadOf {file} .number"),
+            REFUSED_SHORT as u64,
+        )],
     }
 }

@@ -9,6 +9,7 @@ use crate::prover::antt::{
 use crate::prover::Declaration;
 use cup_check::calls::Simulator;
 use cup_check::file::encode;
+use cup_check::limits::{ACCEPTED, SECTIONS};
 use cup_check::plain::Plain;
 use cup_check::plan::Plan;
 use cup_check::raw::RawState;
@@ -86,7 +87,7 @@ impl<'a> Listed<'a> {
     fn file_cases(&self) -> Vec<String> {
         let (file, start) = (self.named("file"), self.named("start"));
         let mut cases = vec![
-            nat_case(&format!("loadOf {file} .number"), 0),
+            nat_case(&format!("loadOf {file} .number"), ACCEPTED as u64),
             case(PLAN, &format!("planIn {file}"), &format!("({start} .plan)")),
             case(
                 RUNNING,
@@ -96,7 +97,7 @@ impl<'a> Listed<'a> {
             case(BYTES, &format!("encode ({start} .plan)"), &file),
         ];
         let whole = encode(self.plan);
-        for number in 0..=5 {
+        for number in 0..=SECTIONS {
             let section = CHECKER.section(&whole, number);
             cases.push(bytes_case(&format!("sectionOf {file} {number}"), section));
         }
@@ -141,7 +142,7 @@ impl<'a> Listed<'a> {
         let p = format!("({} .plan)", self.named("start"));
         let sum = self.played.sum();
         let status = self.machine.status();
-        let (number, integrator) = (u64::from(status.number()), status.integrator() as u64);
+        let (number, integrator) = (status.number() as u64, status.integrator() as u64);
         vec![
             case(PLAIN, &format!("plainAfter {p} {sum}"), &last),
             bytes_case(
@@ -188,8 +189,8 @@ impl<'a> Listed<'a> {
             let made = format!("{} {}", self.named("before"), call(&list[number]));
             let figure = |name, value| nat_case(&format!("answerOf {made} .{name}"), value);
             [
-                figure("number", u64::from(ran.number)),
-                figure("status", u64::from(ran.status)),
+                figure("number", ran.number as u64),
+                figure("status", ran.status as u64),
                 figure("integrator", ran.integrator as u64),
                 figure("written", ran.written as u64),
                 bytes_case(&format!("bufferOf {made}"), buffer),
@@ -205,7 +206,7 @@ impl<'a> Listed<'a> {
             let answer = CHECKER.position(end, i);
             let computed = format!("positionedOf {} {i}", self.named("end"));
             [
-                nat_case(&format!("{computed} .number"), u64::from(answer.number)),
+                nat_case(&format!("{computed} .number"), answer.number as u64),
                 int_case(&format!("{computed} .value"), answer.value),
             ]
         };
@@ -220,7 +221,7 @@ impl<'a> Listed<'a> {
             let answer = CHECKER.write(self.played.end(), &mut bytes);
             let made = format!("{} {}", self.named("end"), buffer(length));
             [
-                nat_case(&format!("writeOf {made} .number"), u64::from(answer.number)),
+                nat_case(&format!("writeOf {made} .number"), answer.number as u64),
                 nat_case(&format!("writeOf {made} .length"), answer.length as u64),
                 bytes_case(&format!("bufferOfWrite {made}"), &bytes),
             ]

@@ -5,23 +5,23 @@ use super::played::{short_list, Played};
 use super::{times, SEEDS};
 use crate::common::{loaded, rng_of};
 use crate::prover::Declaration;
-use cup_check::calls::{BUDGET_ABOVE, SHORT_RUN_BUFFER};
 use cup_check::engine::Engine;
 use cup_check::file::encode;
 use cup_check::generate::Family;
+use cup_check::limits::{FINISHED, PAUSED, RANGE, REFUSED_BUDGET, REFUSED_RUN_BUFFER};
 use cup_check::plain::{Observer, Plain, Taken};
 use cup_check::plan::Plan;
 
 /// The lists to look for: a family of plans, and the status at the end.
-const WANTED: [(Family, u32); 8] = [
-    (Family::Tiny, 0),
-    (Family::Tiny, 1),
-    (Family::Together, 0),
-    (Family::Bound, 0),
-    (Family::Bound, 2),
-    (Family::Range, 2),
-    (Family::Slow, 0),
-    (Family::Commanded, 0),
+const WANTED: [(Family, usize); 8] = [
+    (Family::Tiny, PAUSED),
+    (Family::Tiny, FINISHED),
+    (Family::Together, PAUSED),
+    (Family::Bound, PAUSED),
+    (Family::Bound, RANGE),
+    (Family::Range, RANGE),
+    (Family::Slow, PAUSED),
+    (Family::Commanded, PAUSED),
 ];
 
 /// How many lists of each, and the fewest instants of a list.
@@ -78,13 +78,13 @@ impl Met {
             });
         }
         for (ran, _) in &played.answers {
-            self.declined[0] += u64::from(ran.number == BUDGET_ABOVE);
-            self.declined[1] += u64::from(ran.number == SHORT_RUN_BUFFER);
+            self.declined[0] += u64::from(ran.number == REFUSED_BUDGET);
+            self.declined[1] += u64::from(ran.number == REFUSED_RUN_BUFFER);
         }
         let both = self.eager_instants > before.0 && self.lazy_instants > before.1;
         self.by_both_engines += u64::from(both);
         self.lists += 1;
-        self.statuses[machine.status().number() as usize] += 1;
+        self.statuses[machine.status().number()] += 1;
     }
 
     /// Counts an instant, of whose `all` integrators a lazy engine moves `moved`.
@@ -123,7 +123,7 @@ pub fn declarations_with_a_wrong_one(wrong: &str) -> Vec<Declaration> {
 }
 
 /// The lists of a wanted sort, with names and plans.
-fn lists_of((family, status): (Family, u32)) -> impl Iterator<Item = (String, Plan, Played)> {
+fn lists_of((family, status): (Family, usize)) -> impl Iterator<Item = (String, Plan, Played)> {
     SEEDS.filter_map(move |seed| {
         let (plan, played) = list_by(seed, family, status)?;
         Some((format!("{family:?}-{seed}"), plan, played))
@@ -131,7 +131,7 @@ fn lists_of((family, status): (Family, u32)) -> impl Iterator<Item = (String, Pl
 }
 
 /// The plan and the list of a seed, if they are wanted.
-fn list_by(seed: u64, family: Family, status: u32) -> Option<(Plan, Played)> {
+fn list_by(seed: u64, family: Family, status: usize) -> Option<(Plan, Played)> {
     let mut rng = rng_of(family, seed);
     let plan = family.plan(&mut rng);
     if encode(&plan).len() > LONGEST_FILE {

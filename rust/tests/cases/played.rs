@@ -3,7 +3,7 @@
 use crate::common::{CHECKER, ENGINES, MARK};
 use cup_check::calls::{Ran, Simulator};
 use cup_check::generate::{Call, Rng};
-use cup_check::limits::EVENT_BYTES;
+use cup_check::limits::{ACCEPTED, BUDGET_MAX, EVENT_BYTES};
 use cup_check::plan::Plan;
 use cup_check::raw::RawState;
 
@@ -12,7 +12,7 @@ use cup_check::raw::RawState;
 pub fn short_list(rng: &mut Rng, plan: &Plan) -> Vec<Call> {
     let room = plan.events_per_instant() * EVENT_BYTES;
     let (first, last) = (rng.below(5), rng.below(4) + 4);
-    let declined = rng.pick(&[(1_025, 0), (2, 2 * room - 1)]);
+    let declined = rng.pick(&[(BUDGET_MAX as usize + 1, 0), (2, 2 * room - 1)]);
     let figures = [
         (first, first * room + rng.below(3)),
         declined,
@@ -65,7 +65,10 @@ impl Played {
     pub fn fed(&self) -> Vec<u64> {
         let calls = self.list.iter().zip(&self.answers);
         calls
-            .map(|(call, (ran, _))| if ran.number == 0 { call.budget } else { 0 })
+            .map(|(call, (ran, _))| match ran.number {
+                ACCEPTED => call.budget,
+                _ => 0,
+            })
             .collect()
     }
 

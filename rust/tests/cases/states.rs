@@ -8,7 +8,7 @@ use cup_check::calls::Simulator;
 use cup_check::engine::Engine;
 use cup_check::generate::states::sound_state;
 use cup_check::generate::{Breakage, Rng};
-use cup_check::limits::INTEGRATORS_MAX;
+use cup_check::limits::{BUDGET_MAX, INTEGRATORS_MAX};
 use cup_check::raw::RawState;
 use cup_check::samples::document_cup;
 use cup_check::sound::{broken_clauses, is_sound, Clause};
@@ -64,14 +64,12 @@ pub fn declarations(met: &mut Met) -> Vec<Declaration> {
 /// Whether a state is sound, and the numbers of calls with which there is something else wrong: a
 /// state that is not sound goes before it.
 fn cases(entry: &RawState) -> [String; 4] {
-    let (term, call) = (
-        state(entry),
-        "record { engine = Eager; budget = 1025; buffer = [] }",
-    );
-    let ran = CHECKER.run(Engine::Eager, entry, 1_025, &mut []);
+    let (term, budget) = (state(entry), BUDGET_MAX + 1);
+    let call = format!("record {{ engine = Eager; budget = {budget}; buffer = [] }}");
+    let ran = CHECKER.run(Engine::Eager, entry, budget, &mut []);
     let positioned = CHECKER.position(entry, INTEGRATORS_MAX);
     let written = CHECKER.write(entry, &mut []);
-    let number = |call: String, number| nat_case(&format!("{call} .number"), u64::from(number));
+    let number = |call: String, number: usize| nat_case(&format!("{call} .number"), number as u64);
     [
         truth_case(&format!("isSound {term}"), is_sound(entry)),
         number(format!("answerOf {term} ({call})"), ran.number),

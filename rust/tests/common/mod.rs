@@ -12,7 +12,7 @@ use cup_check::compare::{loaded_list, Found, Met};
 use cup_check::engine::Engine;
 use cup_check::file::encode;
 use cup_check::generate::{run_list, Family, Rng};
-use cup_check::limits::EVENT_BYTES;
+use cup_check::limits::{ACCEPTED, EVENT_BYTES, PAUSED, WORD_BYTES};
 use cup_check::plain::{Observer, Plain};
 use cup_check::plan::Plan;
 use cup_check::raw::RawState;
@@ -30,20 +30,20 @@ pub const ENGINES: [Engine; 2] = [Engine::Lazy, Engine::Eager];
 pub const MARK: u8 = 0xa5;
 
 /// Refusal number and entry of a file; (0, 0) if it is accepted.
-pub fn refusal(file: &[u8]) -> (u32, usize) {
+pub fn refusal(file: &[u8]) -> (usize, usize) {
     let loaded = CHECKER.load(file);
     (loaded.number, loaded.entry)
 }
 
 /// The same for the file of a plan, which may break any rule.
-pub fn refusal_of_plan(plan: &Plan) -> (u32, usize) {
+pub fn refusal_of_plan(plan: &Plan) -> (usize, usize) {
     refusal(&encode(plan))
 }
 
 /// The start state of a lawful plan.
 pub fn loaded(plan: &Plan) -> RawState {
     let loaded = CHECKER.load(&encode(plan));
-    assert_eq!((loaded.number, loaded.entry), (0, 0), "{plan:?}");
+    assert_eq!((loaded.number, loaded.entry), (ACCEPTED, 0), "{plan:?}");
     loaded.state
 }
 
@@ -52,7 +52,7 @@ pub fn run(engine: Engine, state: &RawState, budget: u64) -> (Ran, Vec<u8>) {
     let events = budget as usize * state.plan.counts.events_per_instant();
     let mut buffer = vec![MARK; events * EVENT_BYTES];
     let ran = CHECKER.run(engine, state, budget, &mut buffer);
-    assert_eq!(ran.number, 0);
+    assert_eq!(ran.number, ACCEPTED);
     buffer.truncate(ran.written);
     (ran, buffer)
 }
@@ -66,7 +66,10 @@ pub fn run_plan(engine: Engine, plan: &Plan, budget: u64) -> Ran {
 pub fn events(bytes: &[u8]) -> Vec<(u32, u32, i32)> {
     bytes
         .chunks_exact(EVENT_BYTES)
-        .map(|event| (word_at(event, 0), word_at(event, 4), signed_at(event, 8)))
+        .map(|event| {
+            let words = [word_at(event, 0), word_at(event, WORD_BYTES)];
+            (words[0], words[1], signed_at(event, 2 * WORD_BYTES))
+        })
         .collect()
 }
 
@@ -96,7 +99,7 @@ pub fn listing_by_plain(plan: &Plan, most: u128) -> Option<String> {
     }
     let (clock, instants) = (plain.clock, plain.instants);
     text += &format!("end {status} {clock} {instants} {updates}\n");
-    (status != 0).then_some(text)
+    (status != PAUSED).then_some(text)
 }
 
 /// The random generator of a family's seed.

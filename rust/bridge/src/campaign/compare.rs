@@ -5,6 +5,7 @@ use crate::Answer;
 use cup_check::file::read::place_in;
 use cup_check::file::Refusal;
 use cup_check::generate::Rng;
+use cup_check::limits::{ACCEPTED, SECTIONS};
 use cup_check::plan::Plan;
 
 /// Bytes before and behind a buffer that have to keep their value too.
@@ -35,11 +36,11 @@ fn compare_answers(reader: &dyn Reader, expected: &Read, file: &[u8]) -> Result<
     let answer = reader.read(file);
     let expected = match expected {
         Ok(_) => Answer {
-            number: 0,
+            number: ACCEPTED,
             entry: 0,
         },
         Err(refusal) => Answer {
-            number: refusal.number() as usize,
+            number: refusal.number(),
             entry: refusal.entry,
         },
     };
@@ -57,14 +58,14 @@ fn compare_sections(
     rng: &mut Rng,
     met: &mut Met,
 ) -> Result<(), String> {
-    let low = rng.below(5);
+    let low = rng.below(SECTIONS);
     let wild = [
         usize::MAX,
         1 << 32,
         (1 << rng.pick(&[8, 16, 32, 63])) + low,
         rng.bits() as usize,
     ];
-    for number in (0..=6).chain(wild) {
+    for number in (0..=SECTIONS + 1).chain(wild) {
         let part = reader.section(file, number);
         let expected = second.section(file, number);
         let of = |part: &[u8]| (place_in(file, part), part.len());

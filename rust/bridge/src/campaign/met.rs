@@ -2,6 +2,7 @@
 
 use cup_check::file::{Cause, Refusal};
 use cup_check::generate::Origin;
+use cup_check::limits::{ACCEPTED, REFUSED_COMMAND, REFUSED_SHORT, REFUSED_WRITE_BUFFER, SECTIONS};
 use cup_check::plan::Plan;
 use std::collections::BTreeMap;
 use std::fmt;
@@ -22,18 +23,18 @@ pub struct Met {
     /// How the files came about.
     pub origins: BTreeMap<Origin, u64>,
     /// How often each number 0 to 9 was the second simulator's, with which the reader has to agree.
-    pub numbers: [u64; 10],
+    pub numbers: [u64; REFUSED_COMMAND + 1],
     /// How often each cause was the second simulator's.
     pub causes: BTreeMap<Cause, u64>,
     /// Faults at an entry above 0.
     pub later_entries: u64,
     /// Section views that were not empty, by their number.
-    pub parts: [u64; 5],
+    pub parts: [u64; SECTIONS],
     /// Views of empty sections of accepted files, by their number. An accepted file has an
     /// integrator, so none of them has number 0.
-    pub empty_parts: [u64; 5],
+    pub empty_parts: [u64; SECTIONS],
     /// How often each number 0 to 13 was the answer to rewriting.
-    pub rewritten: [u64; 14],
+    pub rewritten: [u64; REFUSED_WRITE_BUFFER + 1],
 }
 
 impl Met {
@@ -43,9 +44,9 @@ impl Met {
         self.longest = self.longest.max(file.len());
         *self.origins.entry(origin).or_default() += 1;
         match read {
-            Ok(_) => self.numbers[0] += 1,
+            Ok(_) => self.numbers[ACCEPTED] += 1,
             Err(refusal) => {
-                self.numbers[refusal.number() as usize] += 1;
+                self.numbers[refusal.number()] += 1;
                 *self.causes.entry(refusal.cause).or_default() += 1;
                 self.later_entries += u64::from(refusal.entry > 0);
             }
@@ -58,8 +59,11 @@ impl Met {
         let numbers = numbers.map(|(number, count)| (format!("number {number}"), count));
         let causes = Cause::ALL.map(|cause| (format!("{cause:?}"), self.of_cause(cause)));
         let others = [
-            ("rewritten".to_string(), self.rewritten[0]),
-            ("buffers too short".to_string(), self.rewritten[13]),
+            ("rewritten".to_string(), self.rewritten[ACCEPTED]),
+            (
+                "buffers too short".to_string(),
+                self.rewritten[REFUSED_WRITE_BUFFER],
+            ),
             ("later entries".to_string(), self.later_entries),
         ];
         let parts = (0..).zip(self.parts);
@@ -98,7 +102,7 @@ impl fmt::Display for Met {
         for (number, count) in self.numbers.iter().enumerate() {
             write!(out, "  number {number}: {count}")?;
             let causes = Cause::ALL.into_iter();
-            for cause in causes.filter(|cause| cause.number() as usize == number) {
+            for cause in causes.filter(|cause| cause.number() == number) {
                 write!(out, ", {cause:?} {}", self.of_cause(cause))?;
             }
             writeln!(out)?;
@@ -109,11 +113,11 @@ impl fmt::Display for Met {
             "  section views not empty, by number: {:?}; of empty sections: {:?}",
             self.parts, self.empty_parts
         )?;
-        let refused: u64 = self.rewritten[1..10].iter().sum();
+        let refused: u64 = self.rewritten[REFUSED_SHORT..=REFUSED_COMMAND].iter().sum();
         writeln!(
             out,
             "  rewriting: {} written, {} into a buffer too short, {refused} of refused files",
-            self.rewritten[0], self.rewritten[13]
+            self.rewritten[ACCEPTED], self.rewritten[REFUSED_WRITE_BUFFER]
         )?;
         writeln!(out, "  how the files came about: {:?}", self.origins)
     }

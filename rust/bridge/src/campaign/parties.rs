@@ -3,10 +3,11 @@
 use crate::machine;
 use crate::state::{Loaded, Ran, State, Tables, Written};
 use crate::{Answer, Rewritten};
-use cup_check::calls::{self, Simulator, SHORT_FILE_BUFFER};
+use cup_check::calls::{self, Simulator};
 use cup_check::engine::Engine;
 use cup_check::file::read::{read_by, section_by};
 use cup_check::file::{write, Reading, Refusal, Slip};
+use cup_check::limits::{ACCEPTED, REFUSED_WRITE_BUFFER};
 use cup_check::plan::Plan;
 use cup_check::raw::RawState;
 
@@ -69,7 +70,7 @@ impl Simulator for Archive {
     fn load(&self, file: &[u8]) -> calls::Loaded {
         let loaded = machine::load(file);
         calls::Loaded {
-            number: figure(loaded.number),
+            number: loaded.number,
             entry: loaded.entry,
             state: RawState::from(&loaded.state),
         }
@@ -82,7 +83,7 @@ impl Simulator for Archive {
     fn write(&self, state: &RawState, buffer: &mut [u8]) -> calls::Written {
         let written = machine::write(&State::from(state), buffer);
         calls::Written {
-            number: figure(written.number),
+            number: written.number,
             length: written.length,
             state: RawState::from(&written.state),
         }
@@ -95,8 +96,8 @@ impl Simulator for Archive {
             Engine::Eager => machine::run_eager(&state, budget, buffer),
         };
         calls::Ran {
-            number: figure(ran.number),
-            status: figure(ran.status),
+            number: ran.number,
+            status: ran.status,
             integrator: ran.integrator,
             written: ran.written,
             state: RawState::from(&ran.state),
@@ -106,16 +107,11 @@ impl Simulator for Archive {
     fn position(&self, state: &RawState, integrator: usize) -> calls::Positioned {
         let positioned = machine::position(&State::from(state), integrator);
         calls::Positioned {
-            number: figure(positioned.number),
+            number: positioned.number,
             value: positioned.value,
             state: RawState::from(&positioned.state),
         }
     }
-}
-
-/// A number of document 01 in 32 bits; one that does not fit them is none of document 01 either way.
-fn figure(number: usize) -> u32 {
-    u32::try_from(number).unwrap_or(u32::MAX)
 }
 
 /// The second simulator, with one rule of its reader exchanged on request.
@@ -145,11 +141,10 @@ impl Second {
         let (number, length) = match read {
             Err(refusal) => (refusal.number(), 0),
             Ok(plan) => match write(plan, buffer) {
-                None => (SHORT_FILE_BUFFER, 0),
-                Some(length) => (0, length),
+                None => (REFUSED_WRITE_BUFFER, 0),
+                Some(length) => (ACCEPTED, length),
             },
         };
-        let number = number as usize;
         Rewritten { number, length }
     }
 }

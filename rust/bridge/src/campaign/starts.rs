@@ -6,6 +6,7 @@ use crate::state::State;
 use cup_check::calls::{Checker, Loaded, Simulator};
 use cup_check::file::encode;
 use cup_check::generate::{files, Family, Rng};
+use cup_check::limits::{ACCEPTED, NEVER, REFUSED_COMMAND};
 use cup_check::samples;
 use std::collections::BTreeMap;
 use std::fmt;
@@ -34,7 +35,7 @@ pub struct Met {
     /// Files loaded.
     pub files: u64,
     /// How often each number 0 to 9 was answered.
-    pub numbers: [u64; 10],
+    pub numbers: [u64; REFUSED_COMMAND + 1],
     /// Accepted plans of each family.
     pub families: BTreeMap<String, u64>,
     /// Start states with an integrator that is due, and with one that is never due.
@@ -88,7 +89,7 @@ fn any(number: u64, rng: &mut Rng) -> (String, Vec<u8>) {
 fn compare(machine: &dyn Machine, file: &[u8], expected: &Loaded) -> Result<(), String> {
     let loaded = machine.load(file);
     let answered = (loaded.number, loaded.entry);
-    let right = (expected.number as usize, expected.entry);
+    let right = (expected.number, expected.entry);
     if answered != right {
         return Err(format!("number and entry {answered:?}, not {right:?}"));
     }
@@ -102,11 +103,11 @@ fn compare(machine: &dyn Machine, file: &[u8], expected: &Loaded) -> Result<(), 
 impl Met {
     fn count(&mut self, origin: &str, loaded: &Loaded) {
         self.files += 1;
-        self.numbers[loaded.number as usize] += 1;
-        if loaded.number == 0 {
+        self.numbers[loaded.number] += 1;
+        if loaded.number == ACCEPTED {
             *self.families.entry(origin.to_string()).or_default() += 1;
             let dues = &loaded.state.run.d[..loaded.state.plan.counts.n];
-            let never = |due: &u32| *due == cup_check::limits::NEVER;
+            let never = |due: &u32| *due == NEVER;
             self.due[0] += u64::from(!dues.iter().all(never));
             self.due[1] += u64::from(dues.iter().any(never));
         }

@@ -8,6 +8,7 @@ use cup_check::calls::{Checker, Simulator};
 use cup_check::file::encode;
 use cup_check::generate::near::change;
 use cup_check::generate::{plans, Fill, Rng};
+use cup_check::limits::{ACCEPTED, REFUSED_UNSOUND};
 use cup_check::raw::RawState;
 use std::fmt;
 
@@ -100,7 +101,7 @@ fn check_call(
     let written = machine.write(&handed, &mut bytes[buffer.clone()]);
     let expected = Checker::default().write(state, &mut right[buffer.clone()]);
     let answered = (written.number, written.length);
-    let due = (expected.number as usize, expected.length);
+    let due = (expected.number, expected.length);
     if answered != due {
         return Err(format!("{answered:?} into {length} bytes, not {due:?}"));
     }
@@ -112,7 +113,7 @@ fn check_call(
     if !differences.is_empty() {
         return Err(format!("another state: {}", differences.join(", ")));
     }
-    if written.number == 0 {
+    if written.number == ACCEPTED {
         check_loaded(machine, state, &bytes[buffer][..written.length])?;
     }
     met.count(state, length, written.number);
@@ -125,7 +126,7 @@ fn check_loaded(machine: &dyn Machine, state: &RawState, file: &[u8]) -> Result<
     let plan = state.plan.to_plan().ok_or("a count above its limit")?;
     let start = State::from(&RawState::start(&plan));
     let differences = start.differences(&loaded.state);
-    if (loaded.number, loaded.entry) != (0, 0) || !differences.is_empty() {
+    if (loaded.number, loaded.entry) != (ACCEPTED, 0) || !differences.is_empty() {
         let (number, differences) = (loaded.number, differences.join(", "));
         return Err(format!("what is written loads by {number}: {differences}"));
     }
@@ -136,8 +137,8 @@ impl Met {
     fn count(&mut self, state: &RawState, length: usize, number: usize) {
         let file = state.plan.to_plan().map_or(0, |plan| encode(&plan).len());
         match number {
-            0 => self.written += 1,
-            10 => self.unsound[usize::from(length < file)] += 1,
+            ACCEPTED => self.written += 1,
+            REFUSED_UNSOUND => self.unsound[usize::from(length < file)] += 1,
             _ => self.short[usize::from(length + 1 < file)] += 1,
         }
     }

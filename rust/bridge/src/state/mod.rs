@@ -7,14 +7,13 @@ mod fields;
 
 pub use fields::{Field, Words};
 
-use cup_check::limits::{COMMANDS_MAX, INPUTS_MAX, INTEGRATORS_MAX, LINKS_MAX, NODES_MAX};
+use cup_check::limits::{
+    COMMANDS_MAX, INPUTS_MAX, INTEGRATORS_MAX, LINKS_MAX, NODES_MAX, TABLE_SOURCES,
+};
 use cup_check::raw::{
     RawClocks, RawCommands, RawCounts, RawInputs, RawIntegrators, RawLinks, RawNodes, RawPlan,
     RawRunning, RawState,
 };
-
-/// Entries of a table by source number. A plan has at most 56 sources.
-pub const TABLE_SOURCES: usize = 64;
 
 /// `CupCounts`: how many entries each section of a plan has.
 #[derive(Clone, Copy, Debug, PartialEq, Eq)]

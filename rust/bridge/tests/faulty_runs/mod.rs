@@ -3,10 +3,12 @@
 
 use cup_bridge::campaign::Archive;
 use cup_check::calls::{Checker, Loaded, Positioned, Ran, Simulator, Written};
-use cup_check::calls::{BUDGET_ABOVE, NO_SUCH_INTEGRATOR, SHORT_RUN_BUFFER, UNSOUND};
 use cup_check::engine::{Engine, Wrong};
 use cup_check::generate::states::moved_to_clock;
-use cup_check::limits::{BUDGET_MAX, EVENT_BYTES};
+use cup_check::limits::{
+    ACCEPTED, BUDGET_MAX, EVENT_BYTES, FINISHED, PAUSED, RANGE, REFUSED_BUDGET,
+    REFUSED_INTEGRATOR_NUMBER, REFUSED_RUN_BUFFER, REFUSED_UNSOUND,
+};
 use cup_check::raw::RawState;
 use std::cell::Cell;
 
@@ -170,16 +172,18 @@ impl Faulty {
         let taken = ran.state.run.clocks.instants - before.run.clocks.instants;
         let asks = (asked.budget as usize).saturating_mul(asked.instant_bytes());
         match self.fault {
-            Fault::FinishedBeforehand => *ran = beforehand(before, 1),
-            Fault::RangeBeforehand => *ran = beforehand(before, 2),
+            Fault::FinishedBeforehand => *ran = beforehand(before, FINISHED),
+            Fault::RangeBeforehand => *ran = beforehand(before, RANGE),
             Fault::StateUntouched => ran.state = before.clone(),
             Fault::StatusOfEntry => {
                 let entry = Archive.run(asked.engine, before, 0, &mut []);
                 (ran.status, ran.integrator) = (entry.status, entry.integrator);
             }
             Fault::RangeWithoutIntegrator => ran.integrator = 0,
-            Fault::IntegratorOfFinished if ran.status == 1 => ran.integrator = n - 1,
-            Fault::ZeroBudgetIsPaused if asked.budget == 0 => (ran.status, ran.integrator) = (0, 0),
+            Fault::IntegratorOfFinished if ran.status == FINISHED => ran.integrator = n - 1,
+            Fault::ZeroBudgetIsPaused if asked.budget == 0 => {
+                (ran.status, ran.integrator) = (PAUSED, 0)
+            }
             Fault::WrittenIsRoom => ran.written = room,
             Fault::LaterBytesCleared => buffer[ran.written..].fill(0),
             Fault::OneByteBehindWritten if ran.written < room => buffer[ran.written] ^= 1,
@@ -188,8 +192,12 @@ impl Faulty {
                 let last = ran.written - EVENT_BYTES..ran.written;
                 buffer.copy_within(last, 0);
             }
-            Fault::MostDeclined if asked.budget == BUDGET_MAX => *ran = decline(before, 11),
-            Fault::ExactBufferDeclined if asks > 0 && room == asks => *ran = decline(before, 12),
+            Fault::MostDeclined if asked.budget == BUDGET_MAX => {
+                *ran = decline(before, REFUSED_BUDGET)
+            }
+            Fault::ExactBufferDeclined if asks > 0 && room == asks => {
+                *ran = decline(before, REFUSED_RUN_BUFFER)
+            }
             _ => self.spoil_state(asked, &mut ran.state),
         }
     }
@@ -227,24 +235,26 @@ impl Faulty {
         let (before, number) = (asked.state, ran.number);
         let empty = buffer.is_empty();
         match self.fault {
-            Fault::OneByteShortAccepted if number == SHORT_RUN_BUFFER => {
+            Fault::OneByteShortAccepted if number == REFUSED_RUN_BUFFER => {
                 let mut longer = [buffer, &[0][..]].concat();
                 *ran = Archive.run(asked.engine, before, asked.budget, &mut longer);
             }
-            Fault::BufferOfIntegratorsAlone if number == SHORT_RUN_BUFFER => {
+            Fault::BufferOfIntegratorsAlone if number == REFUSED_RUN_BUFFER => {
                 let needed = asked.budget as usize * before.plan.counts.n * EVENT_BYTES;
                 if buffer.len() >= needed {
                     let mut longer = vec![0; asked.budget as usize * asked.instant_bytes()];
                     *ran = Archive.run(asked.engine, before, asked.budget, &mut longer);
                 }
             }
-            Fault::ShortBeforeBudget if number == BUDGET_ABOVE => ran.number = SHORT_RUN_BUFFER,
-            Fault::BudgetBeforeUnsound if number == UNSOUND && asked.budget > BUDGET_MAX => {
-                ran.number = BUDGET_ABOVE;
+            Fault::ShortBeforeBudget if number == REFUSED_BUDGET => ran.number = REFUSED_RUN_BUFFER,
+            Fault::BudgetBeforeUnsound
+                if number == REFUSED_UNSOUND && asked.budget > BUDGET_MAX =>
+            {
+                ran.number = REFUSED_BUDGET;
             }
-            Fault::UnsoundAccepted if number == UNSOUND => ran.number = 0,
+            Fault::UnsoundAccepted if number == REFUSED_UNSOUND => ran.number = ACCEPTED,
             Fault::DeclineWrites if !empty => buffer[0] ^= 1,
-            Fault::DeclineKeepsStatus => ran.status = 1,
+            Fault::DeclineKeepsStatus => ran.status = FINISHED,
             Fault::DeclineGivesIdle => ran.state = RawState::idle(),
             Fault::DeclineForgetsUpdates => ran.state.run.clocks.updates = 0,
             _ => (),
@@ -269,14 +279,14 @@ impl Asked<'_> {
 }
 
 /// A status that is answered before anything is done.
-fn beforehand(state: &RawState, status: u32) -> Ran {
+fn beforehand(state: &RawState, status: usize) -> Ran {
     Ran {
         status,
-        ..decline(state, 0)
+        ..decline(state, ACCEPTED)
     }
 }
 
-fn decline(state: &RawState, number: u32) -> Ran {
+fn decline(state: &RawState, number: usize) -> Ran {
     Ran {
         number,
         status: 0,
@@ -318,15 +328,15 @@ impl Simulator for Faulty {
         let fitting = (buffer.len() / asked.instant_bytes()) as u64;
         let (engine, budget) = self.instead(engine, budget, fitting);
         let mut ran = Archive.run(engine, state, budget, buffer);
-        if self.fault == Fault::ReachedInFirstInstantOnly && ran.number == 0 && budget > 1 {
+        if self.fault == Fault::ReachedInFirstInstantOnly && ran.number == ACCEPTED && budget > 1 {
             return reached_once(&asked, buffer);
         }
         match ran.number {
-            0 => self.spoil_accepted(&asked, &mut ran, buffer),
+            ACCEPTED => self.spoil_accepted(&asked, &mut ran, buffer),
             _ => self.spoil_declined(&asked, &mut ran, buffer),
         }
-        let disturbed = self.after_unsound.replace(ran.number == UNSOUND);
-        if disturbed && self.fault == Fault::DisturbedByUnsound && ran.number == 0 {
+        let disturbed = self.after_unsound.replace(ran.number == REFUSED_UNSOUND);
+        if disturbed && self.fault == Fault::DisturbedByUnsound && ran.number == ACCEPTED {
             ran.state.run.clocks.updates = 0;
         }
         ran
@@ -340,18 +350,20 @@ impl Simulator for Faulty {
         let mut answer = Archive.position(state, asked);
         let (run, n, i) = (&state.run, state.plan.counts.n, integrator);
         match (self.fault, answer.number) {
-            (Fault::StoredPosition, 0) => answer.value = run.x[i],
-            (Fault::PositionAtNextTick, 0) => answer.value += run.s[i],
-            (Fault::PositionIsOutput, 0) => answer.value = run.q[i],
-            (Fault::PositionOfNeighbour, 0) => {
+            (Fault::StoredPosition, ACCEPTED) => answer.value = run.x[i],
+            (Fault::PositionAtNextTick, ACCEPTED) => answer.value += run.s[i],
+            (Fault::PositionIsOutput, ACCEPTED) => answer.value = run.q[i],
+            (Fault::PositionOfNeighbour, ACCEPTED) => {
                 answer.value = Archive.position(state, (i + 1) % n).value;
             }
-            (Fault::PositionDeclinesLast, 0) if i + 1 == n => answer = none_such(state),
-            (Fault::PositionMovesState, 0) => answer.state = moved_to_clock(state),
-            (Fault::PositionOfN, NO_SUCH_INTEGRATOR) if i == n => answer.number = 0,
-            (Fault::PositionLeavesValue, NO_SUCH_INTEGRATOR) => answer.value = run.x[0],
-            (Fault::PositionOfUnsound, UNSOUND) => answer.number = 0,
-            (Fault::NoSuchBeforeUnsound, UNSOUND) if i >= n => answer.number = NO_SUCH_INTEGRATOR,
+            (Fault::PositionDeclinesLast, ACCEPTED) if i + 1 == n => answer = none_such(state),
+            (Fault::PositionMovesState, ACCEPTED) => answer.state = moved_to_clock(state),
+            (Fault::PositionOfN, REFUSED_INTEGRATOR_NUMBER) if i == n => answer.number = ACCEPTED,
+            (Fault::PositionLeavesValue, REFUSED_INTEGRATOR_NUMBER) => answer.value = run.x[0],
+            (Fault::PositionOfUnsound, REFUSED_UNSOUND) => answer.number = ACCEPTED,
+            (Fault::NoSuchBeforeUnsound, REFUSED_UNSOUND) if i >= n => {
+                answer.number = REFUSED_INTEGRATOR_NUMBER
+            }
             _ => (),
         }
         answer
@@ -360,7 +372,7 @@ impl Simulator for Faulty {
 
 fn none_such(state: &RawState) -> Positioned {
     Positioned {
-        number: NO_SUCH_INTEGRATOR,
+        number: REFUSED_INTEGRATOR_NUMBER,
         value: 0,
         state: state.clone(),
     }

@@ -6,7 +6,7 @@ mod sides;
 use cup_bridge::machine::{echo, sound};
 use cup_bridge::timing::{repeated, times, warn_of_checks, Repeated};
 use cup_check::file::rules;
-use cup_check::limits::BUDGET_MAX;
+use cup_check::limits::{BUDGET_MAX, FINISHED, LISTING_BUDGET, PAUSED};
 use cup_check::plan::Plan;
 use sides::{Course, Start};
 use std::hint::black_box;
@@ -47,7 +47,7 @@ fn main() {
 fn print_speeds(plans: &[(String, Plan)]) {
     println!("Thousands of instants a second, over {INSTANTS} instants");
     print_head("plan, budget; links; moved and events an instant; clock");
-    for budget in [64, BUDGET_MAX] {
+    for budget in [LISTING_BUDGET, BUDGET_MAX] {
         for (name, plan) in plans {
             let start = start_of(plan);
             let course = Course {
@@ -56,7 +56,7 @@ fn print_speeds(plans: &[(String, Plan)]) {
             };
             let end = start.agreed(course);
             let clocks = &end.state.run.clocks;
-            assert_eq!((end.status, clocks.instants), (0, INSTANTS));
+            assert_eq!((end.status, clocks.instants), (PAUSED, INSTANTS));
             let taken = timed(&start, course);
             let each = |sum: f64| sum / INSTANTS as f64;
             let (moved, events) = (each(clocks.updates as f64), each(end.events_count() as f64));
@@ -101,7 +101,7 @@ fn print_chains() {
         let course = Course { budget, calls: 10 };
         let end = start.agreed(course);
         let clocks = &end.state.run.clocks;
-        assert_eq!(end.status, 1);
+        assert_eq!(end.status, FINISHED);
         let taken = timed(&start, course);
         let calls = clocks.instants / budget + 1;
         let each = |sum: f64| sum / clocks.instants as f64;

@@ -1,6 +1,8 @@
 //! The plans that are timed. All of them keep going for thousands of instants, but for the chains.
 
-use cup_check::limits::{COMMANDS_MAX, GRAINS, HORIZON_MAX, INPUTS_MAX, LINKS_MAX, NODES_MAX};
+use cup_check::limits::{
+    COMMANDS_MAX, GRAINS, HORIZON_MAX, INPUTS_MAX, INTEGRATORS_MAX, LINKS_MAX, NODES_MAX,
+};
 use cup_check::plan::Plan;
 
 /// Links of each integrator, which make 256 for 32.
@@ -44,7 +46,7 @@ pub fn mixed(n: usize) -> Plan {
 /// 32 cups with 8 links each, 8 inputs, 16 nodes and 64 commands, in which a cup that is due reaches
 /// one other: the cups swing in pairs, and all else that they read are inputs and nodes over inputs.
 pub fn pairs() -> Plan {
-    let n = 32;
+    let n = INTEGRATORS_MAX;
     let mut plan = with_inputs(with_cups(Plan::new(HORIZON_MAX), n));
     for node in 0..NODES_MAX {
         let inputs = [node, node + 3].map(|input| plan.input_source(input % INPUTS_MAX));

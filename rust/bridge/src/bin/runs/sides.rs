@@ -6,7 +6,7 @@ use cup_check::calls;
 use cup_check::engine::run::run;
 use cup_check::engine::{Engine, Rules, State as Readable};
 use cup_check::fast::{run_lazy, Fast};
-use cup_check::limits::{BUDGET_MAX, EVENT_BYTES};
+use cup_check::limits::{ACCEPTED, BUDGET_MAX, EVENT_BYTES, PAUSED};
 use cup_check::plan::Plan;
 use cup_check::raw::RawState;
 use cup_check::status::Status;
@@ -32,7 +32,7 @@ pub struct Course {
 /// Where a course ends.
 #[derive(Clone, Debug, PartialEq, Eq)]
 pub struct End {
-    pub status: u32,
+    pub status: usize,
     pub state: RawState,
     pub events: Vec<u8>,
 }
@@ -65,7 +65,7 @@ impl Start {
         let mut ran = machine::run(black_box(&self.proved), eager, course.budget, buffer);
         events(&buffer[..ran.written]);
         for _ in 1..course.calls {
-            if ran.status != 0 {
+            if ran.status != PAUSED {
                 break;
             }
             ran = machine::run(&ran.state, eager, course.budget, buffer);
@@ -81,7 +81,7 @@ impl Start {
         let mut ran = Box::new(run_lazy(state, course.budget, buffer));
         events(&buffer[..ran.written]);
         for _ in 1..course.calls {
-            if ran.status != 0 {
+            if ran.status != PAUSED {
                 break;
             }
             ran = Box::new(run_lazy(ran.state.clone(), course.budget, buffer));
@@ -128,12 +128,12 @@ impl Start {
     pub fn agreed(&self, course: Course) -> End {
         let lazy = collected(|events| {
             let ran = self.proved(false, course, events);
-            assert_eq!(ran.number, 0);
-            (ran.status as u32, RawState::from(&ran.state))
+            assert_eq!(ran.number, ACCEPTED);
+            (ran.status, RawState::from(&ran.state))
         });
         let eager = collected(|events| {
             let ran = self.proved(true, course, events);
-            (ran.status as u32, as_lazy(&ran.state, &lazy.state))
+            (ran.status, as_lazy(&ran.state, &lazy.state))
         });
         let called = collected(|events| {
             let ran = self.called(course, events);
@@ -161,7 +161,7 @@ impl Start {
 }
 
 /// A course with the events of all its calls.
-fn collected(side: impl FnOnce(Events) -> (u32, RawState)) -> End {
+fn collected(side: impl FnOnce(Events) -> (usize, RawState)) -> End {
     let mut joined = Vec::new();
     let (status, state) = side(&mut |events| joined.extend_from_slice(events));
     End {

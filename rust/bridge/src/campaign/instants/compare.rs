@@ -10,7 +10,7 @@ use cup_check::engine::{Engine, Wrong};
 use cup_check::generate::near::change;
 use cup_check::generate::states::moved_to_clock;
 use cup_check::generate::Rng;
-use cup_check::limits::EVENT_BYTES;
+use cup_check::limits::{ACCEPTED, EVENT_BYTES, REFUSED_RUN_BUFFER, REFUSED_UNSOUND};
 use cup_check::plain::{Observer, Plain, Taken};
 use cup_check::plan::Plan;
 use cup_check::raw::{RawRunning, RawState};
@@ -67,7 +67,7 @@ impl<'a> Comparison<'a> {
         let needed = self.plan.events_per_instant() * EVENT_BYTES;
         let length = needed + rng.pick(&[0, 0, 1, 7, 30]);
         let (ran, bytes) = self.check_call(rng, engine, self.state, length)?;
-        same("number", ran.number, 0)?;
+        same("number", ran.number, ACCEPTED)?;
         let written = bytes
             .get(MARGIN..MARGIN + ran.written)
             .ok_or("more bytes than the buffer has")?;
@@ -79,7 +79,7 @@ impl<'a> Comparison<'a> {
         let any = rng.once_in(ANY_SHORTER).then(|| rng.below(needed));
         for length in any.into_iter().chain([needed - 1]) {
             let (ran, _) = self.check_call(rng, engine, self.state, length)?;
-            same("number of a short buffer", ran.number, 12)?;
+            same("number of a short buffer", ran.number, REFUSED_RUN_BUFFER)?;
             met.short += 1;
         }
         Ok(())
@@ -93,7 +93,7 @@ impl<'a> Comparison<'a> {
         }
         for (engine, length) in [(Engine::Lazy, needed), (Engine::Eager, 0)] {
             let (ran, _) = self.check_call(rng, engine, &state, length)?;
-            same("number of an unsound state", ran.number, 10)?;
+            same("number of an unsound state", ran.number, REFUSED_UNSOUND)?;
             met.unsound += 1;
         }
         Ok(())
@@ -122,8 +122,8 @@ impl<'a> Comparison<'a> {
             "number, status, integrator, written",
             (ran.number, ran.status, ran.integrator, ran.written),
             (
-                expected.number as usize,
-                expected.status as usize,
+                expected.number,
+                expected.status,
                 expected.integrator,
                 expected.written,
             ),
@@ -150,7 +150,7 @@ impl<'a> Comparison<'a> {
         same_as_plain(&after, plain)?;
         let status = plain.status();
         let answered = (ran.status, ran.integrator);
-        let expected = (status.number() as usize, status.integrator());
+        let expected = (status.number(), status.integrator());
         same("status of the plain machine", answered, expected)?;
         same("events", written, &plain.event_bytes()[..])?;
         let positions = &moved_to_clock(&after).run.x[..before.plan.counts.n];

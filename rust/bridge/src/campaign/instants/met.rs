@@ -72,7 +72,7 @@ impl Met {
             .count_accepted(engine == Engine::Eager, taken, plain);
         self.instants.count_events(&plain.events);
         self.without_instant += u64::from(taken == 0);
-        self.statuses[plain.status().number() as usize] += 1;
+        self.statuses[plain.status().number()] += 1;
         if let Status::Range(_) = plain.status() {
             let tick = plain.next_instant();
             let due = plain.dues.iter().filter(|&&due| due == tick).count();

@@ -6,7 +6,10 @@ use cup_check::engine::Engine;
 use cup_check::file::layout::{assemble, section_bytes};
 use cup_check::file::{encode, read};
 use cup_check::generate::{files, Family, Rng};
-use cup_check::limits::{EVENT_BYTES, LISTING_BUDGET, LISTING_BYTES};
+use cup_check::limits::{
+    Section, COMMANDS_MAX, COMMAND_BYTES, EVENT_BYTES, HEADER_BYTES, LISTING_BUDGET, LISTING_BYTES,
+    PAUSED,
+};
 use cup_check::plan::Plan;
 use cup_check::raw::RawState;
 
@@ -107,7 +110,7 @@ fn bounded(rng: &mut Rng, plan: Plan) -> Plan {
     let mut buffer = vec![0; most as usize * plan.events_per_instant() * EVENT_BYTES];
     let start = RawState::start(&plan);
     let ran = Checker::default().run(Engine::Lazy, &start, most, &mut buffer);
-    if ran.status != 0 {
+    if ran.status != PAUSED {
         return plan;
     }
     let mut shorter = plan;
@@ -131,7 +134,7 @@ fn beginning(rng: &mut Rng, family: Family) -> Vec<u8> {
     let mut file = plan_file(rng, family);
     let length = match rng.below(4) {
         0 => 0,
-        1 => rng.below(45),
+        1 => rng.below(HEADER_BYTES + 1),
         2 => file.len() - 1,
         _ => rng.below(file.len()),
     };
@@ -152,6 +155,6 @@ fn with_more(rng: &mut Rng, family: Family) -> Vec<u8> {
 fn beyond_reading(rng: &mut Rng) -> Vec<u8> {
     let plan = Family::Full.plan(rng);
     let mut sections = section_bytes(&plan);
-    sections[4].resize(64 * 12 + 512, 0);
+    sections[Section::Commands as usize].resize(COMMANDS_MAX * COMMAND_BYTES + 512, 0);
     assemble(plan.horizon, &sections)
 }

@@ -1,7 +1,7 @@
 //! What the campaign over listings has met.
 
 use super::{Input, Sort};
-use cup_check::limits::{FILE_BYTES_MAX, LISTING_BUDGET, LISTING_BYTES};
+use cup_check::limits::{FILE_BYTES_MAX, HEADER_BYTES, LISTING_BUDGET, LISTING_BYTES};
 use std::collections::BTreeMap;
 use std::fmt;
 
@@ -62,7 +62,7 @@ impl Met {
         let (length, instants) = (input.bytes.len(), accepted.then(|| figure(3)));
         let has = [
             length == 0,
-            (1..44).contains(&length),
+            (1..HEADER_BYTES).contains(&length),
             length == FILE_BYTES_MAX && accepted,
             length == LISTING_BYTES,
             length > LISTING_BYTES,

@@ -4,13 +4,14 @@
 
 use super::Calls;
 use crate::state::State;
-use cup_check::calls::{Checker, Simulator, UNSOUND};
+use cup_check::calls::{Checker, Simulator};
 use cup_check::compare::{continued_list, same, same_events};
 use cup_check::compare::{Beside, Called, Found, Marked, Met};
 use cup_check::engine::Engine;
 use cup_check::generate::near::change;
 use cup_check::generate::{plans, run_list, Breakage, Call, Fill, Rng};
-use cup_check::limits::{BUDGET_MAX, EVENT_BYTES};
+use cup_check::limits::{BUDGET_MAX, EVENT_BYTES, LISTING_BUDGET, REFUSED_UNSOUND};
+use cup_check::limits::{INPUTS_MAX, INTEGRATORS_MAX};
 use cup_check::raw::RawState;
 use cup_check::sound::is_sound;
 
@@ -24,6 +25,9 @@ const OTHER_LIST_AFTER: usize = 12;
 /// The most calls of that list, and the largest budget that it is not declined for.
 const OTHER_CALLS: usize = 2;
 const OTHER_BUDGET: u64 = 20;
+
+/// The bytes of the largest instant.
+const INSTANT_BYTES: usize = (INTEGRATORS_MAX + INPUTS_MAX) * EVENT_BYTES;
 
 /// Who is compared between the calls of a list.
 pub struct Between<'a> {
@@ -83,27 +87,33 @@ impl Between<'_> {
         let state = self.unsound(near);
         let n = state.plan.counts.n;
         for engine in [Engine::Lazy, Engine::Eager] {
-            let budget = self
+            let budget =
+                self.rng
+                    .pick(&[0, 1, LISTING_BUDGET, BUDGET_MAX, BUDGET_MAX + 1, u64::MAX]);
+            let length = self
                 .rng
-                .pick(&[0, 1, 64, BUDGET_MAX, BUDGET_MAX + 1, u64::MAX]);
-            let length = self.rng.pick(&[0, 11, EVENT_BYTES, 480, 1_000]);
+                .pick(&[0, EVENT_BYTES - 1, EVENT_BYTES, INSTANT_BYTES, 1_000]);
             let mut buffer = Marked::new(length);
             let ran = self.simulator.run(engine, &state, budget, buffer.handed());
             let figures = (ran.number, ran.status, ran.integrator, ran.written);
-            same("run", figures, (UNSOUND, 0, 0, 0))?;
+            same("run", figures, (REFUSED_UNSOUND, 0, 0, 0))?;
             same("byte changed", buffer.changed_beside(0), None)?;
             same("state of a run given back", ran.state == state, true)?;
         }
         for integrator in [0, n.wrapping_sub(1), n, usize::MAX] {
             let positioned = self.simulator.position(&state, integrator);
             let figures = (positioned.number, positioned.value);
-            same("position", figures, (UNSOUND, 0))?;
+            same("position", figures, (REFUSED_UNSOUND, 0))?;
             let given_back = positioned.state == state;
             same("state of a position given back", given_back, true)?;
         }
         let mut buffer = Marked::new(self.rng.pick(&[0, 51, 5_000]));
         let written = self.simulator.write(&state, buffer.handed());
-        same("write", (written.number, written.length), (UNSOUND, 0))?;
+        same(
+            "write",
+            (written.number, written.length),
+            (REFUSED_UNSOUND, 0),
+        )?;
         same("byte changed by write", buffer.changed_beside(0), None)?;
         self.calls.unsound += 1;
         Ok(())

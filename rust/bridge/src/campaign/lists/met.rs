@@ -5,6 +5,7 @@ use cup_check::compare::{self, Called};
 use cup_check::engine::Engine;
 use cup_check::generate::{Call, Family, Fill};
 use cup_check::limits::{BUDGET_MAX, COMMANDS_MAX, EVENT_BYTES, LISTING_BUDGET};
+use cup_check::limits::{FINISHED, RANGE};
 use cup_check::limits::{INPUTS_MAX, INTEGRATORS_MAX, LINKS_MAX, NODES_MAX};
 use cup_check::plan::{Plan, LIMIT};
 use cup_check::raw::RawState;
@@ -193,7 +194,7 @@ impl Calls {
         }
         let at_start = called.before.run.clocks.clock == 0 && called.instants == 0;
         match called.ran.status {
-            status @ 1..=2 if at_start => self.never_started[status as usize - 1] += 1,
+            status @ FINISHED..=RANGE if at_start => self.never_started[status - FINISHED] += 1,
             _ => (),
         }
         if called.instants > 0 {

@@ -4,7 +4,7 @@ use super::Origin;
 use crate::campaign::Signs;
 use cup_check::file::Cause;
 use cup_check::generate::Fill;
-use cup_check::limits::Section;
+use cup_check::limits::{Section, REFUSED_SIZES};
 use cup_check::raw::{RawCounts, RawState};
 use cup_check::sound::{Array, Clause};
 use std::collections::{BTreeMap, BTreeSet};
@@ -61,7 +61,9 @@ impl Part {
     /// Every part.
     pub fn all() -> Vec<Part> {
         let counts = Section::ALL.map(Part::TooMany);
-        let causes = Cause::ALL.into_iter().filter(|cause| cause.number() > 3);
+        let causes = Cause::ALL
+            .into_iter()
+            .filter(|cause| cause.number() > REFUSED_SIZES);
         let others = [
             Part::TooFew(Section::Integrators),
             Part::Clock,
