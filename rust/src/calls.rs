@@ -1,7 +1,7 @@
 //! The public calls on raw states, declines 10 to 14 included.
 
 use crate::engine::run::run;
-use crate::engine::{Engine, Rules, State, Wrong};
+use crate::engine::{Engine, Mutant, Rules, State};
 use crate::file::{read, section, write};
 use crate::limits::{ACCEPTED, BUDGET_MAX, EVENT_BYTES};
 use crate::limits::{
@@ -77,7 +77,7 @@ pub trait Simulator {
 #[derive(Clone, Copy, Debug, Default)]
 pub struct Checker {
     /// The exchanged rule of the runs.
-    pub wrong: Wrong,
+    pub mutant: Mutant,
 }
 
 impl Simulator for Checker {
@@ -132,7 +132,7 @@ impl Simulator for Checker {
         if buffer.len() < run_bytes(&running, budget) {
             return declined(REFUSED_RUN_BUFFER);
         }
-        let rules: Rules = self.wrong.rules();
+        let rules: Rules = self.mutant.rules();
         let outcome = run(&mut running, engine, budget, buffer, &rules);
         Ran {
             number: ACCEPTED,

@@ -1,7 +1,7 @@
 //! The proved calls against the second simulator, on at least [`FILES`] files.
 //!
-//! CUP_FILES asks for more files, CUP_SEED for other ones, and CUP_SLIP exchanges a rule of the
-//! second simulator, which has to make this test fail.
+//! CUP_FILES asks for more files, CUP_SEED for other ones, and CUP_MUTANT names a mutant of the second
+//! simulator's reader, which has to make this test fail.
 
 use cup_bridge::campaign::{Archive, Campaign, FILES};
 use std::io::Write;
@@ -23,8 +23,8 @@ fn the_proved_calls_agree_with_the_second_simulator() {
     std::io::stdout()
         .write_all(report.as_bytes())
         .expect("standard output");
-    let (slip, found) = (campaign.slip, outcome.differences.join("\n"));
-    assert!(found.is_empty(), "with slip {slip:?}:\n{found}");
+    let (mutant, found) = (campaign.mutant, outcome.differences.join("\n"));
+    assert!(found.is_empty(), "with mutant {mutant:?}:\n{found}");
     let thin: [String; 0] = [];
     assert_eq!(outcome.met.thin(), thin);
     assert_eq!(outcome.met.files, campaign.files);

@@ -1,7 +1,7 @@
 //! The proved instant against the second simulator's engines and its plain machine, from at least
 //! [`STATES`] sound states, most of which no run reaches; each engine takes 100,000 instants or more.
 //!
-//! CUP_INSTANTS asks for more states, CUP_SEED for other ones, and CUP_WRONG exchanges a rule of the
+//! CUP_INSTANTS asks for more states, CUP_SEED for other ones, and CUP_MUTANT names a mutant of the
 //! second simulator's engines, which has to make this test fail.
 
 mod common;
@@ -19,7 +19,7 @@ fn the_proved_instant_agrees_with_the_second_simulator() {
     assert!(campaign.states >= least, "CUP_INSTANTS is at least {least}");
     let started = Instant::now();
     let outcome = campaign.run(&Archive);
-    let exchanged = format!("with wrong rule {:?}", campaign.wrong);
+    let exchanged = format!("with mutant {:?}", campaign.mutant);
     judge(&outcome, Met::thin, &exchanged, campaign.seed, started);
     assert_eq!(outcome.met.states(), campaign.states);
 }

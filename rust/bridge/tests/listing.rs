@@ -70,9 +70,9 @@ fn the_listing_program_lists_every_kept_file() {
     assert!(plans >= 7, "{plans} plans");
 }
 
-/// The second simulator's listing with one fault.
+/// Mutants of the second simulator's listing.
 #[derive(Clone, Copy, Debug, PartialEq, Eq)]
-enum Misprint {
+enum Mutant {
     WithoutLastNewline,
     WithoutEnd,
     WithoutFirstEvent,
@@ -90,34 +90,34 @@ enum Misprint {
     ReadsOnePiece,
 }
 
-const MISPRINTS: [Misprint; 15] = [
-    Misprint::WithoutLastNewline,
-    Misprint::WithoutEnd,
-    Misprint::WithoutFirstEvent,
-    Misprint::CarriageReturns,
-    Misprint::Commas,
-    Misprint::UnsignedValues,
-    Misprint::SourceBeforeTick,
-    Misprint::FinishedForRange,
-    Misprint::WithoutUpdates,
-    Misprint::RefusedEntryZero,
-    Misprint::RefusedWithoutEntry,
-    Misprint::FirstRunOnly,
-    Misprint::ReadsOneByteLess,
-    Misprint::ReadsAll,
-    Misprint::ReadsOnePiece,
+const MUTANTS: [Mutant; 15] = [
+    Mutant::WithoutLastNewline,
+    Mutant::WithoutEnd,
+    Mutant::WithoutFirstEvent,
+    Mutant::CarriageReturns,
+    Mutant::Commas,
+    Mutant::UnsignedValues,
+    Mutant::SourceBeforeTick,
+    Mutant::FinishedForRange,
+    Mutant::WithoutUpdates,
+    Mutant::RefusedEntryZero,
+    Mutant::RefusedWithoutEntry,
+    Mutant::FirstRunOnly,
+    Mutant::ReadsOneByteLess,
+    Mutant::ReadsAll,
+    Mutant::ReadsOnePiece,
 ];
 
-impl Lister for Misprint {
+impl Lister for Mutant {
     fn list(&self, input: &[u8], pieces: usize) -> Result<Vec<u8>, String> {
         let text = match self {
-            Misprint::ReadsOneByteLess => listing(&input[..input.len().min(FILE_BYTES_MAX)]),
-            Misprint::ReadsAll if input.len() > LISTING_BYTES => refused_whole(input),
-            Misprint::ReadsOnePiece => {
+            Mutant::ReadsOneByteLess => listing(&input[..input.len().min(FILE_BYTES_MAX)]),
+            Mutant::ReadsAll if input.len() > LISTING_BYTES => refused_whole(input),
+            Mutant::ReadsOnePiece => {
                 let length = input.len().div_ceil(pieces).max(1);
                 listing(input.chunks(length).next().unwrap_or_default())
             }
-            _ => self.misprinted(&listing(input)),
+            _ => self.changed(&listing(input)),
         };
         Ok(text.into_bytes())
     }
@@ -129,39 +129,39 @@ fn refused_whole(input: &[u8]) -> String {
     format!("refused {} {}\n", loaded.number, loaded.entry)
 }
 
-impl Misprint {
-    fn misprinted(self, text: &str) -> String {
+impl Mutant {
+    fn changed(self, text: &str) -> String {
         let mut lines = text.lines();
         let is_event = |line: &&str| !line.starts_with("end");
         match self {
-            Misprint::WithoutLastNewline => text.trim_end().to_string(),
-            Misprint::WithoutEnd => lines.filter(is_event).map(ended).collect(),
-            Misprint::WithoutFirstEvent if lines.next().is_some_and(|line| is_event(&line)) => {
+            Mutant::WithoutLastNewline => text.trim_end().to_string(),
+            Mutant::WithoutEnd => lines.filter(is_event).map(ended).collect(),
+            Mutant::WithoutFirstEvent if lines.next().is_some_and(|line| is_event(&line)) => {
                 lines.map(ended).collect()
             }
-            Misprint::CarriageReturns => text.replace('\n', "\r\n"),
-            Misprint::Commas => text.replace(' ', ","),
-            Misprint::FinishedForRange => text.replace("end 2", "end 1"),
-            Misprint::FirstRunOnly => first_run(text),
+            Mutant::CarriageReturns => text.replace('\n', "\r\n"),
+            Mutant::Commas => text.replace(' ', ","),
+            Mutant::FinishedForRange => text.replace("end 2", "end 1"),
+            Mutant::FirstRunOnly => first_run(text),
             _ => {
-                let misprinted = |line| ended(&self.misprinted_line(line));
-                text.lines().map(misprinted).collect()
+                let changed = |line| ended(&self.changed_line(line));
+                text.lines().map(changed).collect()
             }
         }
     }
 
-    fn misprinted_line(self, line: &str) -> String {
+    fn changed_line(self, line: &str) -> String {
         let words: Vec<&str> = line.split(' ').collect();
         match (self, &words[..]) {
-            (Misprint::WithoutUpdates, ["end", status, clock, instants, _]) => {
+            (Mutant::WithoutUpdates, ["end", status, clock, instants, _]) => {
                 format!("end {status} {clock} {instants}")
             }
-            (Misprint::RefusedEntryZero, ["refused", number, _]) => format!("refused {number} 0"),
-            (Misprint::RefusedWithoutEntry, ["refused", number, _]) => format!("refused {number}"),
-            (Misprint::SourceBeforeTick, [tick, source, value]) if *tick != "refused" => {
+            (Mutant::RefusedEntryZero, ["refused", number, _]) => format!("refused {number} 0"),
+            (Mutant::RefusedWithoutEntry, ["refused", number, _]) => format!("refused {number}"),
+            (Mutant::SourceBeforeTick, [tick, source, value]) if *tick != "refused" => {
                 format!("{source} {tick} {value}")
             }
-            (Misprint::UnsignedValues, [tick, source, value]) if value.starts_with('-') => {
+            (Mutant::UnsignedValues, [tick, source, value]) if value.starts_with('-') => {
                 let value: i32 = value.parse().expect("a value");
                 format!("{tick} {source} {}", value as u32)
             }
@@ -185,12 +185,12 @@ fn first_run(text: &str) -> String {
 }
 
 #[test]
-fn every_misprint_is_found() {
+fn every_mutant_of_the_listing_is_found() {
     let (inputs, seed) = (600, 1);
     let campaign = Campaign { inputs, seed };
-    for misprint in MISPRINTS {
-        let found = campaign.run(&misprint).differences.into_iter().next();
-        println!("{misprint:?}: {found:?}");
-        assert!(found.is_some(), "{misprint:?} was not found");
+    for mutant in MUTANTS {
+        let found = campaign.run(&mutant).differences.into_iter().next();
+        println!("{mutant:?}: {found:?}");
+        assert!(found.is_some(), "{mutant:?} was not found");
     }
 }

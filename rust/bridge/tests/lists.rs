@@ -1,7 +1,7 @@
 //! The proved runs and the proved position call against the second simulator, over at least [`LISTS`]
 //! lists of run calls.
 //!
-//! CUP_LISTS asks for more lists, CUP_SEED for other ones, and CUP_WRONG exchanges a rule of the second
+//! CUP_LISTS asks for more lists, CUP_SEED for other ones, and CUP_MUTANT names a mutant of the second
 //! simulator's engines, which has to make this test fail.
 
 mod common;
@@ -18,7 +18,7 @@ fn the_proved_runs_agree_with_the_second_simulator() {
     assert!(campaign.lists >= least, "CUP_LISTS is at least {least}");
     let started = Instant::now();
     let outcome = campaign.run(&Archive);
-    let exchanged = format!("with wrong rule {:?}", campaign.wrong);
+    let exchanged = format!("with mutant {:?}", campaign.mutant);
     judge(&outcome, Met::thin, &exchanged, campaign.seed, started);
     assert_eq!(outcome.met.lists(), campaign.lists);
 }

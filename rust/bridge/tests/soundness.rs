@@ -1,8 +1,8 @@
 //! The proved test of soundness against the second simulator's, on at least [`STATES`] states, more
 //! than a million of them made by changing a sound one.
 //!
-//! CUP_STATES asks for more states, CUP_SEED for other ones, and CUP_LAPSE exchanges a test of the
-//! second simulator, which has to make this test fail.
+//! CUP_STATES asks for more states, CUP_SEED for other ones, and CUP_MUTANT names a mutant of the
+//! second simulator's test, which has to make this test fail.
 
 mod common;
 
@@ -18,7 +18,7 @@ fn the_proved_test_agrees_with_the_second_simulator() {
     assert!(campaign.states >= least, "CUP_STATES is at least {least}");
     let started = Instant::now();
     let outcome = campaign.run(&Archive);
-    let exchanged = format!("with lapse {:?}", campaign.lapse);
+    let exchanged = format!("with mutant {:?}", campaign.mutant);
     judge(&outcome, Met::thin, &exchanged, campaign.seed, started);
     assert_eq!(outcome.met.states, campaign.states);
 }

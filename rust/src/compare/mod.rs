@@ -1,7 +1,7 @@
 //! A simulator's calls compared with the plain machine, over lists of run calls.
 //!
 //! Every function answers the first difference it finds as a text, so that a test can also ask
-//! whether a simulator that is wrong on purpose is found out.
+//! whether a mutant is found.
 
 mod beside;
 mod buffer;

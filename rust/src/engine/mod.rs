@@ -2,17 +2,17 @@
 //!
 //! They keep the state that document 01 names and share no code with the plain machine. What an
 //! instant does is written once; the rules that a known error would replace are reached through
-//! the table [`Rules`], so that a test can exchange one of them and see the comparison fail.
+//! the table [`Rules`], so that a [`Mutant`] can exchange one of them and a test see the comparison fail.
 
 pub mod instant;
+pub mod mutant;
 pub mod rules;
 pub mod run;
 pub mod state;
-pub mod wrong;
 
+pub use mutant::Mutant;
 pub use rules::Rules;
 pub use state::{Cell, State};
-pub use wrong::Wrong;
 
 /// Which integrators an instant moves.
 #[derive(Clone, Copy, Debug, PartialEq, Eq)]

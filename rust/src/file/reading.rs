@@ -11,7 +11,7 @@ use std::cmp::Ordering;
 /// The faults of a section, by ascending entry.
 pub type Faults<'a> = &'a mut dyn DoubleEndedIterator<Item = Refusal>;
 
-/// The rules that a slip exchanges; [`Reading::DOCUMENT`] is document 01.
+/// The rules that a [`super::Mutant`] exchanges; [`Reading::DOCUMENT`] is document 01.
 #[derive(Clone, Copy)]
 pub struct Reading {
     /// Where a section ends, from its offset and length.

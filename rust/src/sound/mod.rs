@@ -1,13 +1,13 @@
 //! Document 01's "A sound state", clause by clause, for a state filled with any numbers.
 //!
 //! The test of each clause is reached through the table [`Soundness`], so that a test can exchange
-//! one of them by a [`Lapse`] and see a comparison fail.
+//! one of them by a [`Mutant`] and see a comparison fail.
 
-pub mod lapse;
+pub mod mutant;
 pub mod table;
 pub mod unused;
 
-pub use lapse::Lapse;
+pub use mutant::Mutant;
 pub use table::Soundness;
 pub use unused::Array;
 

@@ -7,7 +7,7 @@ use crate::file::Reading;
 use crate::limits::{Section, M, NEVER};
 use crate::plan::Plan;
 
-/// The tests that a [`super::Lapse`] exchanges; [`Soundness::DOCUMENT`] is document 01. Numbers are
+/// The tests that a [`super::Mutant`] exchanges; [`Soundness::DOCUMENT`] is document 01. Numbers are
 /// handed over as i128, so that no test can leave its type.
 #[derive(Clone, Copy)]
 pub struct Soundness {

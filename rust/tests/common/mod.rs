@@ -20,7 +20,7 @@ use cup_check::words::{signed_at, word_at};
 
 /// The simulator of this package.
 pub const CHECKER: Checker = Checker {
-    wrong: cup_check::engine::Wrong::None,
+    mutant: cup_check::engine::Mutant::None,
 };
 
 /// Both engines.

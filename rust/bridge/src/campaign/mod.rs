@@ -22,11 +22,11 @@ pub use parties::{Archive, Machine, Reader, Second};
 pub use signs::Signs;
 
 use compare::compare;
-use cup_check::file::Slip;
+use cup_check::file::Mutant;
 use cup_check::generate::files::{any, next_to};
 use cup_check::generate::{Origin, Rng};
 use cup_check::samples;
-use switches::{named, number};
+use switches::{mutant, number};
 
 /// Files that the gate compares at least.
 pub const FILES: u64 = 200_000;
@@ -44,8 +44,8 @@ pub struct Campaign {
     pub files: u64,
     /// Where the random ones start from.
     pub seed: u64,
-    /// The second simulator's exchanged rule.
-    pub slip: Slip,
+    /// Which of the second simulator's readers is compared with.
+    pub mutant: Mutant,
 }
 
 /// What a campaign has found.
@@ -66,18 +66,18 @@ impl<M> Outcome<M> {
 }
 
 impl Campaign {
-    /// A campaign by the variables CUP_FILES, CUP_SEED and CUP_SLIP, or the gate's without them.
+    /// A campaign by the variables CUP_FILES, CUP_SEED and CUP_MUTANT, or the gate's without them.
     pub fn asked_for() -> Campaign {
         Campaign {
             files: number("CUP_FILES", FILES),
             seed: number("CUP_SEED", 0),
-            slip: named("CUP_SLIP", Slip::named, &Slip::ALL),
+            mutant: mutant(Mutant::named, &Mutant::ALL),
         }
     }
 
     /// Compares a reader's calls with the second simulator's, until a few differences are found.
     pub fn run(&self, reader: &dyn Reader) -> Outcome {
-        let second = Second::new(self.slip);
+        let second = Second::new(self.mutant);
         let mut outcome: Outcome = Outcome::default();
         let first = Rng::new(self.seed).bits();
         let random = (0..).map(|number| random(first.wrapping_add(number)));

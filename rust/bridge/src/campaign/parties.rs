@@ -6,12 +6,12 @@ use crate::{Answer, Rewritten};
 use cup_check::calls::{self, Simulator};
 use cup_check::engine::Engine;
 use cup_check::file::read::{read_by, section_by};
-use cup_check::file::{write, Reading, Refusal, Slip};
+use cup_check::file::{write, Mutant, Reading, Refusal};
 use cup_check::limits::{ACCEPTED, REFUSED_WRITE_BUFFER};
 use cup_check::plan::Plan;
 use cup_check::raw::RawState;
 
-/// The three calls, so that the comparison serves the proved ones and wrong ones alike.
+/// The three calls, so that the comparison serves the proved ones and their mutants alike.
 pub trait Reader {
     /// Reads a plan file.
     fn read(&self, file: &[u8]) -> Answer {
@@ -114,15 +114,15 @@ impl Simulator for Archive {
     }
 }
 
-/// The second simulator, with one rule of its reader exchanged on request.
+/// The second simulator, or one with a mutant of its reader.
 pub struct Second {
     rules: Reading,
 }
 
 impl Second {
-    /// The second simulator with this slip.
-    pub fn new(slip: Slip) -> Second {
-        let rules = slip.reading();
+    /// The second simulator with this mutant.
+    pub fn new(mutant: Mutant) -> Second {
+        let rules = mutant.reading();
         Second { rules }
     }
 

@@ -13,10 +13,10 @@ pub fn number(variable: &str, otherwise: u64) -> u64 {
     }
 }
 
-/// The exchanged rule that a variable names, or none without it.
-pub fn named<T: Debug + Default>(variable: &str, of: impl Fn(&str) -> Option<T>, all: &[T]) -> T {
-    match env::var(variable) {
-        Ok(name) => of(&name).unwrap_or_else(|| panic!("{variable} is none of {all:?}")),
+/// The mutant that the variable CUP_MUTANT names, or none without it.
+pub fn mutant<T: Debug + Default>(named: impl Fn(&str) -> Option<T>, all: &[T]) -> T {
+    match env::var("CUP_MUTANT") {
+        Ok(name) => named(&name).unwrap_or_else(|| panic!("CUP_MUTANT is none of {all:?}")),
         Err(_) => T::default(),
     }
 }

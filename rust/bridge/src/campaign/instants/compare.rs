@@ -6,7 +6,7 @@ use super::Met;
 use crate::state::{Ran, State};
 use cup_check::calls::{Checker, Simulator};
 use cup_check::compare::{holds, moment_of, same, same_as_plain, Found};
-use cup_check::engine::{Engine, Wrong};
+use cup_check::engine::{Engine, Mutant};
 use cup_check::generate::near::change;
 use cup_check::generate::states::moved_to_clock;
 use cup_check::generate::Rng;
@@ -28,7 +28,7 @@ const ANY_SHORTER: usize = 4;
 /// Who is compared on what.
 pub struct Comparison<'a> {
     pub machine: &'a dyn Machine,
-    pub wrong: Wrong,
+    pub mutant: Mutant,
     pub plan: &'a Plan,
     pub state: &'a RawState,
 }
@@ -116,7 +116,9 @@ impl<'a> Comparison<'a> {
         let ran = self
             .machine
             .instant(&handed, eager, &mut bytes[buffer.clone()]);
-        let second = Checker { wrong: self.wrong };
+        let second = Checker {
+            mutant: self.mutant,
+        };
         let expected = second.run(engine, state, 1, &mut right[buffer]);
         same(
             "number, status, integrator, written",

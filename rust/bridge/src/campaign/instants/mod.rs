@@ -8,10 +8,10 @@ mod met;
 
 pub use met::Met;
 
-use super::switches::{named, number};
+use super::switches::{mutant, number};
 use super::{Machine, Outcome};
 use compare::Comparison;
-use cup_check::engine::Wrong;
+use cup_check::engine::Mutant;
 use cup_check::generate::{Family, Fill, Rng};
 
 /// States that the gate compares at least, each by both engines. Five in eight have an instant.
@@ -27,17 +27,17 @@ pub struct Campaign {
     pub states: u64,
     /// Where they start from.
     pub seed: u64,
-    /// The exchanged rule of the second simulator's engines.
-    pub wrong: Wrong,
+    /// Which of the second simulator's engines is compared with.
+    pub mutant: Mutant,
 }
 
 impl Campaign {
-    /// A campaign by the variables CUP_INSTANTS, CUP_SEED and CUP_WRONG, or the gate's without them.
+    /// A campaign by the variables CUP_INSTANTS, CUP_SEED and CUP_MUTANT, or the gate's without them.
     pub fn asked_for() -> Campaign {
         Campaign {
             states: number("CUP_INSTANTS", STATES),
             seed: number("CUP_SEED", 0),
-            wrong: named("CUP_WRONG", Wrong::named, &Wrong::ALL),
+            mutant: mutant(Mutant::named, &Mutant::ALL),
         }
     }
 
@@ -56,7 +56,7 @@ impl Campaign {
                 let state = &fill.state(&mut rng, &plan);
                 let comparison = Comparison {
                     machine,
-                    wrong: self.wrong,
+                    mutant: self.mutant,
                     plan: &plan,
                     state,
                 };

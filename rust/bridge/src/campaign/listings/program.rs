@@ -12,7 +12,7 @@ const MOST: u64 = 1 << 24;
 /// A program that has not ended by then is stopped.
 const LONGEST: Duration = Duration::from_secs(60);
 
-/// Anything that lists, so that the comparison serves the program and wrong ones alike.
+/// Anything that lists, so that the comparison serves the program and mutants of the listing alike.
 pub trait Lister {
     /// What is printed for an input that comes in so many pieces; `Err` says what went wrong.
     fn list(&self, input: &[u8], pieces: usize) -> Result<Vec<u8>, String>;

@@ -9,12 +9,12 @@ mod met;
 
 pub use met::{Calls, Met, Plans};
 
-use super::switches::{named, number};
+use super::switches::{mutant, number};
 use super::Outcome;
 use beside::Between;
 use cup_check::calls::{Checker, Simulator};
 use cup_check::compare::{continued_list_beside, loaded_list_beside, Found};
-use cup_check::engine::Wrong;
+use cup_check::engine::Mutant;
 use cup_check::generate::{long_list, run_list, Family, Fill, Rng};
 
 /// Lists that the gate compares at least.
@@ -33,17 +33,17 @@ pub struct Campaign {
     pub lists: u64,
     /// Where they start from.
     pub seed: u64,
-    /// The exchanged rule of the second simulator's engines.
-    pub wrong: Wrong,
+    /// Which of the second simulator's engines is compared with.
+    pub mutant: Mutant,
 }
 
 impl Campaign {
-    /// A campaign by the variables CUP_LISTS, CUP_SEED and CUP_WRONG, or the gate's without them.
+    /// A campaign by the variables CUP_LISTS, CUP_SEED and CUP_MUTANT, or the gate's without them.
     pub fn asked_for() -> Campaign {
         Campaign {
             lists: number("CUP_LISTS", LISTS),
             seed: number("CUP_SEED", 0),
-            wrong: named("CUP_WRONG", Wrong::named, &Wrong::ALL),
+            mutant: mutant(Mutant::named, &Mutant::ALL),
         }
     }
 
@@ -81,7 +81,9 @@ impl Campaign {
         let (compared, calls) = (&mut met.compared, &mut met.calls);
         let mut between = Between {
             simulator,
-            second: Checker { wrong: self.wrong },
+            second: Checker {
+                mutant: self.mutant,
+            },
             rng,
             calls,
         };

@@ -8,13 +8,13 @@ mod met;
 
 pub use met::{Count, Met, Part};
 
-use super::switches::{named, number};
+use super::switches::{mutant, number};
 use super::{Machine, Outcome};
 use crate::state::State;
 use cup_check::generate::near::{change, without_integrators};
 use cup_check::generate::{Breakage, Family, Fill, Rng};
 use cup_check::raw::RawState;
-use cup_check::sound::{broken_by, Clause, Lapse};
+use cup_check::sound::{broken_by, Clause, Mutant};
 
 /// States that the gate compares at least, bases and states without integrators among them.
 pub const STATES: u64 = 1_150_000;
@@ -29,8 +29,8 @@ pub struct Campaign {
     pub states: u64,
     /// Where they start from.
     pub seed: u64,
-    /// The second simulator's exchanged test.
-    pub lapse: Lapse,
+    /// Which of the second simulator's tests is compared with.
+    pub mutant: Mutant,
 }
 
 /// How a state comes from its base.
@@ -47,18 +47,18 @@ pub enum Origin {
 }
 
 impl Campaign {
-    /// A campaign by the variables CUP_STATES, CUP_SEED and CUP_LAPSE, or the gate's without them.
+    /// A campaign by the variables CUP_STATES, CUP_SEED and CUP_MUTANT, or the gate's without them.
     pub fn asked_for() -> Campaign {
         Campaign {
             states: number("CUP_STATES", STATES),
             seed: number("CUP_SEED", 0),
-            lapse: named("CUP_LAPSE", Lapse::named, &Lapse::all()),
+            mutant: mutant(Mutant::named, &Mutant::all()),
         }
     }
 
     /// Compares a machine's test with the second simulator's, until a few differences are found.
     pub fn run(&self, machine: &dyn Machine) -> Outcome<Met> {
-        let table = self.lapse.soundness();
+        let table = self.mutant.soundness();
         let mut outcome: Outcome<Met> = Outcome::default();
         let first = Rng::new(self.seed).bits();
         for number in 0..self.states.div_ceil(OF_ONE_BASE) {

@@ -1,4 +1,4 @@
-//! Readers that are wrong in one rule each, to show that a comparison notices.
+//! Mutants of the reader: each has one rule exchanged, to show that a comparison notices.
 
 use super::cause::Cause;
 use super::reading::Reading;
@@ -8,7 +8,7 @@ use std::cmp::Ordering;
 
 /// One exchanged rule of the reader, or none.
 #[derive(Clone, Copy, Debug, Default, PartialEq, Eq)]
-pub enum Slip {
+pub enum Mutant {
     /// Document 01 as it stands.
     #[default]
     None,
@@ -44,94 +44,94 @@ pub enum Slip {
     TickBelowHorizon,
 }
 
-impl Slip {
-    /// Every slip.
-    pub const ALL: [Slip; 15] = [
-        Slip::SumIn32Bits,
-        Slip::EndIgnored,
-        Slip::OneEntryMore,
-        Slip::HorizonBeforeCounts,
-        Slip::NodesAfterLinks,
-        Slip::HighestEntry,
-        Slip::EarlierEntry,
-        Slip::OrderAfterLimits,
-        Slip::RepeatAllowed,
-        Slip::BoundExcluded,
-        Slip::NodeNamesItself,
-        Slip::UnusedBNames,
-        Slip::KindThreeOrdered,
-        Slip::LinksNameNoNode,
-        Slip::TickBelowHorizon,
+impl Mutant {
+    /// Every mutant.
+    pub const ALL: [Mutant; 15] = [
+        Mutant::SumIn32Bits,
+        Mutant::EndIgnored,
+        Mutant::OneEntryMore,
+        Mutant::HorizonBeforeCounts,
+        Mutant::NodesAfterLinks,
+        Mutant::HighestEntry,
+        Mutant::EarlierEntry,
+        Mutant::OrderAfterLimits,
+        Mutant::RepeatAllowed,
+        Mutant::BoundExcluded,
+        Mutant::NodeNamesItself,
+        Mutant::UnusedBNames,
+        Mutant::KindThreeOrdered,
+        Mutant::LinksNameNoNode,
+        Mutant::TickBelowHorizon,
     ];
 
-    /// The slip that is written so; "None" is none.
-    pub fn named(name: &str) -> Option<Slip> {
-        let mut all = Slip::ALL.into_iter().chain([Slip::None]);
-        all.find(|slip| format!("{slip:?}") == name)
+    /// The mutant that is written so; "None" is none.
+    pub fn named(name: &str) -> Option<Mutant> {
+        let mut all = Mutant::ALL.into_iter().chain([Mutant::None]);
+        all.find(|mutant| format!("{mutant:?}") == name)
     }
 
     /// Document 01 with this one rule exchanged.
     pub fn reading(self) -> Reading {
         let right = Reading::DOCUMENT;
         match self {
-            Slip::None => right,
-            Slip::SumIn32Bits => Reading {
+            Mutant::None => right,
+            Mutant::SumIn32Bits => Reading {
                 end: |offset, length| u64::from((offset + length) as u32),
                 ..right
             },
-            Slip::EndIgnored => Reading {
+            Mutant::EndIgnored => Reading {
                 ends_file: |end, file_length| end <= file_length,
                 ..right
             },
-            Slip::OneEntryMore => Reading {
+            Mutant::OneEntryMore => Reading {
                 most: |section: Section| section.most() + 1,
                 ..right
             },
-            Slip::HorizonBeforeCounts => Reading {
+            Mutant::HorizonBeforeCounts => Reading {
                 counts_first: false,
                 ..right
             },
-            Slip::NodesAfterLinks => Reading {
+            Mutant::NodesAfterLinks => Reading {
                 order: nodes_after_links(right.order),
                 ..right
             },
-            Slip::HighestEntry => Reading {
+            Mutant::HighestEntry => Reading {
                 answered: |faults| faults.next_back(),
                 ..right
             },
-            Slip::EarlierEntry => Reading {
+            Mutant::EarlierEntry => Reading {
                 entry: earlier_entry,
                 ..right
             },
-            Slip::OrderAfterLimits => Reading {
+            Mutant::OrderAfterLimits => Reading {
                 order_with_limits: false,
                 ..right
             },
-            Slip::RepeatAllowed => Reading {
+            Mutant::RepeatAllowed => Reading {
                 may_follow: |before| before != Ordering::Greater,
                 ..right
             },
-            Slip::BoundExcluded => Reading {
+            Mutant::BoundExcluded => Reading {
                 beyond: |value, bound| value <= -bound || bound <= value,
                 ..right
             },
-            Slip::NodeNamesItself => Reading {
+            Mutant::NodeNamesItself => Reading {
                 node_names: |source| source + 1,
                 ..right
             },
-            Slip::UnusedBNames => Reading {
+            Mutant::UnusedBNames => Reading {
                 node_b: |node, places| (node.b >= places).then_some(Cause::BOutOfPlace),
                 ..right
             },
-            Slip::KindThreeOrdered => Reading {
+            Mutant::KindThreeOrdered => Reading {
                 limits_ordered: |kind| kind == LIMIT || kind == THRESHOLD,
                 ..right
             },
-            Slip::LinksNameNoNode => Reading {
+            Mutant::LinksNameNoNode => Reading {
                 link_names: |plan: &Plan| plan.node_source(0),
                 ..right
             },
-            Slip::TickBelowHorizon => Reading {
+            Mutant::TickBelowHorizon => Reading {
                 last_tick: |horizon| horizon - 1,
                 ..right
             },

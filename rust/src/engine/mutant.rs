@@ -1,4 +1,4 @@
-//! Engines that are wrong in one rule each, to show that a comparison notices.
+//! Mutants of the engines: each has one rule exchanged, to show that a comparison notices.
 
 use super::rules::{divided_rounding_up, node_value, ticks_to_level, Rules};
 use super::Engine;
@@ -7,7 +7,7 @@ use crate::plan::{Node, DIFFERENCE, PRODUCT, THRESHOLD};
 
 /// One exchanged rule, or none.
 #[derive(Clone, Copy, Debug, Default, PartialEq, Eq)]
-pub enum Wrong {
+pub enum Mutant {
     /// Document 01 as it stands.
     #[default]
     None,
@@ -44,94 +44,94 @@ pub enum Wrong {
     BoundBars,
 }
 
-impl Wrong {
-    /// Every wrong rule.
-    pub const ALL: [Wrong; 15] = [
-        Wrong::TruncatedSlope,
-        Wrong::TruncatedProduct,
-        Wrong::DistanceBothWays,
-        Wrong::LevelMustBePassed,
-        Wrong::ReceiverOutputSet,
-        Wrong::SlopeBeforeOutputs,
-        Wrong::StrictThreshold,
-        Wrong::WideClip,
-        Wrong::OnlyDueMoved,
-        Wrong::AllMoved,
-        Wrong::UnusedBFollowed,
-        Wrong::NodesNotFollowed,
-        Wrong::RepeatedValueIgnored,
-        Wrong::OutputAtLevel,
-        Wrong::BoundBars,
+impl Mutant {
+    /// Every mutant.
+    pub const ALL: [Mutant; 15] = [
+        Mutant::TruncatedSlope,
+        Mutant::TruncatedProduct,
+        Mutant::DistanceBothWays,
+        Mutant::LevelMustBePassed,
+        Mutant::ReceiverOutputSet,
+        Mutant::SlopeBeforeOutputs,
+        Mutant::StrictThreshold,
+        Mutant::WideClip,
+        Mutant::OnlyDueMoved,
+        Mutant::AllMoved,
+        Mutant::UnusedBFollowed,
+        Mutant::NodesNotFollowed,
+        Mutant::RepeatedValueIgnored,
+        Mutant::OutputAtLevel,
+        Mutant::BoundBars,
     ];
 
-    /// The wrong rule that is written so; "None" is none.
-    pub fn named(name: &str) -> Option<Wrong> {
-        let mut all = Wrong::ALL.into_iter().chain([Wrong::None]);
-        all.find(|wrong| format!("{wrong:?}") == name)
+    /// The mutant that is written so; "None" is none.
+    pub fn named(name: &str) -> Option<Mutant> {
+        let mut all = Mutant::ALL.into_iter().chain([Mutant::None]);
+        all.find(|mutant| format!("{mutant:?}") == name)
     }
 
     /// Document 01 with this one rule exchanged.
     pub fn rules(self) -> Rules {
         let right = Rules::DOCUMENT;
         match self {
-            Wrong::None => right,
-            Wrong::TruncatedSlope => Rules {
+            Mutant::None => right,
+            Mutant::TruncatedSlope => Rules {
                 slope: |sum| sum / i128::from(GRAINS),
                 ..right
             },
-            Wrong::TruncatedProduct => Rules {
+            Mutant::TruncatedProduct => Rules {
                 node: truncated_product,
                 ..right
             },
-            Wrong::DistanceBothWays => Rules {
+            Mutant::DistanceBothWays => Rules {
                 ticks_to_level: distance_both_ways,
                 ..right
             },
-            Wrong::LevelMustBePassed => Rules {
+            Mutant::LevelMustBePassed => Rules {
                 ticks_to_level: |x, q, quantum, slope| ticks_to_level(x, q, quantum + 1, slope),
                 ..right
             },
-            Wrong::ReceiverOutputSet => Rules {
+            Mutant::ReceiverOutputSet => Rules {
                 receiver_output: |_, position| position,
                 ..right
             },
-            Wrong::SlopeBeforeOutputs => Rules {
+            Mutant::SlopeBeforeOutputs => Rules {
                 slopes_after_outputs: false,
                 ..right
             },
-            Wrong::StrictThreshold => Rules {
+            Mutant::StrictThreshold => Rules {
                 node: strict_threshold,
                 ..right
             },
-            Wrong::WideClip => Rules {
+            Mutant::WideClip => Rules {
                 node: wide_clip,
                 ..right
             },
-            Wrong::OnlyDueMoved => Rules {
+            Mutant::OnlyDueMoved => Rules {
                 moves: |engine, due, _| engine == Engine::Eager || due,
                 ..right
             },
-            Wrong::AllMoved => Rules {
+            Mutant::AllMoved => Rules {
                 moves: |_, _, _| true,
                 ..right
             },
-            Wrong::UnusedBFollowed => Rules {
+            Mutant::UnusedBFollowed => Rules {
                 follows_b: |_| true,
                 ..right
             },
-            Wrong::NodesNotFollowed => Rules {
+            Mutant::NodesNotFollowed => Rules {
                 node_hands_on: false,
                 ..right
             },
-            Wrong::RepeatedValueIgnored => Rules {
+            Mutant::RepeatedValueIgnored => Rules {
                 command_reaches: |before, after| before != after,
                 ..right
             },
-            Wrong::OutputAtLevel => Rules {
+            Mutant::OutputAtLevel => Rules {
                 due_output: |position, q, quantum| q + quantum * (position - q).signum(),
                 ..right
             },
-            Wrong::BoundBars => Rules {
+            Mutant::BoundBars => Rules {
                 bars: |value| value.abs() >= i128::from(M),
                 ..right
             },

@@ -1,10 +1,10 @@
-//! Tests of soundness that are wrong in one clause each, to show that a comparison notices.
+//! Mutants of the test of soundness: each has one clause exchanged, to show that a comparison notices.
 
 use super::table::{first_command_after, Soundness};
 use super::unused::Array;
-use crate::engine::Wrong;
-use crate::file::{Cause, Reading, Slip};
+use crate::file::{Cause, Reading};
 use crate::limits::{M, REFUSED_HORIZON, REFUSED_INTEGRATOR};
+use crate::{engine, file};
 
 /// M as the tests take it.
 const BOUND: i128 = M as i128;
@@ -12,7 +12,7 @@ const BOUND: i128 = M as i128;
 /// One exchanged test of soundness, or none. For most clauses there is one that always holds, one
 /// that reaches a step too far and one that ends a step too early.
 #[derive(Clone, Copy, Debug, Default, PartialEq, Eq)]
-pub enum Lapse {
+pub enum Mutant {
     /// Document 01 as it stands.
     #[default]
     None,
@@ -26,8 +26,8 @@ pub enum Lapse {
     PlanRule(usize),
     /// This way of breaking the plan's rules is passed over.
     PlanCause(Cause),
-    /// The plan's rules as a reader with this slip has them.
-    PlanSlip(Slip),
+    /// The plan's rules as this mutant of the reader has them.
+    PlanReader(file::Mutant),
     /// The clock may be anywhere.
     ClockAnywhere,
     /// The clock may be one above the horizon.
@@ -72,8 +72,8 @@ pub enum Lapse {
     DueOneLate,
     /// d may be anything where it is never.
     NeverUnasked,
-    /// The rules of an engine that is wrong in this.
-    Machine(Wrong),
+    /// The rules of this mutant of the engines.
+    Machine(engine::Mutant),
     /// Inputs may be anything.
     InputAnywhere,
     /// An input may be one beyond ±M.
@@ -102,45 +102,45 @@ pub enum Lapse {
     Unused(Array),
 }
 
-/// Those without a number, slip, engine or array of their own.
-const PLAIN: [Lapse; 37] = [
-    Lapse::CountsCut,
-    Lapse::CountsIn32Bits,
-    Lapse::NoIntegrator,
-    Lapse::ClockAnywhere,
-    Lapse::ClockOneAbove,
-    Lapse::ClockBelowHorizon,
-    Lapse::MovedAnywhere,
-    Lapse::MovedOneAfter,
-    Lapse::MovedBefore,
-    Lapse::DueAnywhere,
-    Lapse::DueAtClock,
-    Lapse::DueTwoAhead,
-    Lapse::OutputAnywhere,
-    Lapse::OutputOneBeyond,
-    Lapse::OutputInside,
-    Lapse::OutputFromAbove,
-    Lapse::PositionAnywhere,
-    Lapse::PositionAtLevel,
-    Lapse::PositionInside,
-    Lapse::PositionWraps,
-    Lapse::SlopeAnywhere,
-    Lapse::SlopeOneOff,
-    Lapse::DueUnasked,
-    Lapse::DueOneLate,
-    Lapse::NeverUnasked,
-    Lapse::InputAnywhere,
-    Lapse::InputOneBeyond,
-    Lapse::InputInside,
-    Lapse::NextAnywhere,
-    Lapse::NextAtClock,
-    Lapse::NextAnyLater,
-    Lapse::InstantsAnywhere,
-    Lapse::InstantsOneAbove,
-    Lapse::InstantsBelowClock,
-    Lapse::UpdatesAnywhere,
-    Lapse::UpdatesOneAbove,
-    Lapse::UpdatesBelow,
+/// Those without a number, reader, engine or array of their own.
+const PLAIN: [Mutant; 37] = [
+    Mutant::CountsCut,
+    Mutant::CountsIn32Bits,
+    Mutant::NoIntegrator,
+    Mutant::ClockAnywhere,
+    Mutant::ClockOneAbove,
+    Mutant::ClockBelowHorizon,
+    Mutant::MovedAnywhere,
+    Mutant::MovedOneAfter,
+    Mutant::MovedBefore,
+    Mutant::DueAnywhere,
+    Mutant::DueAtClock,
+    Mutant::DueTwoAhead,
+    Mutant::OutputAnywhere,
+    Mutant::OutputOneBeyond,
+    Mutant::OutputInside,
+    Mutant::OutputFromAbove,
+    Mutant::PositionAnywhere,
+    Mutant::PositionAtLevel,
+    Mutant::PositionInside,
+    Mutant::PositionWraps,
+    Mutant::SlopeAnywhere,
+    Mutant::SlopeOneOff,
+    Mutant::DueUnasked,
+    Mutant::DueOneLate,
+    Mutant::NeverUnasked,
+    Mutant::InputAnywhere,
+    Mutant::InputOneBeyond,
+    Mutant::InputInside,
+    Mutant::NextAnywhere,
+    Mutant::NextAtClock,
+    Mutant::NextAnyLater,
+    Mutant::InstantsAnywhere,
+    Mutant::InstantsOneAbove,
+    Mutant::InstantsBelowClock,
+    Mutant::UpdatesAnywhere,
+    Mutant::UpdatesOneAbove,
+    Mutant::UpdatesBelow,
 ];
 
 /// The causes of refusals 4 to 9 that leave a plan which can be worked with, so that passing over
@@ -170,112 +170,114 @@ const CAUSES: [Cause; 21] = [
     Cause::CommandDescends,
 ];
 
-/// The slips of the reader that a plan in a state can show.
-const SLIPS: [Slip; 6] = [
-    Slip::RepeatAllowed,
-    Slip::BoundExcluded,
-    Slip::UnusedBNames,
-    Slip::KindThreeOrdered,
-    Slip::LinksNameNoNode,
-    Slip::TickBelowHorizon,
+/// The mutants of the reader that a plan in a state can show.
+const READERS: [file::Mutant; 6] = [
+    file::Mutant::RepeatAllowed,
+    file::Mutant::BoundExcluded,
+    file::Mutant::UnusedBNames,
+    file::Mutant::KindThreeOrdered,
+    file::Mutant::LinksNameNoNode,
+    file::Mutant::TickBelowHorizon,
 ];
 
-/// The wrong engines that slopes and due ticks show.
-const ENGINES: [Wrong; 6] = [
-    Wrong::TruncatedSlope,
-    Wrong::TruncatedProduct,
-    Wrong::DistanceBothWays,
-    Wrong::LevelMustBePassed,
-    Wrong::StrictThreshold,
-    Wrong::WideClip,
+/// The mutants of the engines that slopes and due ticks show.
+const ENGINES: [engine::Mutant; 6] = [
+    engine::Mutant::TruncatedSlope,
+    engine::Mutant::TruncatedProduct,
+    engine::Mutant::DistanceBothWays,
+    engine::Mutant::LevelMustBePassed,
+    engine::Mutant::StrictThreshold,
+    engine::Mutant::WideClip,
 ];
 
-impl Lapse {
-    /// Every lapse.
-    pub fn all() -> Vec<Lapse> {
+impl Mutant {
+    /// Every mutant.
+    pub fn all() -> Vec<Mutant> {
         let plain = PLAIN.into_iter();
         plain
-            .chain(Reading::DOCUMENT.order.map(Lapse::PlanRule))
-            .chain(CAUSES.map(Lapse::PlanCause))
-            .chain(SLIPS.map(Lapse::PlanSlip))
-            .chain(ENGINES.map(Lapse::Machine))
-            .chain(Array::ALL.map(Lapse::Unused))
+            .chain(Reading::DOCUMENT.order.map(Mutant::PlanRule))
+            .chain(CAUSES.map(Mutant::PlanCause))
+            .chain(READERS.map(Mutant::PlanReader))
+            .chain(ENGINES.map(Mutant::Machine))
+            .chain(Array::ALL.map(Mutant::Unused))
             .collect()
     }
 
-    /// The lapse that is written so; "None" is none.
-    pub fn named(name: &str) -> Option<Lapse> {
-        let mut all = Lapse::all().into_iter().chain([Lapse::None]);
-        all.find(|lapse| format!("{lapse:?}") == name)
+    /// The mutant that is written so; "None" is none.
+    pub fn named(name: &str) -> Option<Mutant> {
+        let mut all = Mutant::all().into_iter().chain([Mutant::None]);
+        all.find(|mutant| format!("{mutant:?}") == name)
     }
 
     /// Document 01 with this one test exchanged.
     pub fn soundness(self) -> Soundness {
         let mut table = Soundness::DOCUMENT;
         match self {
-            Lapse::None => (),
-            Lapse::CountsCut => {
+            Mutant::None => (),
+            Mutant::CountsCut => {
                 table.count = |section, count| Some(count.clamp(section.least(), section.most()));
             }
-            Lapse::CountsIn32Bits => {
+            Mutant::CountsIn32Bits => {
                 table.count =
                     |section, count| (Soundness::DOCUMENT.count)(section, count as u32 as usize);
             }
-            Lapse::NoIntegrator => {
+            Mutant::NoIntegrator => {
                 table.count = |section, count| (count <= section.most()).then_some(count);
             }
-            Lapse::PlanRule(number) => table.plan = without_rule(number),
-            Lapse::PlanCause(cause) => table.plan.unasked = Some(cause),
-            Lapse::PlanSlip(slip) => table.plan = slip.reading(),
-            Lapse::ClockAnywhere => table.clock = |_, _| true,
-            Lapse::ClockOneAbove => table.clock = |clock, horizon| clock <= horizon + 1,
-            Lapse::ClockBelowHorizon => table.clock = |clock, horizon| clock < horizon,
-            Lapse::MovedAnywhere => table.moved = |_, _| true,
-            Lapse::MovedOneAfter => table.moved = |l, clock| l <= clock + 1,
-            Lapse::MovedBefore => table.moved = |l, clock| l < clock || l == 0,
-            Lapse::DueAnywhere => table.ahead = |_, _| true,
-            Lapse::DueAtClock => table.ahead = |clock, d| clock <= d,
-            Lapse::DueTwoAhead => table.ahead = |clock, d| clock + 1 < d,
-            Lapse::OutputAnywhere => table.output = |_| true,
-            Lapse::OutputOneBeyond => table.output = |q| q.abs() <= BOUND + 1,
-            Lapse::OutputInside => table.output = |q| q.abs() < BOUND,
-            Lapse::OutputFromAbove => table.output = |q| q <= BOUND,
-            Lapse::PositionAnywhere => table.near = |_, _, _| true,
-            Lapse::PositionAtLevel => table.near = |x, q, quantum| (x - q).abs() <= quantum,
-            Lapse::PositionInside => table.near = |x, q, quantum| (x - q).abs() < quantum - 1,
-            Lapse::PositionWraps => table.near = near_in_64_bits,
-            Lapse::SlopeAnywhere => table.slope = |_, _| true,
-            Lapse::SlopeOneOff => table.slope = |held, right| (held - right).abs() <= 1,
-            Lapse::DueUnasked => table.due = |_, _| true,
-            Lapse::DueOneLate => table.due = due_or_one_late,
-            Lapse::NeverUnasked => table.due = |held, right| right.is_none_or(|t| t == held.into()),
-            Lapse::Machine(wrong) => table.machine = wrong.rules(),
-            Lapse::InputAnywhere => table.input = |_| true,
-            Lapse::InputOneBeyond => table.input = |value| value.abs() <= BOUND + 1,
-            Lapse::InputInside => table.input = |value| value.abs() < BOUND,
-            Lapse::NextAnywhere => table.next = |_, _, _| true,
-            Lapse::NextAtClock => {
+            Mutant::PlanRule(number) => table.plan = without_rule(number),
+            Mutant::PlanCause(cause) => table.plan.unasked = Some(cause),
+            Mutant::PlanReader(mutant) => table.plan = mutant.reading(),
+            Mutant::ClockAnywhere => table.clock = |_, _| true,
+            Mutant::ClockOneAbove => table.clock = |clock, horizon| clock <= horizon + 1,
+            Mutant::ClockBelowHorizon => table.clock = |clock, horizon| clock < horizon,
+            Mutant::MovedAnywhere => table.moved = |_, _| true,
+            Mutant::MovedOneAfter => table.moved = |l, clock| l <= clock + 1,
+            Mutant::MovedBefore => table.moved = |l, clock| l < clock || l == 0,
+            Mutant::DueAnywhere => table.ahead = |_, _| true,
+            Mutant::DueAtClock => table.ahead = |clock, d| clock <= d,
+            Mutant::DueTwoAhead => table.ahead = |clock, d| clock + 1 < d,
+            Mutant::OutputAnywhere => table.output = |_| true,
+            Mutant::OutputOneBeyond => table.output = |q| q.abs() <= BOUND + 1,
+            Mutant::OutputInside => table.output = |q| q.abs() < BOUND,
+            Mutant::OutputFromAbove => table.output = |q| q <= BOUND,
+            Mutant::PositionAnywhere => table.near = |_, _, _| true,
+            Mutant::PositionAtLevel => table.near = |x, q, quantum| (x - q).abs() <= quantum,
+            Mutant::PositionInside => table.near = |x, q, quantum| (x - q).abs() < quantum - 1,
+            Mutant::PositionWraps => table.near = near_in_64_bits,
+            Mutant::SlopeAnywhere => table.slope = |_, _| true,
+            Mutant::SlopeOneOff => table.slope = |held, right| (held - right).abs() <= 1,
+            Mutant::DueUnasked => table.due = |_, _| true,
+            Mutant::DueOneLate => table.due = due_or_one_late,
+            Mutant::NeverUnasked => {
+                table.due = |held, right| right.is_none_or(|t| t == held.into())
+            }
+            Mutant::Machine(mutant) => table.machine = mutant.rules(),
+            Mutant::InputAnywhere => table.input = |_| true,
+            Mutant::InputOneBeyond => table.input = |value| value.abs() <= BOUND + 1,
+            Mutant::InputInside => table.input = |value| value.abs() < BOUND,
+            Mutant::NextAnywhere => table.next = |_, _, _| true,
+            Mutant::NextAtClock => {
                 table.next = |next, plan, clock| {
                     clock == 0 && next == 0
                         || clock > 0 && next == first_command_after(plan, clock - 1)
                 };
             }
-            Lapse::NextAnyLater => {
+            Mutant::NextAnyLater => {
                 table.next = |next, plan, clock| {
                     (first_command_after(plan, clock)..=plan.commands.len()).contains(&next)
                 };
             }
-            Lapse::InstantsAnywhere => table.instants = |_, _| true,
-            Lapse::InstantsOneAbove => table.instants = |instants, clock| instants <= clock + 1,
-            Lapse::InstantsBelowClock => {
+            Mutant::InstantsAnywhere => table.instants = |_, _| true,
+            Mutant::InstantsOneAbove => table.instants = |instants, clock| instants <= clock + 1,
+            Mutant::InstantsBelowClock => {
                 table.instants = |instants, clock| instants < clock || instants == 0;
             }
-            Lapse::UpdatesAnywhere => table.updates = |_, _| true,
-            Lapse::UpdatesOneAbove => table.updates = |updates, moves| updates <= moves + 1,
-            Lapse::UpdatesBelow => {
+            Mutant::UpdatesAnywhere => table.updates = |_, _| true,
+            Mutant::UpdatesOneAbove => table.updates = |updates, moves| updates <= moves + 1,
+            Mutant::UpdatesBelow => {
                 table.updates = |updates, moves| updates < moves || updates == 0;
             }
-            Lapse::Unused(array) => table.unseen = Some(array),
+            Mutant::Unused(array) => table.unseen = Some(array),
         }
         table
     }
