@@ -11,7 +11,8 @@
 //! - [`fast`]: the lazy engine once more, written for speed, to time the proved one against;
 //! - [`listing`]: the listing program as a function;
 //! - [`generate`]: seeded plans, lists of run calls, states filled by hand and damaged files;
-//! - [`compare`]: any simulator's calls compared with the plain machine;
+//! - [`met`], [`compare`]: counts of what a comparison met; any simulator's calls compared with the plain
+//!   machine;
 //! - [`samples`]: the plans kept in the folder `plans`.
 
 #![forbid(unsafe_code)]
@@ -25,6 +26,7 @@ pub mod file;
 pub mod generate;
 pub mod limits;
 pub mod listing;
+pub mod met;
 pub mod plain;
 pub mod plan;
 pub mod raw;

@@ -3,10 +3,12 @@
 mod common;
 
 use common::{compare_random, loaded, rng_of, CHECKER};
-use cup_check::compare::{loaded_list, Met};
+use cup_check::compare::counts::STATUSES;
+use cup_check::compare::loaded_list;
 use cup_check::file::rules;
 use cup_check::generate::{long_list, Family};
 use cup_check::limits::BUDGET_MAX;
+use cup_check::met::Met;
 use cup_check::sound::broken_clauses;
 
 /// Lists tried for each family.
@@ -32,26 +34,29 @@ fn runs_agree_with_the_plain_machine() {
                 .unwrap_or_else(|difference| panic!("{difference}"));
         }
     }
-    println!("{met:#?}");
-    assert_eq!(met.lists, LISTS * Family::ALL.len() as u64);
-    assert!(met.statuses.iter().all(|&count| count >= 2_000));
-    assert!(met.declined_budget >= 2_000 && met.declined_buffer >= 2_000);
-    assert!(met.eager >= 4_000 && met.accepted - met.eager >= 4_000);
-    assert!(met.without_instant >= 2_000);
-    assert!(met.instants >= 500_000);
-    assert!(met.longest_list >= 3_000 && met.long_lists >= 100);
-    assert!(met.events_at_bound >= 500);
-    assert!(met.several_due >= 100_000);
-    assert!(met.several_commands >= 2_000);
-    assert!(met.due_and_commanded >= 2_000);
-    assert!(met.repeated_values >= 1_000);
-    assert!(met.clipped_nodes >= 500_000);
-    assert!(met.reached_not_due >= 100_000);
-    assert!(met.some_not_moved >= 100_000);
-    assert!(met.at_horizon >= 200);
-    assert!(met.range_above_lowest_due >= 200);
-    assert!(met.range_bars_commands >= 20);
-    assert!(met.far_due_ticks >= 100);
+    met.require("lists", LISTS * Family::ALL.len() as u64);
+    met.require_each(STATUSES, 2_000);
+    met.require_each(["decline 11", "decline 12"], 2_000);
+    met.require_each(["eager calls", "lazy calls"], 4_000);
+    met.require("accepted, no instant", 2_000);
+    met.require("instants", 500_000);
+    met.require("instants in the longest list", 3_000);
+    met.require("lists of more than 1,000 instants", 100);
+    met.require("events at the bound", 500);
+    met.require("several due", 100_000);
+    met.require("several commands", 2_000);
+    met.require("due and commanded", 2_000);
+    met.require("repeated values", 1_000);
+    met.require("clipped nodes", 500_000);
+    met.require("reached, not due", 100_000);
+    met.require("some not moved", 100_000);
+    met.require("at the horizon", 200);
+    met.require("range above the lowest due", 200);
+    met.require("range that bars commands", 20);
+    met.require("due ticks above 2^31", 100);
+    print!("{met}");
+    met.assert_enough();
+    assert_eq!(met.of("lists"), LISTS * Family::ALL.len() as u64);
 }
 
 #[test]
@@ -64,6 +69,7 @@ fn long_runs_agree_with_the_plain_machine() {
         loaded_list(&CHECKER, &plan, &list, &mut met)
             .unwrap_or_else(|difference| panic!("seed {seed}: {difference}"));
     }
-    assert_eq!(met.longest_list, 12 * BUDGET_MAX);
-    assert!(met.instants >= 100_000, "{}", met.instants);
+    met.require("instants", 100_000);
+    met.assert_enough();
+    assert_eq!(met.of("instants in the longest list"), 12 * BUDGET_MAX);
 }

@@ -24,20 +24,20 @@ fn the_definitions_compute_what_this_simulator_says() {
 
 /// Everything to compare, of which there has to be enough.
 fn all_declarations() -> Vec<Declaration> {
-    let mut files_met = files::Met::default();
-    let mut states_met = states::Met::default();
-    let mut lists_met = lists::Met::default();
+    let mut met = [files::required(), states::required(), lists::required()];
+    let [files_met, states_met, lists_met] = &mut met;
     let all = [
-        files::declarations(&mut files_met),
-        states::declarations(&mut states_met),
-        lists::declarations(&mut lists_met),
+        files::declarations(files_met),
+        states::declarations(states_met),
+        lists::declarations(lists_met),
     ]
     .concat();
     let cases: usize = all.iter().map(Declaration::cases).sum();
-    println!("{cases} cases\n{files_met:?}\n{states_met:?}\n{lists_met:?}");
-    files_met.assert_enough();
-    states_met.assert_enough();
-    lists_met.assert_enough();
+    println!("{cases} cases");
+    for met in met {
+        print!("{met}");
+        met.assert_enough();
+    }
     all
 }
 

@@ -4,11 +4,13 @@ mod common;
 
 use common::{loaded, rng_of, run, CHECKER, MARK};
 use cup_check::calls::{Loaded, Positioned, Ran, Simulator, Written};
-use cup_check::compare::{continued_list, loaded_list, Met};
+use cup_check::compare::counts::STATUSES;
+use cup_check::compare::{continued_list, loaded_list};
 use cup_check::engine::Engine;
 use cup_check::fast::{run_lazy, Fast};
 use cup_check::generate::{run_list, Call, Family, Fill};
 use cup_check::limits::{ACCEPTED, BUDGET_MAX, EVENT_BYTES};
+use cup_check::met::Met;
 use cup_check::plan::Plan;
 use cup_check::raw::RawState;
 
@@ -57,12 +59,14 @@ fn lists_of_calls_agree_with_the_plain_machine() {
         let state = rng.pick(&Fill::ALL).state(&mut rng, &plan);
         continued_list(&Quick, &plan, &state, &list, &mut met).unwrap_or_else(at);
     }
-    println!("{met:#?}");
-    assert!(met.accepted - met.eager >= RUNS);
-    assert!(met.statuses.iter().all(|&count| count >= 500));
-    assert!(met.instants >= 100_000 && met.several_due >= 20_000);
-    assert!(met.due_and_commanded >= 500 && met.some_not_moved >= 20_000);
-    assert!(met.range_above_lowest_due >= 50 && met.far_due_ticks >= 50);
+    met.require("lazy calls", RUNS);
+    met.require_each(STATUSES, 500);
+    met.require("instants", 100_000);
+    met.require_each(["several due", "some not moved"], 20_000);
+    met.require("due and commanded", 500);
+    met.require_each(["range above the lowest due", "due ticks above 2^31"], 50);
+    print!("{met}");
+    met.assert_enough();
 }
 
 #[test]

@@ -3,12 +3,14 @@
 mod common;
 
 use common::{events, loaded, rng_of, run, CHECKER, ENGINES};
-use cup_check::compare::{continued_list, Met};
+use cup_check::compare::continued_list;
+use cup_check::compare::counts::STATUSES;
 use cup_check::engine::Engine;
 use cup_check::generate::near::{change, without_integrators};
 use cup_check::generate::states::{between_instants, settle, sound_state};
 use cup_check::generate::{run_list, Family, Fill, Rng};
 use cup_check::limits::{GRAINS, HORIZON_MAX, M};
+use cup_check::met::Met;
 use cup_check::plan::Plan;
 use cup_check::raw::RawState;
 use cup_check::samples::document_cup;
@@ -33,32 +35,35 @@ fn compare_continued(lists: u64, fill: impl Fn(&mut Rng, &Plan) -> RawState) -> 
 
 #[test]
 fn any_sound_state_runs_right() {
-    let met = compare_continued(120, sound_state);
-    println!("{met:#?}");
-    assert!(met.statuses.iter().all(|&count| count >= 300));
-    assert!(met.instants >= 100_000);
-    assert!(met.far_due_ticks >= 100);
+    let mut met = compare_continued(120, sound_state);
+    met.require_each(STATUSES, 300);
+    met.require("instants", 100_000);
+    met.require("due ticks above 2^31", 100);
+    print!("{met}");
+    met.assert_enough();
 }
 
 #[test]
 fn a_clock_between_instants_runs_right() {
-    let met = compare_continued(60, |rng, plan| {
+    let mut met = compare_continued(60, |rng, plan| {
         let budget = rng.below(40) as u64;
         let engine = rng.pick(&ENGINES);
         let (ran, _) = run(engine, &loaded(plan), budget);
         between_instants(rng, &ran.state)
     });
-    println!("{met:#?}");
-    assert!(met.statuses.iter().all(|&count| count >= 100));
-    assert!(met.instants >= 50_000, "{}", met.instants);
+    met.require_each(STATUSES, 100);
+    met.require("instants", 50_000);
+    print!("{met}");
+    met.assert_enough();
 }
 
 #[test]
 fn every_fill_is_sound_and_runs_right() {
     for fill in Fill::ALL {
-        let met = compare_continued(15, |rng, plan| fill.state(rng, plan));
-        println!("{fill:?}: {} instants", met.instants);
-        assert!(met.instants >= 1_000, "{fill:?}: {}", met.instants);
+        let mut met = compare_continued(15, |rng, plan| fill.state(rng, plan));
+        met.require("instants", 1_000);
+        print!("{fill:?}\n{met}");
+        met.assert_enough();
     }
 }
 

@@ -6,31 +6,34 @@
 
 mod common;
 
-use common::judge;
-use cup_bridge::campaign::instants::{Campaign, Met, STATES};
-use cup_bridge::campaign::{Archive, Signs};
+use common::Report;
+use cup_bridge::campaign::instants::{Campaign, STATES};
+use cup_bridge::campaign::{count_signs, Archive, SIGNS};
 use cup_check::generate::{plans, Fill, Rng};
-use std::time::Instant;
+use cup_check::met::Met;
 
 #[test]
 fn the_proved_instant_agrees_with_the_second_simulator() {
     let campaign = Campaign::asked_for();
     let least = STATES;
     assert!(campaign.states >= least, "CUP_INSTANTS is at least {least}");
-    let started = Instant::now();
-    let outcome = campaign.run(&Archive);
-    let exchanged = format!("with mutant {:?}", campaign.mutant);
-    judge(&outcome, Met::thin, &exchanged, campaign.seed, started);
-    assert_eq!(outcome.met.states(), campaign.states);
+    let report = Report {
+        title: "instants",
+        counted: "states",
+        seed: campaign.seed,
+        mutant: Some(format!("{:?}", campaign.mutant)),
+    };
+    let met = report.judge(|| campaign.run(&Archive));
+    assert_eq!(met.of("states"), campaign.states);
 }
 
 #[test]
 fn what_a_run_leaves_has_no_sign_of_another_state() {
-    let mut signs = Signs::default();
+    let mut met = Met::default();
     for seed in 0..5_000 {
         let mut rng = Rng::new(seed);
         let plan = plans::any(&mut rng);
-        signs.count(&Fill::Reached.state(&mut rng, &plan));
+        count_signs(&mut met, &Fill::Reached.state(&mut rng, &plan));
     }
-    assert_eq!(signs.counts().map(|(_, count)| count), [0, 0]);
+    assert_eq!(SIGNS.map(|sign| met.of(sign)), [0, 0]);
 }

@@ -6,15 +6,12 @@
 
 mod common;
 
-use common::{judge, root};
-use cup_bridge::campaign::listings::{
-    compare, Campaign, Input, Lister, Met, Program, Sort, INPUTS,
-};
+use common::{root, Report};
+use cup_bridge::campaign::listings::{compare, Campaign, Input, Lister, Program, Sort, INPUTS};
 use cup_check::calls::{Checker, Simulator};
 use cup_check::limits::{FILE_BYTES_MAX, LISTING_BUDGET, LISTING_BYTES};
 use cup_check::listing::listing;
 use std::path::PathBuf;
-use std::time::Instant;
 use std::{env, fs};
 
 /// The program to compare.
@@ -34,10 +31,15 @@ fn the_listing_program_agrees_with_the_second_simulator() {
     let campaign = Campaign::asked_for();
     let least = INPUTS;
     assert!(campaign.inputs >= least, "CUP_LISTINGS is at least {least}");
-    let started = Instant::now();
-    let outcome = campaign.run(&program());
-    judge(&outcome, Met::thin, "listing", campaign.seed, started);
-    assert_eq!(outcome.met.inputs(), campaign.inputs);
+    let report = Report {
+        title: "listings",
+        counted: "inputs",
+        seed: campaign.seed,
+        mutant: None,
+    };
+    let program = program();
+    let met = report.judge(|| campaign.run(&program));
+    assert_eq!(met.of("inputs"), campaign.inputs);
 }
 
 /// Every file of the folder: the plans, of which the listing beside them has to be printed, those

@@ -6,19 +6,21 @@
 
 mod common;
 
-use common::judge;
-use cup_bridge::campaign::lists::{Campaign, Met, LISTS};
+use common::Report;
+use cup_bridge::campaign::lists::{Campaign, LISTS};
 use cup_bridge::campaign::Archive;
-use std::time::Instant;
 
 #[test]
 fn the_proved_runs_agree_with_the_second_simulator() {
     let campaign = Campaign::asked_for();
     let least = LISTS;
     assert!(campaign.lists >= least, "CUP_LISTS is at least {least}");
-    let started = Instant::now();
-    let outcome = campaign.run(&Archive);
-    let exchanged = format!("with mutant {:?}", campaign.mutant);
-    judge(&outcome, Met::thin, &exchanged, campaign.seed, started);
-    assert_eq!(outcome.met.lists(), campaign.lists);
+    let report = Report {
+        title: "lists",
+        counted: "lists",
+        seed: campaign.seed,
+        mutant: Some(format!("{:?}", campaign.mutant)),
+    };
+    let met = report.judge(|| campaign.run(&Archive));
+    assert_eq!(met.of("lists"), campaign.lists);
 }

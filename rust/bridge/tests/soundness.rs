@@ -6,19 +6,21 @@
 
 mod common;
 
-use common::judge;
-use cup_bridge::campaign::soundness::{Campaign, Met, STATES};
+use common::Report;
+use cup_bridge::campaign::soundness::{Campaign, STATES};
 use cup_bridge::campaign::Archive;
-use std::time::Instant;
 
 #[test]
 fn the_proved_test_agrees_with_the_second_simulator() {
     let campaign = Campaign::asked_for();
     let least = STATES;
     assert!(campaign.states >= least, "CUP_STATES is at least {least}");
-    let started = Instant::now();
-    let outcome = campaign.run(&Archive);
-    let exchanged = format!("with mutant {:?}", campaign.mutant);
-    judge(&outcome, Met::thin, &exchanged, campaign.seed, started);
-    assert_eq!(outcome.met.states, campaign.states);
+    let report = Report {
+        title: "soundness",
+        counted: "changed states",
+        seed: campaign.seed,
+        mutant: Some(format!("{:?}", campaign.mutant)),
+    };
+    let met = report.judge(|| campaign.run(&Archive));
+    assert_eq!(met.of("states"), campaign.states);
 }

@@ -4,21 +4,37 @@
 
 mod common;
 
-use common::judge;
-use cup_bridge::campaign::{starts, tables, writes, Archive};
+use common::Report;
+use cup_bridge::campaign::{starts, tables, writes, Archive, Outcome};
 use cup_bridge::machine::{load, write};
+use cup_check::met::Met;
 use cup_check::samples;
-use std::time::Instant;
+
+/// Judges a campaign that has no mutants of the second simulator.
+fn judge(
+    title: &'static str,
+    counted: &'static str,
+    seed: u64,
+    run: impl FnOnce() -> Outcome,
+) -> Met {
+    let report = Report {
+        title,
+        counted,
+        seed,
+        mutant: None,
+    };
+    report.judge(run)
+}
 
 #[test]
 fn what_is_loaded_agrees_with_the_second_simulator() {
     let campaign = starts::Campaign::asked_for();
     let least = starts::FILES;
     assert!(campaign.files >= least, "CUP_STARTS is at least {least}");
-    let started = Instant::now();
-    let outcome = campaign.run(&Archive);
-    judge(&outcome, starts::Met::thin, "load", campaign.seed, started);
-    assert_eq!(outcome.met.files, campaign.files);
+    let met = judge("starts", "files loaded", campaign.seed, || {
+        campaign.run(&Archive)
+    });
+    assert_eq!(met.of("files loaded"), campaign.files);
 }
 
 #[test]
@@ -26,10 +42,8 @@ fn what_is_written_agrees_with_the_second_simulator() {
     let campaign = writes::Campaign::asked_for();
     let least = writes::STATES;
     assert!(campaign.states >= least, "CUP_WRITES is at least {least}");
-    let started = Instant::now();
-    let outcome = campaign.run(&Archive);
-    judge(&outcome, writes::Met::thin, "write", campaign.seed, started);
-    assert_eq!(outcome.met.states, campaign.states);
+    let met = judge("writes", "states", campaign.seed, || campaign.run(&Archive));
+    assert_eq!(met.of("states"), campaign.states);
 }
 
 #[test]
@@ -37,16 +51,8 @@ fn the_tables_agree_with_document_01_followed_word_for_word() {
     let campaign = tables::Campaign::asked_for();
     let least = tables::STATES;
     assert!(campaign.states >= least, "CUP_TABLES is at least {least}");
-    let started = Instant::now();
-    let outcome = campaign.run(&Archive);
-    judge(
-        &outcome,
-        tables::Met::thin,
-        "tables",
-        campaign.seed,
-        started,
-    );
-    assert_eq!(outcome.met.states, campaign.states);
+    let met = judge("tables", "states", campaign.seed, || campaign.run(&Archive));
+    assert_eq!(met.of("states"), campaign.states);
 }
 
 #[test]

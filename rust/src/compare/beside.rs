@@ -3,6 +3,7 @@
 use super::Found;
 use crate::calls::Ran;
 use crate::generate::Call;
+use crate::met::Met;
 use crate::raw::RawState;
 
 /// A call of a list that agrees with the plain machine.
@@ -23,12 +24,12 @@ pub struct Called<'a> {
 /// returned, whatever is done here.
 pub trait Beside {
     /// After a call.
-    fn after(&mut self, called: &Called) -> Found;
+    fn after(&mut self, called: &Called, met: &mut Met) -> Found;
 }
 
 /// Nothing.
 impl Beside for () {
-    fn after(&mut self, _: &Called) -> Found {
+    fn after(&mut self, _: &Called, _: &mut Met) -> Found {
         Ok(())
     }
 }

@@ -1,8 +1,9 @@
 //! One list of run calls against one plain machine.
 
 use super::buffer::Marked;
+use super::counts::{count_accepted, count_events, count_instant, count_lazy, count_list};
 use super::state::{moment_of, same_as_plain};
-use super::{holds, same, same_events, Beside, Called, Found, Met};
+use super::{holds, same, same_events, Beside, Called, Found};
 use crate::calls::{Ran, Simulator};
 use crate::engine::Engine;
 use crate::file::encode;
@@ -11,6 +12,7 @@ use crate::file::read::place_in;
 use crate::generate::Call;
 use crate::limits::{ACCEPTED, REFUSED_BUDGET, REFUSED_INTEGRATOR_NUMBER, REFUSED_RUN_BUFFER};
 use crate::limits::{BUDGET_MAX, EVENT_BYTES, HEADER_BYTES, INTEGRATORS_MAX, SECTIONS};
+use crate::met::Met;
 use crate::plain::{Event, Observer, Plain};
 use crate::plan::Plan;
 use crate::raw::RawState;
@@ -154,24 +156,25 @@ impl Comparison<'_> {
         if ran.number == ACCEPTED {
             self.check_state()?;
         }
-        beside.after(&Called {
+        let called = Called {
             call,
             before: &before,
             ran: &ran,
             written: buffer.first(ran.written).unwrap_or_default(),
             instants: self.plain.instants - instants_before,
-        })
+        };
+        beside.after(&called, self.met)
     }
 
     /// In a list "a call is declined by 11 or 12 only".
     fn expected_decline(&mut self, call: &Call) -> usize {
         if call.budget > BUDGET_MAX {
-            self.met.declined_budget += 1;
+            self.met.count("decline 11");
             return REFUSED_BUDGET;
         }
         let events = call.budget as usize * self.plain.plan.events_per_instant();
         if call.buffer < events * EVENT_BYTES {
-            self.met.declined_buffer += 1;
+            self.met.count("decline 12");
             return REFUSED_RUN_BUFFER;
         }
         ACCEPTED
@@ -200,7 +203,7 @@ impl Comparison<'_> {
         self.check_single_instants(call.engine, ran, buffer, &moves)?;
         self.check_counts(ran, &moves)?;
         let eager = call.engine == Engine::Eager;
-        self.met.count_accepted(eager, moves.len(), &self.plain);
+        count_accepted(self.met, eager, moves.len(), &self.plain);
         Ok(())
     }
 
@@ -213,9 +216,9 @@ impl Comparison<'_> {
         let (observer, met) = (&self.observer, &mut *self.met);
         self.plain.run_observed(u128::from(call.budget), |taken| {
             let moved = observer.moved(taken, true);
-            met.count_instant(taken, moved.len(), plan);
+            count_instant(met, taken, moved.len(), plan);
             if lazy {
-                met.count_lazy(moved.len(), plan);
+                count_lazy(met, moved.len(), plan);
                 moves.push(moved);
             } else {
                 moves.push(observer.moved(taken, false));
@@ -228,7 +231,7 @@ impl Comparison<'_> {
     /// The bytes written are the plain machine's new events, and "later bytes keep their value".
     fn check_events(&mut self, ran: &Ran, buffer: &Marked, events_before: usize) -> Found {
         let new_events = &self.plain.events[events_before..];
-        self.met.count_events(new_events);
+        count_events(self.met, new_events);
         let expected: Vec<u8> = new_events.iter().flat_map(Event::bytes).collect();
         same("bytes written", ran.written, expected.len())?;
         same_events(buffer.first(ran.written), &expected)?;
@@ -304,7 +307,7 @@ impl Comparison<'_> {
             same("position of none", answered, (REFUSED_INTEGRATOR_NUMBER, 0))?;
             let kept = none.state == self.state;
             holds("position of none changed the state", kept)?;
-            self.met.declined_position += 1;
+            self.met.count("decline 14");
         }
         Ok(())
     }
@@ -315,7 +318,7 @@ impl Comparison<'_> {
         let mut whole = start;
         whole.run(self.budget_sum);
         holds("the budget sum leads elsewhere", whole == self.plain)?;
-        self.met.count_list(whole.instants - before);
+        count_list(self.met, whole.instants - before);
         holds("joined events", self.joined == whole.event_bytes())
     }
 }

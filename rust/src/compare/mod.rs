@@ -5,14 +5,13 @@
 
 mod beside;
 mod buffer;
+pub mod counts;
 mod list;
-mod met;
 mod state;
 
 pub use beside::{Beside, Called};
 pub use buffer::Marked;
 pub use list::{continued_list, continued_list_beside, loaded_list, loaded_list_beside};
-pub use met::Met;
 pub use state::{moment_of, same_as_plain};
 
 use crate::limits::EVENT_BYTES;

@@ -9,30 +9,23 @@ use cup_check::file::{encode, read, Cause};
 use cup_check::generate::plant::planted;
 use cup_check::generate::{Damage, Rng};
 use cup_check::limits::{ACCEPTED, REFUSED_SHORT};
-use std::collections::BTreeMap;
+use cup_check::met::Met;
 
 /// Damaged files of each family.
 const DAMAGED: usize = 4;
 
-/// The files of all theorems: how many were accepted, and how many refused by which cause.
-#[derive(Debug, Default)]
-pub struct Met {
-    accepted: u64,
-    refused: BTreeMap<Cause, u64>,
+/// What has to be met: an accepted file, and of each cause a refused one.
+pub fn required() -> Met {
+    let mut met = Met::default();
+    met.require("accepted", 1);
+    met.require_each(Cause::ALL.map(|cause| format!("{cause:?}")), 1);
+    met
 }
 
-impl Met {
-    pub fn assert_enough(&self) {
-        let missing = |cause: &Cause| !self.refused.contains_key(cause);
-        assert_eq!(Cause::ALL.into_iter().find(missing), None, "{self:?}");
-        assert!(self.accepted >= 1, "{self:?}");
-    }
-
-    fn count(&mut self, file: &[u8]) {
-        match read(file) {
-            Ok(_) => self.accepted += 1,
-            Err(refusal) => *self.refused.entry(refusal.cause).or_default() += 1,
-        }
+fn count(met: &mut Met, file: &[u8]) {
+    match read(file) {
+        Ok(_) => met.count("accepted"),
+        Err(refusal) => met.count(format!("{:?}", refusal.cause)),
     }
 }
 
@@ -71,7 +64,7 @@ fn damaged(rng: &mut Rng, mut file: Vec<u8>) -> Vec<u8> {
 
 /// What load answers for a file: number, entry and, if it is refused, the idle state.
 fn theorem(name: String, file: &[u8], met: &mut Met) -> Declaration {
-    met.count(file);
+    count(met, file);
     let answer = CHECKER.load(file);
     let load = format!("loadOf {}", bytes(file));
     let mut cases = vec![

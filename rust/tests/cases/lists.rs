@@ -5,10 +5,12 @@ use super::played::{short_list, Played};
 use super::{times, SEEDS};
 use crate::common::{loaded, rng_of};
 use crate::prover::Declaration;
+use cup_check::compare::counts::STATUSES;
 use cup_check::engine::Engine;
 use cup_check::file::encode;
 use cup_check::generate::Family;
 use cup_check::limits::{FINISHED, PAUSED, RANGE, REFUSED_BUDGET, REFUSED_RUN_BUFFER};
+use cup_check::met::Met;
 use cup_check::plain::{Observer, Plain, Taken};
 use cup_check::plan::Plan;
 
@@ -31,75 +33,54 @@ const LEAST_INSTANTS: u64 = 7;
 /// The longest file of a plan that the prover works out in a few seconds.
 const LONGEST_FILE: usize = 260;
 
-/// What the lists of all theorems met.
-#[derive(Debug, Default)]
-pub struct Met {
-    lists: u64,
-    /// Lists with instants of either engine.
-    by_both_engines: u64,
-    eager_instants: u64,
-    lazy_instants: u64,
-    /// Lazy instants that move integrators which are not due.
-    reached_not_due: u64,
-    /// Lazy instants that leave integrators where they are.
-    some_not_moved: u64,
-    /// Instants with due integrators and commands.
-    due_and_commanded: u64,
-    /// Calls declined by 11, and by 12.
-    declined: [u64; 2],
-    /// Lists by the status at their end.
-    statuses: [u64; 3],
+/// What has to be met.
+pub fn required() -> Met {
+    let mut met = Met::default();
+    met.require("lists", WANTED.len() as u64);
+    met.require_each(["eager instants", "lazy instants"], 20);
+    met.require("instants", 60);
+    met.require("lists with instants of both engines", 1);
+    met.require("lazy instants that move who is not due", 1);
+    met.require("lazy instants that leave some where they are", 1);
+    met.require("due and commanded", 1);
+    met.require_each(["decline 11", "decline 12"], 1);
+    met.require_each(STATUSES, 1);
+    met
 }
 
-impl Met {
-    pub fn assert_enough(&self) {
-        let some = [
-            self.by_both_engines,
-            self.reached_not_due,
-            self.some_not_moved,
-            self.due_and_commanded,
-        ];
-        let (eager, lazy) = (self.eager_instants, self.lazy_instants);
-        assert!(self.lists >= WANTED.len() as u64, "{self:?}");
-        assert!(eager >= 20 && lazy >= 20 && eager + lazy >= 60, "{self:?}");
-        assert!(some.into_iter().all(|count| count >= 1), "{self:?}");
-        assert!(self.declined.iter().all(|&calls| calls >= 1), "{self:?}");
-        assert!(self.statuses.iter().all(|&lists| lists >= 1), "{self:?}");
+fn count_list(met: &mut Met, plan: &Plan, played: &Played) {
+    let observer = Observer::of(plan);
+    let mut machine = Plain::start(plan);
+    let engines = |met: &Met| [met.of("eager instants"), met.of("lazy instants")];
+    let before = engines(met);
+    for (call, fed) in played.list.iter().zip(played.fed()) {
+        machine.run_observed(u128::from(fed), |taken| {
+            let moved = observer.moved(taken, true).len();
+            count_instant(met, call.engine, taken, moved, plan);
+        });
     }
+    for (ran, _) in &played.answers {
+        met.count_if(ran.number == REFUSED_BUDGET, "decline 11");
+        met.count_if(ran.number == REFUSED_RUN_BUFFER, "decline 12");
+    }
+    let both = (0..2).all(|engine| engines(met)[engine] > before[engine]);
+    met.count_if(both, "lists with instants of both engines");
+    met.count("lists");
+    met.count(STATUSES[machine.status().number()]);
+}
 
-    fn count_list(&mut self, plan: &Plan, played: &Played) {
-        let observer = Observer::of(plan);
-        let mut machine = Plain::start(plan);
-        let before = (self.eager_instants, self.lazy_instants);
-        for (call, fed) in played.list.iter().zip(played.fed()) {
-            machine.run_observed(u128::from(fed), |taken| {
-                let moved = observer.moved(taken, true).len();
-                self.count_instant(call.engine, taken, moved, plan.integrators.len());
-            });
-        }
-        for (ran, _) in &played.answers {
-            self.declined[0] += u64::from(ran.number == REFUSED_BUDGET);
-            self.declined[1] += u64::from(ran.number == REFUSED_RUN_BUFFER);
-        }
-        let both = self.eager_instants > before.0 && self.lazy_instants > before.1;
-        self.by_both_engines += u64::from(both);
-        self.lists += 1;
-        self.statuses[machine.status().number()] += 1;
+/// Counts an instant, of whose integrators a lazy engine moves `moved`.
+fn count_instant(met: &mut Met, engine: Engine, taken: &Taken, moved: usize, plan: &Plan) {
+    let (due, all) = (taken.due.len(), plan.integrators.len());
+    met.count("instants");
+    met.count_if(due > 0 && !taken.commanded.is_empty(), "due and commanded");
+    if engine == Engine::Eager {
+        met.count("eager instants");
+        return;
     }
-
-    /// Counts an instant, of whose `all` integrators a lazy engine moves `moved`.
-    fn count_instant(&mut self, engine: Engine, taken: &Taken, moved: usize, all: usize) {
-        let due = taken.due.len();
-        self.due_and_commanded += u64::from(due > 0 && !taken.commanded.is_empty());
-        match engine {
-            Engine::Eager => self.eager_instants += 1,
-            Engine::Lazy => {
-                self.lazy_instants += 1;
-                self.reached_not_due += u64::from(moved > due);
-                self.some_not_moved += u64::from(moved < all);
-            }
-        }
-    }
+    met.count("lazy instants");
+    met.count_if(moved > due, "lazy instants that move who is not due");
+    met.count_if(moved < all, "lazy instants that leave some where they are");
 }
 
 /// The declarations of every list that is wanted.
@@ -107,7 +88,7 @@ pub fn declarations(met: &mut Met) -> Vec<Declaration> {
     let mut all = Vec::new();
     for wanted in WANTED {
         for (name, plan, played) in lists_of(wanted).take(LISTS * times()) {
-            met.count_list(&plan, &played);
+            count_list(met, &plan, &played);
             all.extend(Listed::new(name, &plan, &played).declarations());
         }
     }

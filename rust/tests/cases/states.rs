@@ -9,35 +9,28 @@ use cup_check::engine::Engine;
 use cup_check::generate::states::sound_state;
 use cup_check::generate::{Breakage, Rng};
 use cup_check::limits::{BUDGET_MAX, INTEGRATORS_MAX};
+use cup_check::met::Met;
 use cup_check::raw::RawState;
 use cup_check::samples::document_cup;
 use cup_check::sound::{broken_clauses, is_sound, Clause};
-use std::collections::BTreeMap;
 
-/// The states of all theorems.
-#[derive(Debug, Default)]
-pub struct Met {
-    sound: u64,
-    unsound: u64,
-    /// How many break a clause and no other.
-    breaking: BTreeMap<String, u64>,
+/// What has to be met: sound states, and for every clause one that breaks it alone.
+pub fn required() -> Met {
+    let mut met = Met::default();
+    met.require("sound", 5);
+    // There is a breakage for every clause, of the same name.
+    met.require_each(Breakage::ALL.map(|clause| format!("{clause:?}")), 1);
+    met
 }
 
-impl Met {
-    pub fn assert_enough(&self) {
-        // There is a breakage for every clause.
-        assert_eq!(self.breaking.len(), Breakage::ALL.len(), "{self:?}");
-        assert!(self.sound >= 5, "{self:?}");
-    }
-
-    fn count(&mut self, state: &RawState) {
-        match is_sound(state) {
-            true => self.sound += 1,
-            false => self.unsound += 1,
-        }
-        if let [clause] = &broken_clauses(state)[..] {
-            *self.breaking.entry(name_of(clause)).or_default() += 1;
-        }
+fn count(met: &mut Met, state: &RawState) {
+    met.count(if is_sound(state) {
+        "sound"
+    } else {
+        "not sound"
+    });
+    if let [clause] = &broken_clauses(state)[..] {
+        met.count(name_of(clause));
     }
 }
 
@@ -54,7 +47,7 @@ type Named = (String, RawState);
 pub fn declarations(met: &mut Met) -> Vec<Declaration> {
     let states = [sound(), broken(), spoiled(), wild()].concat();
     let theorem = |(name, entry): Named| {
-        met.count(&entry);
+        count(met, &entry);
         let cases = cases(&entry).to_vec();
         Declaration::Theorem { name, cases }
     };

@@ -8,11 +8,12 @@ mod fixtures;
 pub use fixtures::{every_section, spoiled_cups};
 
 use cup_check::calls::{Checker, Ran, Simulator};
-use cup_check::compare::{loaded_list, Found, Met};
+use cup_check::compare::{loaded_list, Found};
 use cup_check::engine::Engine;
 use cup_check::file::encode;
 use cup_check::generate::{run_list, Family, Rng};
 use cup_check::limits::{ACCEPTED, EVENT_BYTES, PAUSED, WORD_BYTES};
+use cup_check::met::Met;
 use cup_check::plain::{Observer, Plain};
 use cup_check::plan::Plan;
 use cup_check::raw::RawState;

@@ -1,11 +1,13 @@
 //! One file: every call of a reader compared with the second simulator's.
 
-use super::{Met, Reader, Second};
+use super::counts::{count_rewritten, count_section};
+use super::{Reader, Second};
 use crate::Answer;
 use cup_check::file::read::place_in;
 use cup_check::file::Refusal;
 use cup_check::generate::Rng;
 use cup_check::limits::{ACCEPTED, SECTIONS};
+use cup_check::met::Met;
 use cup_check::plan::Plan;
 
 /// Bytes before and behind a buffer that have to keep their value too.
@@ -79,8 +81,7 @@ fn compare_sections(
         match of(expected) {
             // The file is refused, or there is no such section.
             (0, _) => (),
-            (_, 0) => met.empty_parts[number] += 1,
-            _ => met.parts[number] += 1,
+            (_, length) => count_section(met, number, length),
         }
     }
     Ok(())
@@ -116,7 +117,7 @@ fn compare_rewriting(
                 "rewrite: byte {place} of {length} after {answer:?} is wrong"
             ));
         }
-        met.rewritten[answer.number] += 1;
+        count_rewritten(met, answer.number);
     }
     Ok(())
 }

@@ -5,10 +5,10 @@
 //! once can be found again.
 
 mod compare;
+mod counts;
 pub mod instants;
 pub mod listings;
 pub mod lists;
-mod met;
 mod parties;
 mod signs;
 pub mod soundness;
@@ -17,14 +17,15 @@ mod switches;
 pub mod tables;
 pub mod writes;
 
-pub use met::Met;
 pub use parties::{Archive, Machine, Reader, Second};
-pub use signs::Signs;
+pub use signs::{count_signs, SIGNS};
 
 use compare::compare;
+use counts::{count_file, required};
 use cup_check::file::Mutant;
 use cup_check::generate::files::{any, next_to};
 use cup_check::generate::{Origin, Rng};
+use cup_check::met::Met;
 use cup_check::samples;
 use switches::{mutant, number};
 
@@ -49,15 +50,23 @@ pub struct Campaign {
 }
 
 /// What a campaign has found.
-#[derive(Debug, Default)]
-pub struct Outcome<M = Met> {
-    /// What was compared and how it was answered.
-    pub met: M,
+#[derive(Debug)]
+pub struct Outcome {
+    /// What was compared and how it was answered, and what has to be met.
+    pub met: Met,
     /// The first differences; none if all answers agree.
     pub differences: Vec<String>,
 }
 
-impl<M> Outcome<M> {
+impl Outcome {
+    /// Nothing yet, of what has to be met.
+    fn new(required: Met) -> Outcome {
+        Outcome {
+            met: required,
+            differences: Vec::new(),
+        }
+    }
+
     /// Keeps a difference if there is one; whether enough are described.
     fn found(&mut self, difference: Option<String>) -> bool {
         self.differences.extend(difference);
@@ -78,13 +87,13 @@ impl Campaign {
     /// Compares a reader's calls with the second simulator's, until a few differences are found.
     pub fn run(&self, reader: &dyn Reader) -> Outcome {
         let second = Second::new(self.mutant);
-        let mut outcome: Outcome = Outcome::default();
+        let mut outcome = Outcome::new(required());
         let first = Rng::new(self.seed).bits();
         let random = (0..).map(|number| random(first.wrapping_add(number)));
         let files = stepped().chain(random);
         for (number, (origin, mut rng, file)) in (0..self.files).zip(files) {
             let expected = second.read(&file);
-            outcome.met.count(origin, &file, &expected);
+            count_file(&mut outcome.met, origin, &file, &expected);
             let found = compare(
                 reader,
                 &second,

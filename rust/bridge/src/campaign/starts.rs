@@ -7,9 +7,8 @@ use cup_check::calls::{Checker, Loaded, Simulator};
 use cup_check::file::encode;
 use cup_check::generate::{files, Family, Rng};
 use cup_check::limits::{ACCEPTED, NEVER, REFUSED_COMMAND};
+use cup_check::met::Met;
 use cup_check::samples;
-use std::collections::BTreeMap;
-use std::fmt;
 
 /// Files that the gate loads at least.
 pub const FILES: u64 = 40_000;
@@ -29,19 +28,6 @@ pub struct Campaign {
     pub seed: u64,
 }
 
-/// Counts of files.
-#[derive(Clone, Debug, Default)]
-pub struct Met {
-    /// Files loaded.
-    pub files: u64,
-    /// How often each number 0 to 9 was answered.
-    pub numbers: [u64; REFUSED_COMMAND + 1],
-    /// Accepted plans of each family.
-    pub families: BTreeMap<String, u64>,
-    /// Start states with an integrator that is due, and with one that is never due.
-    pub due: [u64; 2],
-}
-
 impl Campaign {
     /// A campaign by the variables CUP_STARTS and CUP_SEED, or the gate's without them.
     pub fn asked_for() -> Campaign {
@@ -52,8 +38,8 @@ impl Campaign {
     }
 
     /// Compares what a machine loads with what the second simulator loads.
-    pub fn run(&self, machine: &dyn Machine) -> Outcome<Met> {
-        let mut outcome: Outcome<Met> = Outcome::default();
+    pub fn run(&self, machine: &dyn Machine) -> Outcome {
+        let mut outcome = Outcome::new(required());
         let first = Rng::new(self.seed).bits();
         let samples = samples::all().into_iter();
         let samples = samples.map(|sample| ("sample".to_string(), sample.file));
@@ -61,7 +47,7 @@ impl Campaign {
         let files = samples.chain(random);
         for (number, (origin, file)) in (0..self.files).zip(files) {
             let expected = Checker::default().load(&file);
-            outcome.met.count(&origin, &expected);
+            count(&mut outcome.met, &origin, &expected);
             let found = compare(machine, &file, &expected);
             let seed = self.seed;
             let described = |what| format!("file {number} of seed {seed} ({origin}): {what}");
@@ -100,45 +86,33 @@ fn compare(machine: &dyn Machine, file: &[u8], expected: &Loaded) -> Result<(), 
     }
 }
 
-impl Met {
-    fn count(&mut self, origin: &str, loaded: &Loaded) {
-        self.files += 1;
-        self.numbers[loaded.number] += 1;
-        if loaded.number == ACCEPTED {
-            *self.families.entry(origin.to_string()).or_default() += 1;
-            let dues = &loaded.state.run.d[..loaded.state.plan.counts.n];
-            let never = |due: &u32| *due == NEVER;
-            self.due[0] += u64::from(!dues.iter().all(never));
-            self.due[1] += u64::from(dues.iter().any(never));
-        }
-    }
-
-    /// What was met too seldom to count as compared.
-    pub fn thin(&self) -> Vec<String> {
-        let numbers = (0..).zip(self.numbers);
-        let numbers = numbers.map(|(number, count)| (format!("number {number}"), count));
-        let due = self.due.map(|count| ("due, never due".to_string(), count));
-        let families = Family::ALL.map(|family| {
-            let count = self.families.get(&format!("{family:?}"));
-            (format!("{family:?}"), count.copied().unwrap_or(0))
-        });
-        let few = |least: u64| move |(_, count): &(String, u64)| *count < least;
-        let families = families.into_iter().filter(few(ENOUGH_OF_A_FAMILY));
-        let thin = numbers.chain(due).filter(few(ENOUGH)).chain(families);
-        thin.map(|(what, count)| format!("{what}: {count}"))
-            .collect()
-    }
+/// What has to be met: every number, plans of every family, and start states with an integrator that is
+/// due and with one that is never due.
+fn required() -> Met {
+    let mut met = Met::default();
+    met.require("files loaded", FILES);
+    let numbers = (ACCEPTED..=REFUSED_COMMAND).map(|number| format!("number {number}"));
+    met.require_each(numbers, ENOUGH);
+    met.require_each(DUE, ENOUGH);
+    let families = Family::ALL.map(|family| accepted(&format!("{family:?}")));
+    met.require_each(families, ENOUGH_OF_A_FAMILY);
+    met
 }
 
-impl fmt::Display for Met {
-    fn fmt(&self, out: &mut fmt::Formatter) -> fmt::Result {
-        let (files, [due, never]) = (self.files, self.due);
-        writeln!(out, "starts: {files} files loaded")?;
-        writeln!(out, "  numbers 0 to 9: {:?}", self.numbers)?;
-        writeln!(out, "  accepted: {:?}", self.families)?;
-        writeln!(
-            out,
-            "  with an integrator that is due {due}, with one that never is {never}"
-        )
+const DUE: [&str; 2] = ["accepted, one is due", "accepted, one is never due"];
+
+fn accepted(origin: &str) -> String {
+    format!("accepted, {origin}")
+}
+
+fn count(met: &mut Met, origin: &str, loaded: &Loaded) {
+    met.count("files loaded");
+    met.count(format!("number {}", loaded.number));
+    if loaded.number == ACCEPTED {
+        met.count(accepted(origin));
+        let dues = &loaded.state.run.d[..loaded.state.plan.counts.n];
+        let never = |due: &u32| *due == NEVER;
+        met.count_if(!dues.iter().all(never), DUE[0]);
+        met.count_if(dues.iter().any(never), DUE[1]);
     }
 }

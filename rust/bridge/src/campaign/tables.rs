@@ -5,11 +5,11 @@ use super::{Machine, Outcome};
 use crate::state::{State, Tables};
 use cup_check::generate::near::change;
 use cup_check::generate::{Family, Fill, Rng};
+use cup_check::met::Met;
 use cup_check::plain::values::of_all_sources;
 use cup_check::plan::{Plan, LIMIT};
 use cup_check::raw::RawState;
 use cup_check::sound::is_sound;
-use std::fmt;
 
 /// States that the gate compares at least.
 pub const STATES: u64 = 10_000;
@@ -29,23 +29,6 @@ pub struct Campaign {
     pub seed: u64,
 }
 
-/// Counts of states.
-#[derive(Clone, Debug, Default)]
-pub struct Met {
-    /// States.
-    pub states: u64,
-    /// Those that are not sound.
-    pub unsound: u64,
-    /// Integrators that a source reaches by a link that names it.
-    pub by_link: u64,
-    /// Integrators that it reaches by nodes alone.
-    pub by_nodes: u64,
-    /// Nodes that depend on a source by another node.
-    pub deep: u64,
-    /// Integrators without links.
-    pub without_links: u64,
-}
-
 impl Campaign {
     /// A campaign by the variables CUP_TABLES and CUP_SEED, or the gate's without them.
     pub fn asked_for() -> Campaign {
@@ -56,8 +39,8 @@ impl Campaign {
     }
 
     /// Compares a machine's tables with those worked out here.
-    pub fn run(&self, machine: &dyn Machine) -> Outcome<Met> {
-        let mut outcome: Outcome<Met> = Outcome::default();
+    pub fn run(&self, machine: &dyn Machine) -> Outcome {
+        let mut outcome = Outcome::new(required());
         let first = Rng::new(self.seed).bits();
         for number in 0..self.states {
             let mut rng = Rng::new(first.wrapping_add(number));
@@ -79,11 +62,11 @@ fn compare(machine: &dyn Machine, rng: &mut Rng, plan: &Plan, met: &mut Met) -> 
     let mut state = rng.pick(&Fill::ALL).state(rng, plan);
     let right = tables(&state, plan);
     same(&machine.tables(&State::from(&state)), &right)?;
-    met.count(plan, &right);
+    count(met, plan, &right);
     while is_sound(&state) {
         change(rng, &mut state);
     }
-    met.unsound += 1;
+    met.count(UNSOUND);
     same(&machine.tables(&State::from(&state)), &Tables::NONE)
         .map_err(|what| format!("not sound, {what}"))
 }
@@ -148,53 +131,43 @@ fn follows(plan: &Plan, source: usize, changed: usize) -> bool {
     follows(plan, node.a, changed) || node.kind != LIMIT && follows(plan, node.b, changed)
 }
 
-impl Met {
-    fn count(&mut self, plan: &Plan, tables: &Tables) {
-        self.states += 1;
-        for changed in 0..plan.sources() {
-            let reached = tables.reach[changed];
-            let links = plan.links.iter().filter(|link| link.source == changed);
-            let by_link = links.fold(0_u64, |mask, link| mask | 1 << link.target);
-            self.by_link += u64::from(by_link.count_ones());
-            self.by_nodes += u64::from((reached as u32 & !(by_link as u32)).count_ones());
-            let named = |j: &usize| {
-                let node = &plan.nodes[*j];
-                node.a == changed || node.kind != LIMIT && node.b == changed
-            };
-            let beside = (0..plan.nodes.len()).filter(named).count() as u32;
-            let own = u32::from(changed >= plan.node_source(0));
-            self.deep += u64::from((reached >> NODES_FROM).count_ones() - beside - own);
-        }
-        let linked = |i: &usize| plan.links.iter().any(|link| link.target == *i);
-        let integrators = 0..plan.integrators.len();
-        self.without_links += integrators.filter(|i| !linked(i)).count() as u64;
-    }
-
-    fn counts(&self) -> [(&'static str, u64); 5] {
-        [
-            ("not sound", self.unsound),
-            ("integrators reached by a link", self.by_link),
-            ("integrators reached by nodes alone", self.by_nodes),
-            ("nodes that depend by another node", self.deep),
-            ("integrators without links", self.without_links),
-        ]
-    }
-
-    /// What was met too seldom to count as compared.
-    pub fn thin(&self) -> Vec<String> {
-        let seldom = self
-            .counts()
-            .into_iter()
-            .filter(|(_, count)| *count < ENOUGH);
-        seldom
-            .map(|(what, count)| format!("{what}: {count}"))
-            .collect()
-    }
+/// What has to be met.
+fn required() -> Met {
+    let mut met = Met::default();
+    met.require("states", STATES);
+    met.require_each([UNSOUND, BY_LINK, BY_NODES, DEEP, WITHOUT_LINKS], ENOUGH);
+    met
 }
 
-impl fmt::Display for Met {
-    fn fmt(&self, out: &mut fmt::Formatter) -> fmt::Result {
-        let counts = self.counts().map(|(what, count)| format!("{what} {count}"));
-        writeln!(out, "tables: {} states, {}", self.states, counts.join(", "))
+const UNSOUND: &str = "not sound";
+/// Integrators that a source reaches by a link that names it.
+const BY_LINK: &str = "integrators reached by a link";
+/// Integrators that it reaches by nodes alone.
+const BY_NODES: &str = "integrators reached by nodes alone";
+/// Nodes that depend on a source by another node.
+const DEEP: &str = "nodes that depend by another node";
+const WITHOUT_LINKS: &str = "integrators without links";
+
+fn count(met: &mut Met, plan: &Plan, tables: &Tables) {
+    met.count("states");
+    for changed in 0..plan.sources() {
+        let reached = tables.reach[changed];
+        let links = plan.links.iter().filter(|link| link.source == changed);
+        let by_link = links.fold(0_u64, |mask, link| mask | 1 << link.target);
+        let by_nodes = reached as u32 & !(by_link as u32);
+        met.add(BY_LINK, by_link.count_ones().into());
+        met.add(BY_NODES, by_nodes.count_ones().into());
+        let named = |j: &usize| {
+            let node = &plan.nodes[*j];
+            node.a == changed || node.kind != LIMIT && node.b == changed
+        };
+        let beside = (0..plan.nodes.len()).filter(named).count() as u32;
+        let own = u32::from(changed >= plan.node_source(0));
+        let deep = (reached >> NODES_FROM).count_ones() - beside - own;
+        met.add(DEEP, deep.into());
     }
+    let linked = |i: &usize| plan.links.iter().any(|link| link.target == *i);
+    let integrators = 0..plan.integrators.len();
+    let without = integrators.filter(|i| !linked(i)).count();
+    met.add(WITHOUT_LINKS, without as u64);
 }

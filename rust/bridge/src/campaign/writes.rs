@@ -9,8 +9,8 @@ use cup_check::file::encode;
 use cup_check::generate::near::change;
 use cup_check::generate::{plans, Fill, Rng};
 use cup_check::limits::{ACCEPTED, REFUSED_UNSOUND};
+use cup_check::met::Met;
 use cup_check::raw::RawState;
-use std::fmt;
 
 /// States that the gate writes at least.
 pub const STATES: u64 = 10_000;
@@ -30,19 +30,6 @@ pub struct Campaign {
     pub seed: u64,
 }
 
-/// Counts of states and of calls.
-#[derive(Clone, Debug, Default)]
-pub struct Met {
-    /// States.
-    pub states: u64,
-    /// Plans written.
-    pub written: u64,
-    /// Buffers too short, by one byte or by more.
-    pub short: [u64; 2],
-    /// Calls with a state that is not sound, by a buffer that is long enough and by one that is not.
-    pub unsound: [u64; 2],
-}
-
 impl Campaign {
     /// A campaign by the variables CUP_WRITES and CUP_SEED, or the gate's without them.
     pub fn asked_for() -> Campaign {
@@ -53,8 +40,8 @@ impl Campaign {
     }
 
     /// Compares what a machine writes with what the second simulator writes.
-    pub fn run(&self, machine: &dyn Machine) -> Outcome<Met> {
-        let mut outcome: Outcome<Met> = Outcome::default();
+    pub fn run(&self, machine: &dyn Machine) -> Outcome {
+        let mut outcome = Outcome::new(required());
         let first = Rng::new(self.seed).bits();
         for number in 0..self.states {
             let mut rng = Rng::new(first.wrapping_add(number));
@@ -79,7 +66,7 @@ fn compare(machine: &dyn Machine, rng: &mut Rng, met: &mut Met) -> Result<(), St
     let file = encode(&plan).len();
     let longer = file + 1 + rng.below(60);
     let shorter = rng.below(file);
-    met.states += 1;
+    met.count("states");
     for length in [file, longer, file - 1, shorter, 0] {
         check_call(machine, rng, &state, length, met)?;
     }
@@ -116,7 +103,7 @@ fn check_call(
     if written.number == ACCEPTED {
         check_loaded(machine, state, &bytes[buffer][..written.length])?;
     }
-    met.count(state, length, written.number);
+    count(met, state, length, written.number);
     Ok(())
 }
 
@@ -133,44 +120,29 @@ fn check_loaded(machine: &dyn Machine, state: &RawState, file: &[u8]) -> Result<
     Ok(())
 }
 
-impl Met {
-    fn count(&mut self, state: &RawState, length: usize, number: usize) {
-        let file = state.plan.to_plan().map_or(0, |plan| encode(&plan).len());
-        match number {
-            ACCEPTED => self.written += 1,
-            REFUSED_UNSOUND => self.unsound[usize::from(length < file)] += 1,
-            _ => self.short[usize::from(length + 1 < file)] += 1,
-        }
-    }
-
-    /// What was met too seldom to count as compared.
-    pub fn thin(&self) -> Vec<String> {
-        let counts = [
-            ("written", self.written),
-            ("short by one byte", self.short[0]),
-            ("shorter", self.short[1]),
-            ("not sound", self.unsound[0]),
-            ("not sound and short", self.unsound[1]),
-        ];
-        let seldom = counts.into_iter().filter(|(_, count)| *count < ENOUGH);
-        seldom
-            .map(|(what, count)| format!("{what}: {count}"))
-            .collect()
-    }
+/// What has to be met.
+fn required() -> Met {
+    let mut met = Met::default();
+    met.require("states", STATES);
+    met.require(WRITTEN, ENOUGH);
+    met.require_each(SHORT, ENOUGH);
+    met.require_each(UNSOUND, ENOUGH);
+    met
 }
 
-impl fmt::Display for Met {
-    fn fmt(&self, out: &mut fmt::Formatter) -> fmt::Result {
-        let ([one, more], [unsound, both]) = (self.short, self.unsound);
-        writeln!(
-            out,
-            "writes: {} states, {} plans written and loaded again",
-            self.states, self.written
-        )?;
-        writeln!(out, "  buffers short by one byte {one}, by more {more}")?;
-        writeln!(
-            out,
-            "  calls with a state that is not sound {unsound}, with a short buffer too {both}"
-        )
-    }
+const WRITTEN: &str = "plans written and loaded again";
+
+/// Buffers too short, by one byte or by more.
+const SHORT: [&str; 2] = ["buffers short by one byte", "buffers shorter"];
+
+/// Calls with a state that is not sound, by a buffer that is long enough and by one that is not.
+const UNSOUND: [&str; 2] = ["not sound", "not sound, and a short buffer"];
+
+fn count(met: &mut Met, state: &RawState, length: usize, number: usize) {
+    let file = state.plan.to_plan().map_or(0, |plan| encode(&plan).len());
+    met.count(match number {
+        ACCEPTED => WRITTEN,
+        REFUSED_UNSOUND => UNSOUND[usize::from(length < file)],
+        _ => SHORT[usize::from(length + 1 < file)],
+    });
 }

@@ -4,30 +4,43 @@
 #![allow(dead_code)]
 
 use cup_bridge::campaign::Outcome;
-use std::fmt::Display;
+use cup_check::met::Met;
 use std::io::Write;
 use std::path::{Path, PathBuf};
 use std::process::Command;
 use std::time::Instant;
 
-/// Prints what a campaign has met, and fails if it found a difference or met something too seldom.
-pub fn judge<M: Display>(
-    outcome: &Outcome<M>,
-    thin: impl Fn(&M) -> Vec<String>,
-    exchanged: &str,
-    seed: u64,
-    started: Instant,
-) {
-    let seconds = started.elapsed().as_secs_f64();
-    let report = format!("\n{}  seed {seed}, {seconds:.1} s\n", outcome.met);
-    // Past the test harness, which keeps what a passing test prints to itself.
-    std::io::stdout()
-        .write_all(report.as_bytes())
-        .expect("standard output");
-    let found = outcome.differences.join("\n");
-    assert!(found.is_empty(), "{exchanged}:\n{found}");
-    let none: [String; 0] = [];
-    assert_eq!(thin(&outcome.met), none);
+/// How a campaign is reported.
+pub struct Report {
+    /// The first word of its report, which the gate looks for.
+    pub title: &'static str,
+    /// The count that stands behind it.
+    pub counted: &'static str,
+    /// Where its material starts from.
+    pub seed: u64,
+    /// The mutant that is compared with, if there is one.
+    pub mutant: Option<String>,
+}
+
+impl Report {
+    /// Runs a campaign and prints what it has met. Fails if it found a difference or met something too
+    /// seldom.
+    pub fn judge(&self, run: impl FnOnce() -> Outcome) -> Met {
+        let started = Instant::now();
+        let Outcome { met, differences } = run();
+        let seconds = started.elapsed().as_secs_f64();
+        let (title, counted, seed) = (self.title, self.counted, self.seed);
+        let first = format!("{title}: {} {counted}", met.of(counted));
+        let report = format!("\n{first}\n{met}  seed {seed}, {seconds:.1} s\n");
+        // Past the test harness, which keeps what a passing test prints to itself.
+        std::io::stdout()
+            .write_all(report.as_bytes())
+            .expect("standard output");
+        let (mutant, found) = (&self.mutant, differences.join("\n"));
+        assert!(found.is_empty(), "with mutant {mutant:?}:\n{found}");
+        met.assert_enough();
+        met
+    }
 }
 
 /// The repository's root.

@@ -2,7 +2,7 @@
 
 use super::super::compare::random;
 use super::super::Machine;
-use super::Met;
+use super::counts::{count_answer, count_instant};
 use crate::state::{Ran, State};
 use cup_check::calls::{Checker, Simulator};
 use cup_check::compare::{holds, moment_of, same, same_as_plain, Found};
@@ -11,6 +11,7 @@ use cup_check::generate::near::change;
 use cup_check::generate::states::moved_to_clock;
 use cup_check::generate::Rng;
 use cup_check::limits::{ACCEPTED, EVENT_BYTES, REFUSED_RUN_BUFFER, REFUSED_UNSOUND};
+use cup_check::met::Met;
 use cup_check::plain::{Observer, Plain, Taken};
 use cup_check::plan::Plan;
 use cup_check::raw::{RawRunning, RawState};
@@ -80,7 +81,7 @@ impl<'a> Comparison<'a> {
         for length in any.into_iter().chain([needed - 1]) {
             let (ran, _) = self.check_call(rng, engine, self.state, length)?;
             same("number of a short buffer", ran.number, REFUSED_RUN_BUFFER)?;
-            met.short += 1;
+            met.count("buffer too short");
         }
         Ok(())
     }
@@ -94,7 +95,7 @@ impl<'a> Comparison<'a> {
         for (engine, length) in [(Engine::Lazy, needed), (Engine::Eager, 0)] {
             let (ran, _) = self.check_call(rng, engine, &state, length)?;
             same("number of an unsound state", ran.number, REFUSED_UNSOUND)?;
-            met.unsound += 1;
+            met.count("not sound");
         }
         Ok(())
     }
@@ -158,7 +159,7 @@ impl<'a> Comparison<'a> {
         let positions = &moved_to_clock(&after).run.x[..before.plan.counts.n];
         same("positions", positions, &plain.positions[..])?;
         holds("the plan changed", after.plan == before.plan)?;
-        met.count_answer(engine, before, plain);
+        count_answer(met, engine, before, plain);
         match &next.taken {
             None => holds("no instant, but another state", after == *before),
             Some(taken) => self.check_moved(met, engine, taken, &after),
@@ -180,7 +181,7 @@ impl<'a> Comparison<'a> {
                 same("who is not moved", figures(after), figures(before))?;
             }
         }
-        met.count_instant(taken, moved.len(), engine, self.plan);
+        count_instant(met, taken, moved.len(), engine, self.plan);
         Ok(())
     }
 }

@@ -4,13 +4,12 @@
 //! continued from the same moment.
 
 mod compare;
-mod met;
-
-pub use met::Met;
+mod counts;
 
 use super::switches::{mutant, number};
 use super::{Machine, Outcome};
 use compare::Comparison;
+use counts::{count_state, required};
 use cup_check::engine::Mutant;
 use cup_check::generate::{Family, Fill, Rng};
 
@@ -42,8 +41,8 @@ impl Campaign {
     }
 
     /// Compares a machine's instants with the second simulator's, until a few differences are found.
-    pub fn run(&self, machine: &dyn Machine) -> Outcome<Met> {
-        let mut outcome: Outcome<Met> = Outcome::default();
+    pub fn run(&self, machine: &dyn Machine) -> Outcome {
+        let mut outcome = Outcome::new(required());
         let first = Rng::new(self.seed).bits();
         for number in 0..self.states.div_ceil(OF_ONE_PLAN) {
             let mut rng = Rng::new(first.wrapping_add(number));
@@ -60,7 +59,7 @@ impl Campaign {
                     plan: &plan,
                     state,
                 };
-                outcome.met.count_state(fill, state);
+                count_state(&mut outcome.met, fill, state);
                 let found = comparison.check(&mut rng, &mut outcome.met);
                 let described = |difference| {
                     let state = format!("state {place} of plan {number} of seed {}", self.seed);

@@ -1,15 +1,15 @@
 //! The listing program on inputs of every sort: what it prints, byte for byte.
 
+mod counts;
 mod inputs;
-mod met;
 mod program;
 
 pub use inputs::{Input, Sort};
-pub use met::Met;
 pub use program::{Lister, Program};
 
 use super::switches::number;
 use super::{shown, Outcome};
+use counts::{count_input, required};
 use cup_check::generate::Rng;
 use cup_check::listing::listing;
 
@@ -35,13 +35,13 @@ impl Campaign {
     }
 
     /// Compares what a program prints with the second simulator's listing.
-    pub fn run(&self, lister: &dyn Lister) -> Outcome<Met> {
-        let mut outcome: Outcome<Met> = Outcome::default();
+    pub fn run(&self, lister: &dyn Lister) -> Outcome {
+        let mut outcome = Outcome::new(required());
         let first = Rng::new(self.seed).bits();
         for number in 0..self.inputs {
             let input = Input::drawn(&mut Rng::new(first.wrapping_add(number)), number);
             let expected = listing(&input.bytes);
-            outcome.met.count(&input, &expected);
+            count_input(&mut outcome.met, &input, &expected);
             let found = compare(lister, &input, expected.as_bytes());
             let described = |what| {
                 let origin = format!("input {number} of seed {} ({:?}", self.seed, input.sort);

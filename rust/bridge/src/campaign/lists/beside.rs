@@ -2,16 +2,17 @@
 //!
 //! No call keeps anything, so whatever is asked of other states in between must leave the list as it is.
 
-use super::Calls;
+use super::counts::{count_call, OTHER_LISTS, UNSOUND};
 use crate::state::State;
 use cup_check::calls::{Checker, Simulator};
 use cup_check::compare::{continued_list, same, same_events};
-use cup_check::compare::{Beside, Called, Found, Marked, Met};
+use cup_check::compare::{Beside, Called, Found, Marked};
 use cup_check::engine::Engine;
 use cup_check::generate::near::change;
 use cup_check::generate::{plans, run_list, Breakage, Call, Fill, Rng};
 use cup_check::limits::{BUDGET_MAX, EVENT_BYTES, LISTING_BUDGET, REFUSED_UNSOUND};
 use cup_check::limits::{INPUTS_MAX, INTEGRATORS_MAX};
+use cup_check::met::Met;
 use cup_check::raw::RawState;
 use cup_check::sound::is_sound;
 
@@ -34,21 +35,27 @@ pub struct Between<'a> {
     pub simulator: &'a dyn Simulator,
     pub second: Checker,
     pub rng: Rng,
-    pub calls: &'a mut Calls,
+    /// The engines of the list's calls that took instants.
+    pub engines: Vec<Engine>,
 }
 
 impl Beside for Between<'_> {
-    fn after(&mut self, called: &Called) -> Found {
-        self.calls.count(called);
+    fn after(&mut self, called: &Called, met: &mut Met) -> Found {
+        count_call(met, called);
+        if called.instants > 0 {
+            self.engines.push(called.call.engine);
+        }
         self.check_engine(called)
             .map_err(|difference| format!("second simulator's engine: {difference}"))?;
         if self.rng.once_in(UNSOUND_AFTER) {
             self.check_unsound(&called.ran.state)
                 .map_err(|difference| format!("then an unsound state: {difference}"))?;
+            met.count(UNSOUND);
         }
         if self.rng.once_in(OTHER_LIST_AFTER) {
             self.check_other_list()
                 .map_err(|difference| format!("then another list: {difference}"))?;
+            met.count(OTHER_LISTS);
         }
         Ok(())
     }
@@ -115,7 +122,6 @@ impl Between<'_> {
             (REFUSED_UNSOUND, 0),
         )?;
         same("byte changed by write", buffer.changed_beside(0), None)?;
-        self.calls.unsound += 1;
         Ok(())
     }
 
@@ -141,7 +147,6 @@ impl Between<'_> {
         let list = run_list(rng, plan.events_per_instant());
         let short = |call: &Call| call.budget <= OTHER_BUDGET || call.budget > BUDGET_MAX;
         let list: Vec<Call> = list.into_iter().filter(short).take(OTHER_CALLS).collect();
-        self.calls.other_lists += 1;
         continued_list(self.simulator, &plan, &state, &list, &mut Met::default())
     }
 }

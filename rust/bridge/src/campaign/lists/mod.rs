@@ -5,17 +5,18 @@
 //! the second simulator's engines. Between its calls other states are handed in.
 
 mod beside;
-mod met;
+mod counts;
 
-pub use met::{Calls, Met, Plans};
-
+use super::signs::count_signs;
 use super::switches::{mutant, number};
 use super::Outcome;
 use beside::Between;
+use counts::{count_engines, count_plan, required};
 use cup_check::calls::{Checker, Simulator};
 use cup_check::compare::{continued_list_beside, loaded_list_beside, Found};
 use cup_check::engine::Mutant;
 use cup_check::generate::{long_list, run_list, Family, Fill, Rng};
+use cup_check::met::Met;
 
 /// Lists that the gate compares at least.
 pub const LISTS: u64 = 20_000;
@@ -48,8 +49,8 @@ impl Campaign {
     }
 
     /// Compares a simulator's lists with the second one's, until a few differences are found.
-    pub fn run(&self, simulator: &dyn Simulator) -> Outcome<Met> {
-        let mut outcome: Outcome<Met> = Outcome::default();
+    pub fn run(&self, simulator: &dyn Simulator) -> Outcome {
+        let mut outcome = Outcome::new(required());
         let first = Rng::new(self.seed).bits();
         for number in 0..self.lists {
             let drawn = Drawn::new(first, number);
@@ -77,25 +78,23 @@ impl Campaign {
             true => long_list(&mut rng, plan.events_per_instant()),
             false => run_list(&mut rng, plan.events_per_instant()),
         };
-        met.plans.count(drawn.family, drawn.fill, &plan);
-        let (compared, calls) = (&mut met.compared, &mut met.calls);
+        count_plan(met, drawn.family, drawn.fill, &plan);
         let mut between = Between {
             simulator,
             second: Checker {
                 mutant: self.mutant,
             },
             rng,
-            calls,
+            engines: Vec::new(),
         };
         let found = match start {
-            None => loaded_list_beside(simulator, &plan, &list, compared, &mut between),
+            None => loaded_list_beside(simulator, &plan, &list, met, &mut between),
             Some(state) => {
-                let state = &state;
-                met.signs.count(state);
-                continued_list_beside(simulator, &plan, state, &list, compared, &mut between)
+                count_signs(met, &state);
+                continued_list_beside(simulator, &plan, &state, &list, met, &mut between)
             }
         };
-        met.calls.end_list();
+        count_engines(met, &between.engines);
         found
     }
 }

@@ -4,13 +4,14 @@
 //! as it is, and then changed many times in one or two fields near the limits of a clause. A few
 //! states have a plan without integrators instead.
 
-mod met;
+mod counts;
 
-pub use met::{Count, Met, Part};
+pub use counts::Part;
 
 use super::switches::{mutant, number};
 use super::{Machine, Outcome};
 use crate::state::State;
+use counts::{count_state, required};
 use cup_check::generate::near::{change, without_integrators};
 use cup_check::generate::{Breakage, Family, Fill, Rng};
 use cup_check::raw::RawState;
@@ -57,9 +58,9 @@ impl Campaign {
     }
 
     /// Compares a machine's test with the second simulator's, until a few differences are found.
-    pub fn run(&self, machine: &dyn Machine) -> Outcome<Met> {
+    pub fn run(&self, machine: &dyn Machine) -> Outcome {
         let table = self.mutant.soundness();
-        let mut outcome: Outcome<Met> = Outcome::default();
+        let mut outcome = Outcome::new(required());
         let first = Rng::new(self.seed).bits();
         for number in 0..self.states.div_ceil(OF_ONE_BASE) {
             let mut rng = Rng::new(first.wrapping_add(number));
@@ -70,7 +71,7 @@ impl Campaign {
                 let origin = base.origin(&mut rng, step);
                 base.lead_to(&mut rng, origin, &mut state);
                 let broken = broken_by(&table, &state);
-                outcome.met.count(&state, &broken, origin);
+                count_state(&mut outcome.met, &state, &broken, origin);
                 let found = compare(machine, &state, &broken);
                 let described = |what| {
                     let base = base.described(&state);

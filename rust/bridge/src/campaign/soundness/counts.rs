@@ -1,14 +1,14 @@
-//! What the campaign over states has met.
+//! What the campaign over states counts, and how often it has to be met.
 
-use super::Origin;
-use crate::campaign::Signs;
+use super::{Origin, STATES};
+use crate::campaign::signs::{count_signs, SIGNS};
 use cup_check::file::Cause;
 use cup_check::generate::Fill;
 use cup_check::limits::{Section, REFUSED_SIZES};
+use cup_check::met::Met;
 use cup_check::raw::{RawCounts, RawState};
 use cup_check::sound::{Array, Clause};
-use std::collections::{BTreeMap, BTreeSet};
-use std::fmt;
+use std::collections::BTreeSet;
 
 /// How often each part of a clause has to be broken, also by itself.
 const ENOUGH: u64 = 100;
@@ -16,7 +16,7 @@ const ENOUGH: u64 = 100;
 /// How many sound states there have to be, of bases and of changed ones.
 const ENOUGH_SOUND: u64 = 5_000;
 
-/// How many sound bases of each fill there have to be.
+/// How many sound bases of each fill, and with each sign of a state that no run leaves, there have to be.
 const ENOUGH_OF_A_FILL: u64 = 1_000;
 
 /// How many states that come from a base by a change there have to be.
@@ -128,107 +128,59 @@ fn left_over(state: &RawState, in_plan: bool) -> impl Iterator<Item = Part> + '_
     fitting.map(Part::Unused)
 }
 
-/// How often a part was broken.
-#[derive(Clone, Copy, Debug, Default)]
-pub struct Count {
-    /// In all.
-    pub all: u64,
-    /// With no other part broken, as far as the second simulator looks: behind a wrong count, or a
-    /// broken rule of the plan, the clauses that build on it have no meaning.
-    pub alone: u64,
+/// What has to be met.
+pub fn required() -> Met {
+    let mut met = Met::default();
+    met.require(CHANGED, ENOUGH_CHANGED);
+    met.require("states", STATES);
+    met.require_each(SOUND, ENOUGH_SOUND);
+    met.require_each(Fill::ALL.map(base_of), ENOUGH_OF_A_FILL);
+    met.require_each(SIGNS, ENOUGH_OF_A_FILL);
+    for part in Part::all() {
+        met.require_each([broken(part), broken_alone(part)], ENOUGH);
+    }
+    met
 }
 
-/// Counts of states.
-#[derive(Clone, Debug, Default)]
-pub struct Met {
-    /// States compared.
-    pub states: u64,
-    /// Those that come from a base by changing one or two fields or by breaking one clause.
-    pub changed: u64,
-    /// Those that are sound.
-    pub sound: u64,
-    /// Sound ones that were not changed, by how they were filled.
-    pub bases: BTreeMap<Fill, u64>,
-    /// Signs of these that no run leaves.
-    pub signs: Signs,
-    /// States that break a part of a clause.
-    pub broken: BTreeMap<Part, Count>,
+/// States that come from a base by changing one or two fields or by breaking one clause.
+const CHANGED: &str = "changed states";
+
+/// Sound states that are bases, and others.
+const SOUND: [&str; 2] = ["sound and unchanged", "sound and changed"];
+
+fn base_of(fill: Fill) -> String {
+    format!("sound and unchanged, {fill:?}")
 }
 
-impl Met {
-    /// Counts a state by where it comes from and by the clauses that it breaks.
-    pub fn count(&mut self, state: &RawState, broken: &[Clause], origin: Origin) {
-        let sound = broken.is_empty();
-        self.states += 1;
-        self.sound += u64::from(sound);
-        match origin {
-            Origin::Base(fill) if sound => {
-                *self.bases.entry(fill).or_default() += 1;
-                self.signs.count(state);
-            }
-            Origin::Changed | Origin::Broken(_) => self.changed += 1,
-            Origin::Base(_) | Origin::WithoutIntegrators => (),
-        }
-        let parts = Part::of(state, broken);
-        let alone = u64::from(parts.len() == 1);
-        for part in parts {
-            let count = self.broken.entry(part).or_default();
-            count.all += 1;
-            count.alone += alone;
-        }
-    }
-
-    fn of(&self, part: Part) -> Count {
-        self.broken.get(&part).copied().unwrap_or_default()
-    }
-
-    fn sound_bases(&self) -> u64 {
-        self.bases.values().sum()
-    }
-
-    /// What was met too seldom to count as compared.
-    pub fn thin(&self) -> Vec<String> {
-        let parts = Part::all().into_iter();
-        let seldom = parts.filter(|part| self.of(*part).alone < ENOUGH);
-        let mut thin: Vec<String> = seldom
-            .map(|part| format!("{part:?}: {:?}", self.of(part)))
-            .collect();
-        for fill in Fill::ALL {
-            let count = self.bases.get(&fill).copied().unwrap_or(0);
-            if count < ENOUGH_OF_A_FILL {
-                thin.push(format!("{fill:?}: {count}"));
-            }
-        }
-        thin.extend(self.signs.thin());
-        if self.changed < ENOUGH_CHANGED {
-            thin.push(format!("changed: {}", self.changed));
-        }
-        let (bases, sound) = (self.sound_bases(), self.sound);
-        if bases < ENOUGH_SOUND || sound - bases < ENOUGH_SOUND {
-            thin.push(format!("sound: {sound}, of these unchanged {bases}"));
-        }
-        thin
-    }
+fn broken(part: Part) -> String {
+    format!("broken, {part:?}")
 }
 
-impl fmt::Display for Met {
-    fn fmt(&self, out: &mut fmt::Formatter) -> fmt::Result {
-        let (changed, states) = (self.changed, self.states);
-        let (sound, bases) = (self.sound, self.sound_bases());
-        writeln!(
-            out,
-            "soundness: {changed} changed states, {states} in all, {sound} sound, {} of these changed",
-            sound - bases
-        )?;
-        writeln!(out, "  sound and unchanged: {:?}", self.bases)?;
-        for (what, count) in self.signs.counts() {
-            writeln!(out, "    {what}: {count}")?;
+/// With no other part broken, as far as the second simulator looks: behind a wrong count, or a broken rule
+/// of the plan, the clauses that build on it have no meaning.
+fn broken_alone(part: Part) -> String {
+    format!("broken alone, {part:?}")
+}
+
+/// Counts a state by where it comes from and by the clauses that it breaks.
+pub fn count_state(met: &mut Met, state: &RawState, clauses: &[Clause], origin: Origin) {
+    met.count("states");
+    if clauses.is_empty() {
+        let base = matches!(origin, Origin::Base(_));
+        met.count(SOUND[usize::from(!base)]);
+    }
+    match origin {
+        Origin::Base(fill) if clauses.is_empty() => {
+            met.count(base_of(fill));
+            count_signs(met, state);
         }
-        writeln!(out, "  broken, in all and alone:")?;
-        for part in Part::all() {
-            let count = self.of(part);
-            writeln!(out, "    {part:?}: {}, {}", count.all, count.alone)?;
-        }
-        Ok(())
+        Origin::Changed | Origin::Broken(_) => met.count(CHANGED),
+        Origin::Base(_) | Origin::WithoutIntegrators => (),
+    }
+    let parts = Part::of(state, clauses);
+    let alone = parts.len() == 1;
+    for part in parts {
+        met.count(broken(part));
+        met.count_if(alone, broken_alone(part));
     }
 }
