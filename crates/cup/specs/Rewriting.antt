@@ -5,6 +5,7 @@ use mathlib.Core.List.{List}
 use Prim.Native.Nat.{ℕ}
 use lib.Dec.{leb, eqb}
 use lib.ListN.{length}
+use Rattle.plan.specs.Numbers.{acceptance, refusedWriteBuffer}
 use Rattle.plan.specs.Format.{planIn}
 use Rattle.plan.specs.Refusals.{numberOf, findingOf, accepted}
 use Rattle.plan.specs.Encoding.{fileLength, encode}
@@ -12,10 +13,10 @@ use Rattle.calls.specs.Calls.{over}
 
 -- 1 to 9 by the reader, then 13: "The plan writer's buffer is shorter than the file."
 unfoldable pub rewriteNumber : List ℕ → ℕ → ℕ
-rewriteNumber file room = cond (accepted file) (cond (leb (fileLength (planIn file)) room) 0 13) (numberOf (findingOf file))
+rewriteNumber file room = cond (accepted file) (cond (leb (fileLength (planIn file)) room) acceptance refusedWriteBuffer) (numberOf (findingOf file))
 
 unfoldable pub rewriteLength : List ℕ → ℕ → ℕ
-rewriteLength file room = cond (eqb (rewriteNumber file room) 0) (fileLength (planIn file)) 0
+rewriteLength file room = cond (eqb (rewriteNumber file room) acceptance) (fileLength (planIn file)) 0
 
 unfoldable pub rewriteBuffer : List ℕ → List ℕ → List ℕ
-rewriteBuffer file buffer = cond (eqb (rewriteNumber file (length buffer)) 0) (over (encode (planIn file)) buffer) buffer
+rewriteBuffer file buffer = cond (eqb (rewriteNumber file (length buffer)) acceptance) (over (encode (planIn file)) buffer) buffer

@@ -1,7 +1,9 @@
 -- Binding definition: the tables of a state, for tests, those that a run works out once, or all 0 where the state is not sound.
 use mathlib.Core.Bool.{cond}
+use Prim.Native.Nat.{_+_}
 use lib.IntN.{pos}
 use lib.ListN.{replicate}
+use Rattle.plan.specs.Numbers.{mostIntegrators, sourceWidth}
 use Rattle.machine.specs.SoundTest.{isSound}
 use Rattle.machine.specs.declared.State.{State}
 use Rattle.values.specs.Sources.{valuesOf}
@@ -13,4 +15,4 @@ unfoldable pub tablesOf : State → Tables
 tablesOf st =
     cond (isSound st)
     (record { ranges = rangesOf (st .plan); reach = reachTable (st .plan); values = valuesOf (st .plan) (st .run .q) (st .run .inputs) })
-    (record { ranges = replicate 33 0; reach = replicate 64 0; values = replicate 64 (pos 0) })
+    (record { ranges = replicate (mostIntegrators + 1) 0; reach = replicate sourceWidth 0; values = replicate sourceWidth (pos 0) })

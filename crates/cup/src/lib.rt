@@ -12,7 +12,9 @@ ghost use Rattle.cup.specs.Rewriting.{rewriteNumber, rewriteLength, rewr
 use directory::offset_in;
 use directory::section_in;
 use machine::State;
+use plan::ACCEPTED;
 use plan::Finding;
+use plan::REFUSED_WRITE_BUFFER;
 use plan::SECTIONS;
 use plan::SOURCES;
 use planfile::read_plan;
@@ -83,9 +85,9 @@ pub extern "C" fn cup_rewrite(file: &[u8], buffer: &mut [u8], written: &mut usiz
     let length = write_plan(plan, buffer);
     *written = length;
     if length == 0 {
-        return 13;
+        return REFUSED_WRITE_BUFFER;
     }
-    0
+    ACCEPTED
 }
 
 // The public call `load`.

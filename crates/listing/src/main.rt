@@ -1,30 +1,35 @@
 // "The listing program reads at most 4,493 bytes of standard input": what is read goes to `listingturns`, and the text of each turn to standard output.
 ghost use mathlib.Core.Path.{_≡_};
 ghost use lib.ListN.{length};
+ghost use Rattle.plan.specs.Numbers.{listingInput};
+ghost use Rattle.listingturns.specs.Turns.{eventSpace, textSpace};
 use libc::STDIN_FILENO;
 use libc::STDOUT_FILENO;
+use listingturns::EVENT_SPACE;
+use listingturns::TEXT_SPACE;
 use listingturns::begin;
 use listingturns::take_turn;
+use plan::LISTING_INPUT;
 
 // The bytes that are read: one more than the longest file that is accepted.
-fn file_space() -> [u8; 4493]
-    ensures { λ r. ⌜ 4493 ≡ length r ⌝ }
+fn file_space() -> [u8; LISTING_INPUT]
+    ensures { λ r. ⌜ listingInput ≡ length r ⌝ }
 {
-    [0; 4493]
+    [0; LISTING_INPUT]
 }
 
 // The events of 64 instants: 64 × 40 × 12 bytes.
-fn event_space() -> [u8; 30720]
-    ensures { λ r. ⌜ 30720 ≡ length r ⌝ }
+fn event_space() -> [u8; EVENT_SPACE]
+    ensures { λ r. ⌜ eventSpace ≡ length r ⌝ }
 {
-    [0; 30720]
+    [0; EVENT_SPACE]
 }
 
 // Their lines and the end line: 64 × 40 × 26 + 40 characters.
-fn text_space() -> [u8; 66600]
-    ensures { λ r. ⌜ 66600 ≡ length r ⌝ }
+fn text_space() -> [u8; TEXT_SPACE]
+    ensures { λ r. ⌜ textSpace ≡ length r ⌝ }
 {
-    [0; 66600]
+    [0; TEXT_SPACE]
 }
 
 // A write that fails ends the program.

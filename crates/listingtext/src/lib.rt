@@ -4,9 +4,11 @@ ghost use mathlib.Core.Path.{_≡_};
 ghost use Prim.Native.Nat.{_+_, _*_, _≤_};
 ghost use lib.IntN.{natAbs};
 ghost use lib.ListN.{length};
+ghost use Rattle.plan.specs.Numbers.{eventSize};
 ghost use Rattle.listingtext.specs.Decimal.{decimal, signedDecimal};
 ghost use Rattle.listingtext.specs.Lines.{field, eventLine, linesOf, endLine, refusalLine};
 ghost use Rattle.listingtext.specs.Printed.{Printed, PrintedAt};
+use plan::EVENT_SIZE;
 use words::read_i32;
 use words::read_u32;
 
@@ -81,17 +83,17 @@ pub fn write_event(buf: &mut [u8], tick: u64, source: u64, value: i64) -> usize
     write_signed_field(buf, third, value, b'\n')
 }
 
-// The lines of the first `count` events of 12 bytes.
+// The lines of the first `count` events of a list of bytes.
 pub fn write_lines(buf: &mut [u8], events: &[u8], count: usize) -> usize
-    requires { ⌜ (12 * count ≤ length (now events)) × (length (linesOf (now events) count) ≤ length (now buf)) ⌝ }
+    requires { ⌜ (eventSize * count ≤ length (now events)) × (length (linesOf (now events) count) ≤ length (now buf)) ⌝ }
     ensures { λ r. ⌜ Printed (linesOf (now (events .entry)) count) (now (buf .entry)) r (now (buf .exit)) ⌝ }
 {
     let mut at = 0;
     let mut i = 0;
     while i < count {
-        let tick = read_u32(events, 12 * i);
-        let source = read_u32(events, 12 * i + 4);
-        let value = read_i32(events, 12 * i + 8);
+        let tick = read_u32(events, EVENT_SIZE * i);
+        let source = read_u32(events, EVENT_SIZE * i + 4);
+        let value = read_i32(events, EVENT_SIZE * i + 8);
         at += write_event(&mut buf[at..], tick, source, value);
         i += 1;
     }

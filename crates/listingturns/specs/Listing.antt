@@ -6,6 +6,7 @@ use mathlib.Core.List.{List, _++_}
 use Prim.Native.Nat.{ℕ, _/_}
 use lib.Dec.{eqb}
 use lib.ListN.{length}
+use Rattle.plan.specs.Numbers.{eventSize, acceptance}
 use Rattle.plan.specs.declared.Plan.{Plan}
 use Rattle.machine.specs.Status.{statusNumber, statusOf}
 use Rattle.machine.specs.Runs.{after, events}
@@ -16,7 +17,7 @@ use Rattle.calls.specs.Calls.{loadOf}
 
 -- "prints each event as tick, source, value": the lines of a list of events, "12 bytes each"
 unfoldable pub eventLines : List ℕ → List ℕ
-eventLines bytes = linesOf bytes (length bytes / 12)
+eventLines bytes = linesOf bytes (length bytes / eventSize)
 
 -- "then "end", status, clock, instants, updates"
 unfoldable pub closing : Plan → Running → List ℕ
@@ -32,4 +33,4 @@ unfoldable pub listingOf : List ℕ → List ℕ
 listingOf file =
     let loaded = loadOf file in
     let p = loaded .state .plan in
-    cond (eqb (loaded .number) 0) (listedBy p (p .horizon) (loaded .state .run)) (refusalLine (loaded .number) (loaded .entry))
+    cond (eqb (loaded .number) acceptance) (listedBy p (p .horizon) (loaded .state .run)) (refusalLine (loaded .number) (loaded .entry))

@@ -6,6 +6,7 @@ use Prim.Native.Nat.{ℕ, suc, _^_, _≤_, _<_}
 use lib.IntN.{pos, negℤ}
 use lib.ListN.{length, take, getD}
 use Rattle.words.specs.Word.{Bytes}
+use Rattle.plan.specs.Numbers.{longestFile, listingInput, acceptance}
 use Rattle.machine.specs.Status.{statusOf}
 use Rattle.machine.specs.Runs.{after}
 use Rattle.machine.specs.Sound.{Sound}
@@ -16,7 +17,7 @@ use Rattle.listingtext.specs.Decimal.{decimal, signedDecimal}
 use Rattle.listingtext.specs.Decimal.{readFrom}
 use Rattle.calls.specs.Calls.{loadOf}
 use Rattle.listingturns.specs.Listing.{listingOf}
-use Rattle.listingturns.specs.Turns.{turnState, turnMore, turnText, firstText, printedIn}
+use Rattle.listingturns.specs.Turns.{textSpace, refusalSpace, turnState, turnMore, turnText, firstText, printedIn}
 
 -- a lazy run with the horizon for a budget ends with status 1 or 2
 abbrev pub ListingStops : Type 0
@@ -38,11 +39,11 @@ TurnsPrint = (file : List ℕ) (turns : ℕ) → loadOf file .state .plan .horiz
 
 -- what a turn prints fits the program's buffer, and so does a refusal
 abbrev pub TextsFit : Type 0
-TextsFit = ((st : State) → Sound st → length (turnText st) ≤ 66600) × ((file : List ℕ) → Bytes file → length (firstText file) ≤ 14)
+TextsFit = ((st : State) → Sound st → length (turnText st) ≤ textSpace) × ((file : List ℕ) → Bytes file → length (firstText file) ≤ refusalSpace)
 
 -- "reads at most 4,493 bytes of standard input": one more than the longest file that is accepted, so that of a longer input nothing is listed
 abbrev pub LongRefused : Type 0
-LongRefused = (input : List ℕ) → 4492 < length input → loadOf (take 4493 input) .number ≡ 0 → ⊥
+LongRefused = (input : List ℕ) → longestFile < length input → loadOf (take listingInput input) .number ≡ acceptance → ⊥
 
 -- what the text of a number is: its decimal digits, by which it is read back, with no 0 in front of others, so that 0 is the one digit 0, and
 -- '-' in front where it is below 0

@@ -4,6 +4,7 @@ use mathlib.Core.List.{List, [], _++_}
 use Prim.Native.Nat.{ℕ, zero, suc}
 use lib.Dec.{eqb}
 use lib.ListN.{length}
+use Rattle.plan.specs.Numbers.{listingBudget, acceptance}
 use Rattle.machine.specs.Status.{isPaused}
 use Rattle.machine.specs.declared.State.{State}
 use Rattle.machine.specs.declared.Engine.the-variants.{Lazy}
@@ -12,10 +13,21 @@ use Rattle.calls.specs.Calls.{loadOf, ranState, ranEvents}
 use Rattle.listingturns.specs.Listing.{eventLines, closing}
 use Rattle.listingturns.specs.declared.Turn.{Turn}
 
+-- the room that a turn's buffers need: its events, 64 × 40 × 12 bytes, and its text, 64 × 40 lines of up to 26 characters and an end line
+-- of up to 40; and the room that a refusal needs
+abbrev pub eventSpace : ℕ
+eventSpace = 30720
+
+abbrev pub textSpace : ℕ
+textSpace = 66600
+
+abbrev pub refusalSpace : ℕ
+refusalSpace = 14
+
 module _ (st : State) where
   -- "runs lazily with budget 64": the state after it
   unfoldable pub turnState : State
-  turnState = ranState Lazy st 64
+  turnState = ranState Lazy st listingBudget
 
   -- "until status 1 or 2": another turn follows
   unfoldable pub turnMore : Bool
@@ -23,7 +35,7 @@ module _ (st : State) where
 
   -- the lines of its events, and behind the last turn's the end line
   unfoldable pub turnText : List ℕ
-  turnText = eventLines (ranEvents Lazy st 64) ++ cond turnMore [] (closing (turnState .plan) (turnState .run))
+  turnText = eventLines (ranEvents Lazy st listingBudget) ++ cond turnMore [] (closing (turnState .plan) (turnState .run))
 
   -- what the code answers for it
   unfoldable pub turnOf : Turn
@@ -31,10 +43,10 @@ module _ (st : State) where
 
 -- Before the first turn: nothing is printed for an accepted file, and the refusal for another, with no turn behind it.
 unfoldable pub firstText : List ℕ → List ℕ
-firstText file = cond (eqb (loadOf file .number) 0) [] (refusalLine (loadOf file .number) (loadOf file .entry))
+firstText file = cond (eqb (loadOf file .number) acceptance) [] (refusalLine (loadOf file .number) (loadOf file .entry))
 
 unfoldable pub firstOf : List ℕ → Turn
-firstOf file = record { length = length (firstText file); more = eqb (loadOf file .number) 0; state = loadOf file .state }
+firstOf file = record { length = length (firstText file); more = eqb (loadOf file .number) acceptance; state = loadOf file .state }
 
 -- the texts of at most so many turns, joined
 unfoldable pub turnsFrom : ℕ → State → List ℕ
@@ -43,4 +55,4 @@ turnsFrom (suc turns) st = turnText st ++ cond (turnMore st) (turnsFrom turns (t
 
 -- and with what stands before them: all that the program's loop prints for a file, in at most so many turns
 unfoldable pub printedIn : ℕ → List ℕ → List ℕ
-printedIn turns file = firstText file ++ cond (eqb (loadOf file .number) 0) (turnsFrom turns (loadOf file .state)) []
+printedIn turns file = firstText file ++ cond (eqb (loadOf file .number) acceptance) (turnsFrom turns (loadOf file .state)) []

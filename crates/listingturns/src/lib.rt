@@ -2,22 +2,29 @@
 ghost use mathlib.Core.Path.{_≡_};
 ghost use Prim.Native.Nat.{_≤_};
 ghost use lib.ListN.{length};
+ghost use Rattle.plan.specs.Numbers.{listingBudget};
 ghost use Rattle.machine.specs.Sound.{Sound};
 ghost use Rattle.machine.specs.declared.Engine.the-variants.{Lazy};
 ghost use Rattle.calls.specs.Calls.{over, ranEvents};
-ghost use Rattle.listingturns.specs.Turns.{turnText, turnOf, firstText, firstOf};
+ghost use Rattle.listingturns.specs.Turns.{eventSpace, textSpace, refusalSpace, turnText, turnOf, firstText, firstOf};
 use listingtext::write_end;
 use listingtext::write_lines;
 use listingtext::write_refusal;
 use machine::State;
+use plan::ACCEPTED;
+use plan::EVENT_SIZE;
+use plan::INPUTS;
+use plan::INTEGRATORS;
+use plan::LISTING_BUDGET;
+use plan::PAUSED;
 use simulator::load;
 use simulator::run_lazy;
 
-// "runs lazily with budget 64"
-const BUDGET: u64 = 64;
+// What one run of the listing program can write, in bytes of events.
+pub const EVENT_SPACE: usize = LISTING_BUDGET as usize * (INTEGRATORS + INPUTS) * EVENT_SIZE;
 
-// Bytes of an event.
-const EVENT_BYTES: usize = 12;
+// And the characters of its text: a line of up to 26 for each event, and an end line of up to 40.
+pub const TEXT_SPACE: usize = LISTING_BUDGET as usize * (INTEGRATORS + INPUTS) * 26 + 40;
 
 // How many bytes of text stand at the start of the buffer, whether a turn follows, and the state for it.
 pub struct Turn {
@@ -28,13 +35,13 @@ pub struct Turn {
 
 // Before the first turn: "a declined plan prints "refused", number, entry", and no turn follows.
 pub fn begin(file: &[u8], text: &mut [u8]) -> Turn
-    requires { ⌜ 14 ≤ length (now text) ⌝ }
+    requires { ⌜ refusalSpace ≤ length (now text) ⌝ }
     ensures answer { λ r. ⌜ r ≡ firstOf (now (file .entry)) ⌝ }
     ensures text { λ _. ⌜ now (text .exit) ≡ over (firstText (now (file .entry))) (now (text .entry)) ⌝ }
 {
     let loaded = load(file);
     let state = loaded.state;
-    if loaded.number == 0 {
+    if loaded.number == ACCEPTED {
         return Turn {
             length: 0,
             more: true,
@@ -53,15 +60,15 @@ pub fn begin(file: &[u8], text: &mut [u8]) -> Turn
 // sound state and these lengths suffice for the run to be accepted and for the text to fit.
 pub fn take_turn(state: State, events: &mut [u8], text: &mut [u8]) -> Turn
     requires sound { ⌜ Sound state ⌝ }
-    requires room { ⌜ (30720 ≤ length (now events)) × (66600 ≤ length (now text)) ⌝ }
+    requires room { ⌜ (eventSpace ≤ length (now events)) × (textSpace ≤ length (now text)) ⌝ }
     ensures answer { λ r. ⌜ r ≡ turnOf state ⌝ }
-    ensures events { λ _. ⌜ now (events .exit) ≡ over (ranEvents Lazy state 64) (now (events .entry)) ⌝ }
+    ensures events { λ _. ⌜ now (events .exit) ≡ over (ranEvents Lazy state listingBudget) (now (events .entry)) ⌝ }
     ensures text { λ _. ⌜ now (text .exit) ≡ over (turnText state) (now (text .entry)) ⌝ }
 {
-    let ran = run_lazy(state, BUDGET, events);
-    let lines = write_lines(text, events, ran.written / EVENT_BYTES);
+    let ran = run_lazy(state, LISTING_BUDGET, events);
+    let lines = write_lines(text, events, ran.written / EVENT_SIZE);
     let reached = ran.state;
-    if ran.status == 0 {
+    if ran.status == PAUSED {
         return Turn {
             length: lines,
             more: true,

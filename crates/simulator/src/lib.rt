@@ -15,7 +15,10 @@ ghost use Rattle.directory.specs.Pointers.{further};
 ghost use Rattle.calls.specs.Calls.{loadOf, writeOf, bufferOfWrite};
 use directory::section_in;
 use machine::State;
+use plan::ACCEPTED;
 use plan::Finding;
+use plan::REFUSED_UNSOUND;
+use plan::REFUSED_WRITE_BUFFER;
 use plan::SECTIONS;
 use planfile::read_plan;
 use planrules::entry_of;
@@ -62,7 +65,7 @@ pub fn load(file: &[u8]) -> Loaded
     let run = start(plan);
     let state = State { plan, run };
     Loaded {
-        number: 0,
+        number: ACCEPTED,
         entry: 0,
         state,
     }
@@ -75,7 +78,7 @@ pub fn write(state: State, buf: &mut [u8]) -> Written
 {
     if !is_sound(state) {
         return Written {
-            number: 10,
+            number: REFUSED_UNSOUND,
             length: 0,
             state,
         };
@@ -84,13 +87,13 @@ pub fn write(state: State, buf: &mut [u8]) -> Written
     let length = write_plan(plan, buf);
     if length == 0 {
         return Written {
-            number: 13,
+            number: REFUSED_WRITE_BUFFER,
             length: 0,
             state,
         };
     }
     Written {
-        number: 0,
+        number: ACCEPTED,
         length,
         state,
     }

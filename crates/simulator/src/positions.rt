@@ -3,6 +3,9 @@ ghost use mathlib.Core.Path.{_≡_};
 ghost use Rattle.calls.specs.Calls.{positionedOf};
 use calls::Positioned;
 use machine::State;
+use plan::ACCEPTED;
+use plan::REFUSED_INTEGRATOR_NUMBER;
+use plan::REFUSED_UNSOUND;
 use soundness::is_sound;
 
 // "Position call: x+s×(c−l) for a numbered integrator."
@@ -11,14 +14,14 @@ pub fn position(state: State, integrator: usize) -> Positioned
 {
     if !is_sound(state) {
         return Positioned {
-            number: 10,
+            number: REFUSED_UNSOUND,
             value: 0,
             state,
         };
     }
     if state.plan.counts.n <= integrator {
         return Positioned {
-            number: 14,
+            number: REFUSED_INTEGRATOR_NUMBER,
             value: 0,
             state,
         };
@@ -31,7 +34,7 @@ pub fn position(state: State, integrator: usize) -> Positioned
         r.clocks.clock,
     );
     Positioned {
-        number: 0,
+        number: ACCEPTED,
         value,
         state,
     }

@@ -7,13 +7,13 @@ use calls::Ran;
 use engine::run;
 use machine::Engine;
 use machine::State;
+use plan::ACCEPTED;
+use plan::EVENT_SIZE;
+use plan::LARGEST_BUDGET;
+use plan::REFUSED_BUDGET;
+use plan::REFUSED_RUN_BUFFER;
+use plan::REFUSED_UNSOUND;
 use soundness::is_sound;
-
-// "A run's budget is above 1,024."
-const LARGEST_BUDGET: u64 = 1024;
-
-// Bytes of an event.
-const EVENT_BYTES: usize = 12;
 
 // "0 for every other figure, and the state handed in"
 fn declined(number: usize, state: State) -> Ran
@@ -34,14 +34,14 @@ fn run_by(engine: Engine, state: State, budget: u64, buf: &mut [u8]) -> Ran
     ensures { λ _. ⌜ now (buf .exit) ≡ bufferOfRun engine state budget (now (buf .entry)) ⌝ }
 {
     if !is_sound(state) {
-        return declined(10, state);
+        return declined(REFUSED_UNSOUND, state);
     }
     if LARGEST_BUDGET < budget {
-        return declined(11, state);
+        return declined(REFUSED_BUDGET, state);
     }
-    let room = budget as usize * (state.plan.counts.n + state.plan.counts.m) * EVENT_BYTES;
+    let room = budget as usize * (state.plan.counts.n + state.plan.counts.m) * EVENT_SIZE;
     if buf.len() < room {
-        return declined(12, state);
+        return declined(REFUSED_RUN_BUFFER, state);
     }
     let ended = run(state, engine, budget, buf);
     let status = ended.status;
@@ -53,7 +53,7 @@ fn run_by(engine: Engine, state: State, budget: u64, buf: &mut [u8]) -> Ran
         ..state
     };
     Ran {
-        number: 0,
+        number: ACCEPTED,
         status: status_number,
         integrator,
         written: ended.written,
