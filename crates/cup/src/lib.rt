@@ -20,6 +20,7 @@ use plan::SOURCES;
 use planfile::read_plan;
 use planrules::entry_of;
 use planrules::number_of;
+use planwriter::PlanWritten;
 use planwriter::write_plan;
 use rates::RANGES;
 use rates::link_ranges;
@@ -82,12 +83,17 @@ pub extern "C" fn cup_rewrite(file: &[u8], buffer: &mut [u8], written: &mut usiz
         return number_of(found);
     };
     let plan = reading.plan;
-    let length = write_plan(plan, buffer);
-    *written = length;
-    if length == 0 {
-        return REFUSED_WRITE_BUFFER;
+    let answer = write_plan(plan, buffer);
+    match answer {
+        PlanWritten::Short => {
+            *written = 0;
+            REFUSED_WRITE_BUFFER
+        }
+        PlanWritten::Length(length) => {
+            *written = length;
+            ACCEPTED
+        }
     }
-    ACCEPTED
 }
 
 // The public call `load`.

@@ -9,7 +9,7 @@ ghost use Rattle.plan.specs.Lists.{joined};
 ghost use Rattle.plan.specs.Rules.{PlanRules};
 ghost use Rattle.plan.specs.Encoding.{lengthFrom, offsetFrom, pairEntry};
 ghost use Rattle.planwriter.specs.Header.{Limited};
-ghost use Rattle.planwriter.specs.Plans.{writtenLength, writtenBuffer};
+ghost use Rattle.planwriter.specs.Plans.{planWritten, writtenBuffer};
 use entryrules::entry_size;
 use plan::HEADER_LENGTH;
 use plan::Plan;
@@ -75,11 +75,18 @@ fn write_header(buf: &mut [u8], horizon: u32, counts: &[usize; SECTIONS])
     write_pairs(&mut buf[4..], counts);
 }
 
-// Writes the file of a plan that keeps the rules, and returns its length; the bytes behind it keep their value. A buffer that is shorter
-// than the file keeps all its bytes, and the answer is 0.
-pub fn write_plan(p: Plan, buf: &mut [u8]) -> usize
+// What the plan writer answers: that the buffer is shorter than the file, or the length of the file that it wrote.
+pub enum PlanWritten {
+    Short,
+    Length(usize),
+}
+
+// Writes the file of a plan that keeps the rules; the bytes behind it keep their value. A buffer that is shorter than the file keeps all
+// its bytes.
+pub fn write_plan(p: Plan, buf: &mut [u8]) -> PlanWritten
     requires { ⌜ PlanRules p ⌝ }
-    ensures { λ r. ⌜ (r ≡ writtenLength p (length (now (buf .entry)))) × (now (buf .exit) ≡ writtenBuffer p (now (buf .entry))) ⌝ }
+    ensures answer { λ r. ⌜ r ≡ planWritten p (length (now (buf .entry))) ⌝ }
+    ensures buffer { λ _. ⌜ now (buf .exit) ≡ writtenBuffer p (now (buf .entry)) ⌝ }
 {
     let counts = [
         p.counts.n,
@@ -90,7 +97,7 @@ pub fn write_plan(p: Plan, buf: &mut [u8]) -> usize
     ];
     let length = section_offset(&counts, SECTIONS);
     if buf.len() < length {
-        return 0;
+        return PlanWritten::Short;
     }
     write_header(buf, p.horizon, &counts);
     let integrators = section_offset(&counts, 0);
@@ -128,5 +135,5 @@ pub fn write_plan(p: Plan, buf: &mut [u8]) -> usize
         &p.commands.inputs,
         &p.commands.values,
     );
-    length
+    PlanWritten::Length(length)
 }

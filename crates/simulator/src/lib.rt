@@ -23,15 +23,16 @@ use plan::SECTIONS;
 use planfile::read_plan;
 use planrules::entry_of;
 use planrules::number_of;
+use planwriter::PlanWritten;
 use planwriter::write_plan;
 use soundness::is_sound;
 use starts::start;
 
-// The section view: "hands back that part of the caller's own file, or an empty part if the file would be refused or the number is above 4". The first
-// clause says what the part holds, the second where it lies, so that it is the caller's own.
+// The section view: "hands back that part of the caller's own file, or an empty part if the file would be refused or the number is above 4". `answer`
+// says what the part holds, `place` where it lies, so that it is the caller's own.
 pub fn section(file: &[u8], number: usize) -> &[u8]
-    ensures { λ r. ⌜ now r ≡ sectionOf (now (file .entry)) number ⌝ }
-    ensures { λ r. ⌜ r .ptr ≡ further (file .entry .ptr) (sectionStart (now (file .entry)) number) ⌝ }
+    ensures answer { λ r. ⌜ now r ≡ sectionOf (now (file .entry)) number ⌝ }
+    ensures place { λ r. ⌜ r .ptr ≡ further (file .entry .ptr) (sectionStart (now (file .entry)) number) ⌝ }
 {
     if SECTIONS <= number {
         return &file[..0];
@@ -73,8 +74,8 @@ pub fn load(file: &[u8]) -> Loaded
 
 // "The writer writes the state's plan and returns the length; bytes after it keep their value." 10, then 13.
 pub fn write(state: State, buf: &mut [u8]) -> Written
-    ensures { λ r. ⌜ r ≡ writeOf state (now (buf .entry)) ⌝ }
-    ensures { λ _. ⌜ now (buf .exit) ≡ bufferOfWrite state (now (buf .entry)) ⌝ }
+    ensures answer { λ r. ⌜ r ≡ writeOf state (now (buf .entry)) ⌝ }
+    ensures buffer { λ _. ⌜ now (buf .exit) ≡ bufferOfWrite state (now (buf .entry)) ⌝ }
 {
     if !is_sound(state) {
         return Written {
@@ -84,17 +85,17 @@ pub fn write(state: State, buf: &mut [u8]) -> Written
         };
     }
     let plan = state.plan;
-    let length = write_plan(plan, buf);
-    if length == 0 {
-        return Written {
+    let written = write_plan(plan, buf);
+    match written {
+        PlanWritten::Short => Written {
             number: REFUSED_WRITE_BUFFER,
             length: 0,
             state,
-        };
-    }
-    Written {
-        number: ACCEPTED,
-        length,
-        state,
+        },
+        PlanWritten::Length(length) => Written {
+            number: ACCEPTED,
+            length,
+            state,
+        },
     }
 }

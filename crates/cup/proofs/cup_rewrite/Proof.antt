@@ -1,4 +1,4 @@
--- A refused file leaves the buffer; an accepted one has a plan that keeps the rules, and 0 bytes written mean a short buffer.
+-- A refused file leaves the buffer; an accepted one has a plan that keeps the rules, and the writer's answer is 13 or the length.
 use mathlib.Core.Path.{_≡_, ap, _∙_}
 use mathlib.Core.Bool.{true}
 use denote.Ref.{now}
@@ -40,23 +40,31 @@ write-plan-requires : tie.Need-write-plan-requires
 write-plan-requires c κs =
     let told = c .before .before in rw (plan-is told) (accepted-rules _ (accepts told))
 
+enum-told-2 : tie.Need-enum-told-2
+enum-told-2 c = search needs
+
+enum-known-answer : tie.Need-enum-known-answer
+enum-known-answer c = search needs
+
 same-length : tie.Need-same-length
 same-length c = search needs
 
 returns-2 : tie.Need-returns-2
 returns-2 c =
-    let told = c .before .before .before .before .before .before in
-    let written = rw (plan-is told) at (c .before .before .before .write-plan .ensures) in
-    rewrite-short _ _ (accepts told) (written .0) (written .1) (c .if1 .taken)
+    let wrote = c .before .before .before .before in
+    let told = wrote .before .before .before in
+    let answer = rw (plan-is told) at (wrote .write-plan .ensures) in
+    rewrite-short _ _ (accepts told) (answer .0) (answer .1) (c .enum-told2 .given .1)
 
 same-length-2 : tie.Need-same-length-2
 same-length-2 c = search needs
 
 returns-3 : tie.Need-returns-3
 returns-3 c =
-    let told = c .before .before .before .before .before .before in
-    let written = rw (plan-is told) at (c .before .before .before .write-plan .ensures) in
-    rewrite-done _ _ (accepts told) (written .0) (written .1) (c .if1 .left)
+    let wrote = c .before .before .before .before .before in
+    let told = wrote .before .before .before in
+    let answer = rw (plan-is told) at (wrote .write-plan .ensures) in
+    rewrite-done _ _ (accepts told) (answer .0) (answer .1) (c .before .answer .given .1)
 
 pub cup-rewrite-spec : {M : Type 1} → statement M
 cup-rewrite-spec =
@@ -67,6 +75,8 @@ cup-rewrite-spec =
     number-of-requires
     returns
     write-plan-requires
+    enum-told-2
+    enum-known-answer
     same-length
     returns-2
     same-length-2

@@ -7,10 +7,10 @@ use Prim.Native.Nat.{ℕ}
 use lib.ListN.{length}
 use Rattle.plan.specs.Format.{planIn}
 use Rattle.plan.specs.Refusals.{numberOf, isClean, findingOf, accepted}
-use Rattle.plan.specs.Rules.{CountsRule}
-use Rattle.plan.specs.Laws.Answers.{counts-in, accepted-sizes}
-use Rattle.planwriter.specs.Plans.{writtenLength, writtenBuffer}
+use Rattle.planwriter.specs.Plans.{planWritten, writtenBuffer}
 use Rattle.planwriter.specs.Laws.Plans.{written-short, written-whole}
+use Rattle.planwriter.specs.declared.PlanWritten.{PlanWritten}
+use Rattle.planwriter.specs.declared.PlanWritten.the-variants.{Short, Length}
 use Rattle.cup.specs.Rewriting.{rewriteNumber, rewriteLength, rewriteBuffer}
 
 module _ (file buffer : List ℕ) where
@@ -26,17 +26,16 @@ module _ (file buffer : List ℕ) where
   unfolding rewriteLength rewriteBuffer accepted isClean
   rewrite-refused e = let n = number-refused e in (sym n, (sym (rw (n, e)), sym (rw (n, e))))
 
-  module _ (yes : accepted file ≡ true) {size : ℕ} {after : List ℕ}
-      (s : size ≡ writtenLength (planIn file) (length buffer)) (a : after ≡ writtenBuffer (planIn file) buffer) where
-    rule : CountsRule (planIn file)
-    rule = counts-in file (accepted-sizes file yes)
+  module _ (yes : accepted file ≡ true) {written : PlanWritten} {after : List ℕ}
+      (w : written ≡ planWritten (planIn file) (length buffer)) (a : after ≡ writtenBuffer (planIn file) buffer) where
+    pub rewrite-short : written ≡ Short → Rewritten 13 0 after
+    unfolding rewriteNumber rewriteLength rewriteBuffer writtenBuffer
+    rewrite-short e =
+        let short = written-short (planIn file) (length buffer) (sym w ∙ e) in
+        (sym (rw (yes, short)), (sym (rw (yes, short)), a ∙ sym (rw (yes, short))))
 
-    pub rewrite-short : size ≡ 0 → Rewritten 13 size after
-    unfolding rewriteNumber rewriteLength rewriteBuffer writtenLength writtenBuffer
-    rewrite-short z =
-        let e = written-short (planIn file) rule (length buffer) (sym s ∙ z) in (sym (rw (yes, e)), (s ∙ sym (rw (yes, e)), a ∙ sym (rw (yes, e))))
-
-    pub rewrite-done : (size ≡ 0 → ⊥) → Rewritten 0 size after
-    unfolding rewriteNumber rewriteLength rewriteBuffer writtenLength writtenBuffer
-    rewrite-done n =
-        let e = written-whole (planIn file) rule (length buffer) (λ z. n (s ∙ z)) in (sym (rw (yes, e)), (s ∙ sym (rw (yes, e)), a ∙ sym (rw (yes, e))))
+    pub rewrite-done : {size : ℕ} → written ≡ Length size → Rewritten 0 size after
+    unfolding rewriteNumber rewriteLength rewriteBuffer writtenBuffer
+    rewrite-done e =
+        let whole = written-whole (planIn file) (length buffer) (sym w ∙ e) in
+        (sym (rw (yes, whole .0)), (whole .1 ∙ sym (rw (yes, whole .0)), a ∙ sym (rw (yes, whole .0))))

@@ -1,29 +1,36 @@
--- Laws: whether a buffer was long enough, by the length that the plan writer returns. No file is empty.
-use mathlib.Core.Path.{_≡_, refl}
-use mathlib.Core.Bool.{Bool, true, false, cond}
+-- Laws: whether a buffer was long enough, and how long the file is, by what the plan writer answers. Assumes nothing.
+use mathlib.Core.Path.{_≡_, refl, sym, ap}
+use mathlib.Core.Bool.{Bool, true, false, cond, true≢false}
 use Prim.Native.Nat.{ℕ}
-use native.Mathlib.Omega.{arith}
 use lib.Dec.{leb}
-use Rattle.plan.specs.Rules.{CountsRule}
 use Rattle.plan.specs.Encoding.{fileLength}
-use Rattle.plan.specs.Laws.Layout.{file-least}
 use Rattle.plan.specs.declared.Plan.{Plan}
-use Rattle.planwriter.specs.Plans.{writtenLength}
+use Rattle.planwriter.specs.Plans.{planWritten}
+use Rattle.planwriter.specs.declared.PlanWritten.{PlanWritten}
+use Rattle.planwriter.specs.declared.PlanWritten.the-variants.{Short, Length}
 
--- which of the two it was, by the length alone: no file is empty
-module _ (p : Plan) (rule : CountsRule p) (room : ℕ) where
-  pub written-short : writtenLength p room ≡ 0 → leb (fileLength p) room ≡ false
-  unfolding writtenLength
-  written-short z = go (leb (fileLength p) room) refl z
-    where
-      go : (b : Bool) → leb (fileLength p) room ≡ b → cond b (fileLength p) 0 ≡ 0 → leb (fileLength p) room ≡ false
-      go true e z = absurd (omega (arith, file-least p rule))
-      go false e z = e
+-- the two answers differ, and two lengths that are one answer are equal
+isShort : PlanWritten → Bool
+isShort Short = true
+isShort (Length size) = false
 
-  pub written-whole : (writtenLength p room ≡ 0 → ⊥) → leb (fileLength p) room ≡ true
-  unfolding writtenLength
-  written-whole n = go (leb (fileLength p) room) refl n
+lengthIn : PlanWritten → ℕ
+lengthIn Short = 0
+lengthIn (Length size) = size
+
+module _ (p : Plan) (room : ℕ) where
+  pub written-short : planWritten p room ≡ Short → leb (fileLength p) room ≡ false
+  unfolding planWritten isShort
+  written-short e = go (leb (fileLength p) room) e
     where
-      go : (b : Bool) → leb (fileLength p) room ≡ b → (cond b (fileLength p) 0 ≡ 0 → ⊥) → leb (fileLength p) room ≡ true
-      go true e n = e
-      go false e n = absurd (n refl)
+      go : (b : Bool) → cond b (Length (fileLength p)) Short ≡ Short → b ≡ false
+      go true e = absurd (true≢false (sym (ap isShort e)))
+      go false e = refl
+
+  pub written-whole : {size : ℕ} → planWritten p room ≡ Length size → (leb (fileLength p) room ≡ true) × (size ≡ fileLength p)
+  unfolding planWritten isShort lengthIn
+  written-whole {size} e = go (leb (fileLength p) room) e
+    where
+      go : (b : Bool) → cond b (Length (fileLength p)) Short ≡ Length size → (b ≡ true) × (size ≡ fileLength p)
+      go true e = (refl, sym (ap lengthIn e))
+      go false e = absurd (true≢false (ap isShort e))

@@ -20,7 +20,8 @@ use Rattle.plan.specs.Laws.Layout.{entryWords, sectionWords, wordsTo, words-to,
 use Rattle.plan.specs.Laws.Small.{signed-size, coefficient-within, quantum-within, node-limits, small-at, entry-small}
 use Rattle.plan.specs.declared.Plan.{Plan}
 use Rattle.sectionwriters.specs.Entries.{Unsigned32, Signed32}
-use Rattle.planwriter.specs.Plans.{writtenLength, writtenBuffer}
+use Rattle.planwriter.specs.Plans.{planWritten, writtenBuffer}
+use Rattle.planwriter.specs.declared.PlanWritten.the-variants.{Short, Length}
 use Rattle.words.specs.Laws.Putting.{behind, back, length-behind}
 use Rattle.sectionwriters.specs.Laws.Writing.{Begun, begun-of, turn}
 
@@ -134,15 +135,15 @@ module _ (p : Plan) (old : List ℕ) {size : ℕ} (e : size ≡ offsetFrom (coun
       record { room = omega arith; begun = begun-of (rw append-nil q) (omega arith) }
 
   -- the whole file
-  pub filed : {s : List ℕ} → Stage p old sections s → (size ≡ writtenLength p (length old)) × (s ≡ writtenBuffer p old)
-  unfolding writtenLength writtenBuffer
+  pub filed : {s : List ℕ} → Stage p old sections s → (Length size ≡ planWritten p (length old)) × (s ≡ writtenBuffer p old)
+  unfolding planWritten writtenBuffer
   filed g =
       let b = le-leb (fileLength p) (length old) (g .room) in
-      (rw b length-of, rw b (g .begun .words ∙ rw (← words-to p) (file-written p old)))
+      (rw (b, length-of), rw b (g .begun .words ∙ rw (← words-to p) (file-written p old)))
 
   -- a buffer that is too short
-  pub short : length old < size → (0 ≡ writtenLength p (length old)) × (old ≡ writtenBuffer p old)
-  unfolding writtenLength writtenBuffer
+  pub short : length old < size → (Short ≡ planWritten p (length old)) × (old ≡ writtenBuffer p old)
+  unfolding planWritten writtenBuffer
   short h =
       let f = length-of in
       let b = lt-leb (fileLength p) (length old) (omega arith) in

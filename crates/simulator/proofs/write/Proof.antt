@@ -1,4 +1,4 @@
--- 10 where the state is not sound; else its plan keeps the rules, and 0 bytes written mean a short buffer.
+-- 10 where the state is not sound; else its plan keeps the rules, and the writer's answer is 13 or the length.
 use mathlib.Core.Path.{_≡_, sym, _∙_}
 use mathlib.Core.Bool.{true}
 use borrow.Author.Needs.{needs}
@@ -22,21 +22,27 @@ sound c = sym (c .before .is-sound .ensures) ∙ not-false _ (c .if1 .left)
 write-plan-requires : tie.Need-write-plan-requires
 write-plan-requires c κs = sound-means _ .0 (sound (c .before .before)) .plan
 
+enum-told : tie.Need-enum-told
+enum-told c = search needs
+
+enum-known-written : tie.Need-enum-known-written
+enum-known-written c = search needs
+
 same-length : tie.Need-same-length
 same-length c = search needs
 
 returns-2 : tie.Need-returns-2
 returns-2 c =
-    let wrote = c .before .before .before in
-    write-short _ _ (sound (wrote .before .before .before)) (wrote .write-plan .ensures .0) (wrote .write-plan .ensures .1) (c .if2 .taken)
+    let wrote = c .before .before .before .before in
+    write-short _ _ (sound (wrote .before .before .before)) (wrote .write-plan .ensures .0) (wrote .write-plan .ensures .1) (c .enum-told .given .1)
 
 same-length-2 : tie.Need-same-length-2
 same-length-2 c = search needs
 
 returns-3 : tie.Need-returns-3
 returns-3 c =
-    let wrote = c .before .before .before in
-    write-whole _ _ (sound (wrote .before .before .before)) (wrote .write-plan .ensures .0) (wrote .write-plan .ensures .1) (c .if2 .left)
+    let wrote = c .before .before .before .before .before in
+    write-whole _ _ (sound (wrote .before .before .before)) (wrote .write-plan .ensures .0) (wrote .write-plan .ensures .1) (c .before .written .given .1)
 
 pub write-spec : {M : Type 1} → statement M
 write-spec =
@@ -45,6 +51,8 @@ write-spec =
     is-sound-requires
     returns
     write-plan-requires
+    enum-told
+    enum-known-written
     same-length
     returns-2
     same-length-2

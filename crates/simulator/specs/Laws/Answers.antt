@@ -10,11 +10,12 @@ use lib.ListN.{length}
 use borrow.Author.Tests.{le-leb, lt-leb, lt-ltb, le-ltb}
 use Rattle.plan.specs.Lists.{natAt, intAt}
 use Rattle.plan.specs.Format.{planIn}
-use Rattle.plan.specs.Rules.{CountsRule}
 use Rattle.plan.specs.Refusals.{numberOf, entryOf, isClean, findingOf, accepted}
 use Rattle.plan.specs.declared.Finding.the-variants.{Clean}
-use Rattle.planwriter.specs.Plans.{writtenLength, writtenBuffer}
+use Rattle.planwriter.specs.Plans.{planWritten, writtenBuffer}
 use Rattle.planwriter.specs.Laws.Plans.{written-short, written-whole}
+use Rattle.planwriter.specs.declared.PlanWritten.{PlanWritten}
+use Rattle.planwriter.specs.declared.PlanWritten.the-variants.{Short, Length}
 use Rattle.machine.specs.Start.{startState, idleState}
 use Rattle.machine.specs.SoundTest.{isSound}
 use Rattle.machine.specs.Laws.Tested.{sound-means}
@@ -57,19 +58,17 @@ module _ (st : State) (buffer : List ℕ) where
   unfolding writeOf bufferOfWrite writeNumber
   write-unsound e = (rw e, rw e)
 
-  module _ (yes : isSound st ≡ true) {size : ℕ} {after : List ℕ} (s : size ≡ writtenLength (st .plan) (length buffer))
+  module _ (yes : isSound st ≡ true) {written : PlanWritten} {after : List ℕ} (w : written ≡ planWritten (st .plan) (length buffer))
       (a : after ≡ writtenBuffer (st .plan) buffer) where
-    rule : CountsRule (st .plan)
-    rule = sound-means st .0 yes .plan .counts
-
-    pub write-short : size ≡ 0 → WrittenAs 13 0 after
+    pub write-short : written ≡ Short → WrittenAs 13 0 after
     unfolding writeOf bufferOfWrite writeNumber writtenBuffer
-    write-short z = let e = written-short (st .plan) rule (length buffer) (sym s ∙ z) in (rw (yes, e), a ∙ sym (rw (yes, e)))
+    write-short e = let short = written-short (st .plan) (length buffer) (sym w ∙ e) in (rw (yes, short), a ∙ sym (rw (yes, short)))
 
-    pub write-whole : (size ≡ 0 → ⊥) → WrittenAs 0 size after
-    unfolding writeOf bufferOfWrite writeNumber writtenLength writtenBuffer
-    write-whole n =
-        let e = written-whole (st .plan) rule (length buffer) (λ z. n (s ∙ z)) in (rw (s, yes, e), a ∙ sym (rw (yes, e)))
+    pub write-whole : {size : ℕ} → written ≡ Length size → WrittenAs 0 size after
+    unfolding writeOf bufferOfWrite writeNumber writtenBuffer
+    write-whole e =
+        let whole = written-whole (st .plan) (length buffer) (sym w ∙ e) in
+        (rw (whole .1, yes, whole .0), a ∙ sym (rw (yes, whole .0)))
 
 -- ---- runs
 module _ (engine : Engine) (st : State) (budget : ℕ) (buffer : List ℕ) where
