@@ -30,8 +30,8 @@ fn declined(number: usize, state: State) -> Ran
 
 // The product of refusal 12 is worked out only once the budget is known to be small.
 fn run_by(engine: Engine, state: State, budget: u64, buf: &mut [u8]) -> Ran
-    ensures { λ r. ⌜ r ≡ runOf engine state budget (now (buf .entry)) ⌝ }
-    ensures { λ _. ⌜ now (buf .exit) ≡ bufferOfRun engine state budget (now (buf .entry)) ⌝ }
+    ensures answer { λ r. ⌜ r ≡ runOf engine state budget (now (buf .entry)) ⌝ }
+    ensures buffer { λ _. ⌜ now (buf .exit) ≡ bufferOfRun engine state budget (now (buf .entry)) ⌝ }
 {
     if !is_sound(state) {
         return declined(REFUSED_UNSOUND, state);
@@ -63,16 +63,16 @@ fn run_by(engine: Engine, state: State, budget: u64, buf: &mut [u8]) -> Ran
 
 // "The lazy engine moves those due or reached".
 pub fn run_lazy(state: State, budget: u64, buf: &mut [u8]) -> Ran
-    ensures { λ r. ⌜ r ≡ runOf Lazy state budget (now (buf .entry)) ⌝ }
-    ensures { λ _. ⌜ now (buf .exit) ≡ bufferOfRun Lazy state budget (now (buf .entry)) ⌝ }
+    ensures answer { λ r. ⌜ r ≡ runOf Lazy state budget (now (buf .entry)) ⌝ }
+    ensures buffer { λ _. ⌜ now (buf .exit) ≡ bufferOfRun Lazy state budget (now (buf .entry)) ⌝ }
 {
     run_by(Engine::Lazy, state, budget, buf)
 }
 
 // "the eager engine all".
 pub fn run_eager(state: State, budget: u64, buf: &mut [u8]) -> Ran
-    ensures { λ r. ⌜ r ≡ runOf Eager state budget (now (buf .entry)) ⌝ }
-    ensures { λ _. ⌜ now (buf .exit) ≡ bufferOfRun Eager state budget (now (buf .entry)) ⌝ }
+    ensures answer { λ r. ⌜ r ≡ runOf Eager state budget (now (buf .entry)) ⌝ }
+    ensures buffer { λ _. ⌜ now (buf .exit) ≡ bufferOfRun Eager state budget (now (buf .entry)) ⌝ }
 {
     run_by(Engine::Eager, state, budget, buf)
 }
