@@ -5,7 +5,7 @@ use Prim.Native.Nat.{ℕ, _≤_, min}
 use lib.IntN.{ℤ}
 use lib.Dec.{ltb}
 use Rattle.bitset.specs.Mask.{maskOf}
-use Rattle.plan.specs.Numbers.{never}
+use Rattle.plan.specs.Numbers.{never, mostIntegrators, mostCommands}
 use Rattle.plan.specs.Lists.{natAt, firstFrom}
 use Rattle.machine.specs.Next.{leastDue}
 use Rattle.machine.specs.Reach.{isDue}
@@ -22,8 +22,8 @@ module _ (n commands : ℕ) (ticks : List ℕ) (x s : List ℤ) (l d : List ℕ)
 
   -- what that asks
   pub record AheadReady : Type 0 where
-    pub few : n ≤ 32
-    pub listed : commands ≤ 64
+    pub few : n ≤ mostIntegrators
+    pub listed : commands ≤ mostCommands
     pub positions : DuePositionsReady dueAhead tickAhead x s l
 
 unfoldable pub aheadOf : (horizon n commands : ℕ) (ticks : List ℕ) (x s : List ℤ) (l d : List ℕ) (next : ℕ) → Ahead

@@ -1,6 +1,7 @@
 -- Model of the code: what a run answers, in the words of `machine/Runs`, and what it asks.
 use Prim.Native.Nat.{ℕ, _+_, _*_, _≤_}
 use lib.ListN.{length}
+use Rattle.plan.specs.Numbers.{eventSize}
 use Rattle.plan.specs.declared.Plan.{Plan}
 use Rattle.machine.specs.Status.{statusOf}
 use Rattle.machine.specs.Runs.{after, events}
@@ -11,7 +12,7 @@ use Rattle.machine.specs.declared.Engine.{Engine}
 use Rattle.engine.specs.declared.runs.Ended.{Ended}
 
 -- the status with its integrator, the bytes written, and the running figures after the run
-unfoldable pub endedOf : Plan → Engine → ℕ → Running → Ended
+unfoldable pub endedOf : (p : Plan) (engine : Engine) (budget : ℕ) (r : Running) → Ended
 endedOf p engine budget r =
     record {
       status = statusOf p (after p engine budget r);
@@ -22,4 +23,4 @@ endedOf p engine budget r =
 -- a sound state, and room for the events of each instant
 pub record RunReady (st : State) (budget size : ℕ) : Type 0 where
   pub sound : Sound st
-  pub room : budget * (st .plan .counts .n + st .plan .counts .m) * 12 ≤ size
+  pub room : budget * (st .plan .counts .n + st .plan .counts .m) * eventSize ≤ size

@@ -7,6 +7,7 @@ use Prim.Native.Nat.{ℕ, _+_, _*_, _≤_}
 use lib.IntN.{ℤ}
 use lib.ListN.{length}
 use Rattle.bitset.specs.Mask.{maskOf, allOf, union}
+use Rattle.plan.specs.Numbers.{eventSize}
 use Rattle.plan.specs.declared.Counts.{Counts}
 use Rattle.plan.specs.declared.Plan.{Plan}
 use Rattle.machine.specs.Reach.{isDue}
@@ -57,7 +58,7 @@ runningOf counts x s l d values clocks =
     }
 
 -- "The lazy engine moves those due or reached, the eager engine all", on masks
-unfoldable pub movedSet : Engine → ℕ → ℕ → ℕ → ℕ
+unfoldable pub movedSet : (engine : Engine) (n due reached : ℕ) → ℕ
 movedSet Lazy n due reached = union due reached
 movedSet Eager n due reached = allOf n
 
@@ -71,7 +72,7 @@ pub record InstantReady (p : Plan) (ranges reach : List ℕ) (t due : ℕ) (r : 
   pub ranges-are : ranges ≡ rangesOf p
   pub reach-is : reach ≡ reachTable p
   pub values-are : values ≡ valuesOf p (r .q) (r .inputs)
-  pub room : at + (p .counts .n + p .counts .m) * 12 ≤ size
+  pub room : at + (p .counts .n + p .counts .m) * eventSize ≤ size
 
 -- what it leaves: the machine's figures after the instant, the values of all sources by these, the events from byte `at` on and nothing else changed in the buffer, and
 -- the place behind the events

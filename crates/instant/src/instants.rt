@@ -2,6 +2,7 @@
 ghost use mathlib.Core.Path.{_≡_};
 ghost use Prim.Native.Nat.{_≤_};
 ghost use lib.ListN.{length};
+ghost use Rattle.plan.specs.Numbers.{mostIntegrators};
 ghost use Rattle.instant.specs.Lent.{planOf, runningOf, movedSet, SomePlanReady, EveryPlanTaken};
 use bitset::all;
 use bitset::count;
@@ -31,7 +32,7 @@ pub struct Taken {
 
 // 5. "The lazy engine moves those due or reached, the eager engine all".
 fn moved_set(engine: Engine, n: usize, due: u32, reached: u32) -> u32
-    requires { ⌜ n ≤ 32 ⌝ }
+    requires { ⌜ n ≤ mostIntegrators ⌝ }
     ensures { λ r. ⌜ r ≡ movedSet engine n due reached ⌝ }
 {
     match engine {

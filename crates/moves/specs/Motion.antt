@@ -7,6 +7,7 @@ use lib.IntN.{ℤ, pos, _+ℤ_, _-ℤ_, _*ℤ_}
 use lib.ListN.{set}
 use Rattle.bitset.specs.Mask.{has}
 use Rattle.plan.specs.Lists.{natAt, intAt}
+use Rattle.plan.specs.Numbers.{mostIntegrators}
 use Rattle.machine.specs.Due.{dueTick}
 use Rattle.rates.specs.Links.{rangeRate, Rated}
 use Rattle.timing.specs.Ticks.{DueReady, PositionReady}
@@ -18,7 +19,7 @@ pub record Motion : Type 0 where
   pub l : List ℕ
   pub d : List ℕ
 
-abbrev pub motion : List ℤ → List ℤ → List ℕ → List ℕ → Motion
+abbrev pub motion : (x s : List ℤ) (l d : List ℕ) → Motion
 motion x s l d = record { x = x; s = s; l = l; d = d }
 
 module _ (quanta : List ℤ) (sources : List ℕ) (coefficients : List ℤ) (ranges : List ℕ) (t : ℕ) (values : List ℤ) where
@@ -38,7 +39,7 @@ module _ (quanta : List ℤ) (sources : List ℕ) (coefficients : List ℤ) (ran
 
   -- what that asks
   pub record Movable (i : ℕ) (m : Motion) : Type 0 where
-    pub used : i < 32
+    pub used : i < mostIntegrators
     pub rated : Rated sources coefficients values (natAt ranges i) (natAt ranges (i + 1))
     pub position : PositionReady (intAt (m .x) i) (intAt (m .s) i) (natAt (m .l) i) t
     pub due : DueReady t (placeOf i m) (intAt values i) (intAt quanta i) (slopeOf i)

@@ -8,6 +8,7 @@ use lib.Dec.{eqb}
 use lib.ListN.{set}
 use Rattle.bitset.specs.Mask.{withBit}
 use Rattle.plan.specs.Lists.{natAt, intAt}
+use Rattle.plan.specs.Numbers.{mostIntegrators, mostInputs, mostCommands}
 
 -- the values of sources, the mask of the commanded inputs, and the next command
 pub record AfterCommands : Type 0 where
@@ -33,6 +34,6 @@ module _ (n : ℕ) (ticks inputs : List ℕ) (settings : List ℤ) (t : ℕ) whe
 -- what that asks: every index below the end of its array
 pub record CommandsInRange (n commands : ℕ) (inputs : List ℕ) (next : ℕ) : Type 0 where
   pub order : next ≤ commands
-  pub few : commands ≤ 64
-  pub room : n ≤ 32
-  pub known : (e : ℕ) → e < commands → natAt inputs e < 8
+  pub few : commands ≤ mostCommands
+  pub room : n ≤ mostIntegrators
+  pub known : (e : ℕ) → e < commands → natAt inputs e < mostInputs

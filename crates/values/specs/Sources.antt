@@ -6,7 +6,7 @@ use lib.IntN.{ℤ, pos}
 use lib.Dec.{ltb}
 use lib.ListN.{set}
 use Rattle.integers.specs.Parts.{∣_∣}
-use Rattle.plan.specs.Numbers.{M, mostNodes, sourceWidth}
+use Rattle.plan.specs.Numbers.{M, mostIntegrators, mostInputs, mostNodes, sourceWidth}
 use Rattle.plan.specs.Lists.{natAt, intAt, row}
 use Rattle.plan.specs.declared.Plan.{Plan}
 use Rattle.machine.specs.Values.{nodeOf, valueOf}
@@ -21,10 +21,10 @@ firstValues n m q u = row (pos 0) sourceWidth (n + m) (λ i. cond (ltb i n) (int
 
 -- the outputs and the input values, read out of the values of sources
 unfoldable pub outputsIn : (n : ℕ) (values : List ℤ) → List ℤ
-outputsIn n values = row (pos 0) 32 n (λ i. intAt values i)
+outputsIn n values = row (pos 0) mostIntegrators n (λ i. intAt values i)
 
 unfoldable pub inputsIn : (n m : ℕ) (values : List ℤ) → List ℤ
-inputsIn n m values = row (pos 0) 8 m (λ j. intAt values (n + j))
+inputsIn n m values = row (pos 0) mostInputs m (λ j. intAt values (n + j))
 
 module _ (kinds a b : List ℕ) (lows highs : List ℤ) (base : ℕ) where
   -- the value of node j by the values of its operands

@@ -138,7 +138,7 @@ pub fn source_values<'a>(
 
 // The outputs, read out of the values of sources.
 pub fn outputs_in<'a>(n: usize, values: &'a [i64; SOURCES]) -> [i64; INTEGRATORS]
-    requires { ⌜ n ≤ 32 ⌝ }
+    requires { ⌜ n ≤ mostIntegrators ⌝ }
     ensures { λ r. ⌜ r ≡ outputsIn n (now (values .entry)) ⌝ }
 {
     let mut q: [i64; INTEGRATORS] = [0; INTEGRATORS];
@@ -152,7 +152,7 @@ pub fn outputs_in<'a>(n: usize, values: &'a [i64; SOURCES]) -> [i64; INTEGRATORS
 
 // The input values, read out of the values of sources.
 pub fn inputs_in<'a>(n: usize, m: usize, values: &'a [i64; SOURCES]) -> [i64; INPUTS]
-    requires { ⌜ (n ≤ 32) × (m ≤ 8) ⌝ }
+    requires { ⌜ (n ≤ mostIntegrators) × (m ≤ mostInputs) ⌝ }
     ensures { λ r. ⌜ r ≡ inputsIn n m (now (values .entry)) ⌝ }
 {
     let mut inputs: [i64; INPUTS] = [0; INPUTS];

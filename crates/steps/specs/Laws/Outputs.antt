@@ -8,6 +8,7 @@ use lib.ListN.{length, length-set}
 use lib.Seq.{getD-set-same, getD-set-other}
 use Rattle.bitset.specs.Mask.{has, maskOf, each}
 use Rattle.plan.specs.Lists.{intAt}
+use Rattle.plan.specs.Numbers.{sourceWidth}
 use Rattle.plan.specs.Laws.Counts.{Counts}
 use Rattle.plan.specs.declared.Plan.{Plan}
 use Rattle.machine.specs.Reach.{isDue}
@@ -22,9 +23,9 @@ abbrev taken : (r : Running) (t i : ℕ) (before : ℤ) → ℤ
 taken r t i before = positionAt r t i
 
 abbrev Full : List ℤ → Type 0
-Full values = length values ≡ 64
+Full values = length values ≡ sourceWidth
 
-output-stored : (r : Running) (t : ℕ) → Stores (afterOutput t (r .x) (r .s) (r .l)) intAt (taken r t) Full 64
+output-stored : (r : Running) (t : ℕ) → Stores (afterOutput t (r .x) (r .s) (r .l)) intAt (taken r t) Full sourceWidth
 unfolding afterOutput positionAt
 output-stored r t =
     record {
@@ -41,7 +42,7 @@ module _ (p : Plan) (limits : Counts p) (r : Running) (t due : ℕ) (due-set : d
       rw (walk, due-set)
       (walked (output-stored r t) (isDue (r .d) t) before full (p .counts .n) 32 (limits .n) (omega (arith, limits .n)))
 
-  pub values-full : length values ≡ 64
+  pub values-full : length values ≡ sourceWidth
   values-full = all-stored .full
 
   -- the sources above the integrators keep their values
