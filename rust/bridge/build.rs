@@ -7,7 +7,7 @@ use std::process::{exit, Command};
 use std::{env, fs};
 
 /// Where the toolchain puts the library, from the repository's root.
-const ARCHIVE: &str = "target/staticlib/libexports.a";
+const ARCHIVE: &str = "target/staticlib/libcup.a";
 
 fn main() {
     println!("cargo:rerun-if-env-changed=CUP_ARCHIVE");
@@ -18,12 +18,12 @@ fn main() {
     println!("cargo:rerun-if-changed={}", archive.display());
     // A copy, so that the name to link by is the same whatever the library is called.
     let folder = PathBuf::from(env::var_os("OUT_DIR").expect("cargo sets OUT_DIR"));
-    let copy = folder.join("libexports.a");
+    let copy = folder.join("libcup.a");
     if let Err(error) = fs::copy(&archive, &copy) {
         fail(&format!("{}: {error}", archive.display()));
     }
     println!("cargo:rustc-link-search=native={}", folder.display());
-    println!("cargo:rustc-link-lib=static=exports");
+    println!("cargo:rustc-link-lib=static=cup");
     // The test that compiles a program in C links the same copy.
     println!("cargo:rustc-env=CUP_LINKED={}", copy.display());
 }
@@ -41,19 +41,19 @@ fn made_archive() -> PathBuf {
 
 fn make_archive(root: &Path) {
     let status = Command::new("rt")
-        .args(["staticlib", "exports"])
+        .args(["staticlib", "cup"])
         .current_dir(root)
         .status();
     match status {
         Ok(status) if status.success() => (),
-        Ok(status) => fail(&format!("'rt staticlib exports' ended with {status}")),
-        Err(error) => fail(&format!("'rt staticlib exports' does not start: {error}")),
+        Ok(status) => fail(&format!("'rt staticlib cup' ended with {status}")),
+        Err(error) => fail(&format!("'rt staticlib cup' does not start: {error}")),
     }
 }
 
 fn fail(reason: &str) -> ! {
     eprintln!("cup-bridge needs the library of the proved calls, {ARCHIVE} in the repository.");
-    eprintln!("It is made by 'rt staticlib exports', with the Rattle toolchain's rt on the PATH.");
+    eprintln!("It is made by 'rt staticlib cup', with the Rattle toolchain's rt on the PATH.");
     eprintln!("{reason}");
     exit(1);
 }

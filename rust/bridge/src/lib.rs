@@ -1,8 +1,8 @@
 //! The proved calls for Rust: the reader of plan files, the section view and the plan writer; in
 //! [`machine`] the calls on a [`state`].
 //!
-//! The functions come from the library that `rt staticlib exports` makes of the proved crates. The
-//! module `exports` declares them, and only this file and [`machine`] call them and so have unsafe
+//! The functions come from the library that `rt staticlib cup` makes of the proved crates. The
+//! module `header` declares them, and only this file and [`machine`] call them and so have unsafe
 //! code: what the C functions ask of their pointers is what references and slices give. [`campaign`]
 //! compares the calls with the second simulator.
 
@@ -10,7 +10,7 @@
 #![warn(missing_docs)]
 
 pub mod campaign;
-mod exports;
+mod header;
 pub mod machine;
 pub mod state;
 pub mod timing;
@@ -44,7 +44,7 @@ pub struct Rewritten {
 pub fn read(file: &[u8]) -> Answer {
     let mut entry = 0;
     // SAFETY: the slice is readable for its length, and the word is this function's own.
-    let number = unsafe { exports::cup_read(file.as_ptr(), file.len(), &mut entry) };
+    let number = unsafe { header::cup_read(file.as_ptr(), file.len(), &mut entry) };
     Answer { number, entry }
 }
 
@@ -54,7 +54,7 @@ pub fn read(file: &[u8]) -> Answer {
 pub fn section(file: &[u8], number: usize) -> &[u8] {
     let mut offset = 0;
     // SAFETY: the slice is readable for its length, and the word is this function's own.
-    let length = unsafe { exports::cup_section(file.as_ptr(), file.len(), number, &mut offset) };
+    let length = unsafe { header::cup_section(file.as_ptr(), file.len(), number, &mut offset) };
     // Slicing tests that the part lies in the file.
     &file[offset..][..length]
 }
@@ -67,7 +67,7 @@ pub fn rewrite(file: &[u8], buffer: &mut [u8]) -> Rewritten {
     // SAFETY: both slices are valid for their lengths and share no byte, since one of them is
     // borrowed mutably; the word is this function's own.
     let number = unsafe {
-        exports::cup_rewrite(
+        header::cup_rewrite(
             file.as_ptr(),
             file.len(),
             buffer.as_mut_ptr(),

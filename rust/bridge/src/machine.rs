@@ -3,14 +3,14 @@
 //! A state may be filled by hand; no call asks anything of it. Answers that hold a state are in a
 //! box, since a state is 10 KB.
 
-use crate::exports;
+use crate::header;
 use crate::state::{Loaded, Positioned, Ran, State, Tables, Written};
 
 /// Loads a plan file: number, entry, and the start state or the idle state.
 #[allow(unsafe_code)]
 pub fn load(file: &[u8]) -> Box<Loaded> {
     // SAFETY: the slice is readable for its length.
-    Box::new(unsafe { exports::cup_load(file.as_ptr(), file.len()) })
+    Box::new(unsafe { header::cup_load(file.as_ptr(), file.len()) })
 }
 
 /// The plan writer: 10 for a state that is not sound, 13 for a short buffer, else the file from the
@@ -18,28 +18,28 @@ pub fn load(file: &[u8]) -> Box<Loaded> {
 #[allow(unsafe_code)]
 pub fn write(state: &State, buffer: &mut [u8]) -> Box<Written> {
     // SAFETY: the slice is valid for its length and borrowed mutably; the state goes as a copy.
-    Box::new(unsafe { exports::cup_write(state.clone(), buffer.as_mut_ptr(), buffer.len()) })
+    Box::new(unsafe { header::cup_write(state.clone(), buffer.as_mut_ptr(), buffer.len()) })
 }
 
 /// Whether a state is sound.
 #[allow(unsafe_code)]
 pub fn sound(state: &State) -> bool {
     // SAFETY: the function is given a copy of the state and nothing else.
-    unsafe { exports::cup_sound(state.clone()) }
+    unsafe { header::cup_sound(state.clone()) }
 }
 
 /// The state as it comes back from the library.
 #[allow(unsafe_code)]
 pub fn echo(state: &State) -> Box<State> {
     // SAFETY: the function is given a copy of the state and nothing else.
-    Box::new(unsafe { exports::cup_echo(state.clone()) })
+    Box::new(unsafe { header::cup_echo(state.clone()) })
 }
 
 /// The tables that a run works out once; all 0 for a state that is not sound.
 #[allow(unsafe_code)]
 pub fn tables(state: &State) -> Box<Tables> {
     // SAFETY: the function is given a copy of the state and nothing else.
-    Box::new(unsafe { exports::cup_tables(state.clone()) })
+    Box::new(unsafe { header::cup_tables(state.clone()) })
 }
 
 /// The lazy run: 10 for a state that is not sound, 11 for a budget above 1,024, 12 for a short buffer;
@@ -49,7 +49,7 @@ pub fn tables(state: &State) -> Box<Tables> {
 pub fn run_lazy(state: &State, budget: u64, buffer: &mut [u8]) -> Box<Ran> {
     // SAFETY: the slice is valid for its length and borrowed mutably; the state goes as a copy.
     Box::new(unsafe {
-        exports::cup_run_lazy(state.clone(), budget, buffer.as_mut_ptr(), buffer.len())
+        header::cup_run_lazy(state.clone(), budget, buffer.as_mut_ptr(), buffer.len())
     })
 }
 
@@ -58,7 +58,7 @@ pub fn run_lazy(state: &State, budget: u64, buffer: &mut [u8]) -> Box<Ran> {
 pub fn run_eager(state: &State, budget: u64, buffer: &mut [u8]) -> Box<Ran> {
     // SAFETY: the slice is valid for its length and borrowed mutably; the state goes as a copy.
     Box::new(unsafe {
-        exports::cup_run_eager(state.clone(), budget, buffer.as_mut_ptr(), buffer.len())
+        header::cup_run_eager(state.clone(), budget, buffer.as_mut_ptr(), buffer.len())
     })
 }
 
@@ -81,5 +81,5 @@ pub fn instant(state: &State, eager: bool, buffer: &mut [u8]) -> Box<Ran> {
 #[allow(unsafe_code)]
 pub fn position(state: &State, integrator: usize) -> Box<Positioned> {
     // SAFETY: the function is given a copy of the state and a number.
-    Box::new(unsafe { exports::cup_position(state.clone(), integrator) })
+    Box::new(unsafe { header::cup_position(state.clone(), integrator) })
 }

@@ -5,7 +5,7 @@ use cup_check::engine::Engine;
 use cup_check::generate::Call;
 use cup_check::limits::{INPUTS_MAX, INTEGRATORS_MAX, NEVER};
 use cup_check::plain::Plain;
-use cup_check::raw::{RawPlan, RawRunning, RawState};
+use cup_check::raw::{RawCommands, RawCounts, RawLinks, RawNodes, RawPlan, RawRunning, RawState};
 
 /// Types. Records that the cases do not bring in go by their full names.
 pub const BYTES: &str = "(List ℕ)";
@@ -101,8 +101,11 @@ pub fn call(call: &Call) -> String {
         Engine::Lazy => "Lazy",
         Engine::Eager => "Eager",
     };
-    let (budget, buffer) = (call.budget, buffer(call.buffer));
-    format!("(record {{ engine = {engine}; budget = {budget}; buffer = {buffer} }})")
+    record(&[
+        ("engine", engine.to_string()),
+        ("budget", nat(call.budget)),
+        ("buffer", buffer(call.buffer)),
+    ])
 }
 
 /// The calls of a list.
@@ -113,54 +116,90 @@ pub fn calls(list: &[Call]) -> String {
 
 /// A state, unused entries included.
 pub fn state(state: &RawState) -> String {
-    let (plan, running) = (plan(&state.plan), running(&state.run));
-    format!("(record {{ plan = {plan}; run = {running} }})")
+    record(&[("plan", plan(&state.plan)), ("run", running(&state.run))])
+}
+
+/// A record of fields and their terms.
+fn record(fields: &[(&str, String)]) -> String {
+    let fields = fields.iter().map(|(name, term)| format!("{name} = {term}"));
+    format!("(record {{ {} }})", fields.collect::<Vec<_>>().join("; "))
 }
 
 /// Running figures, unused entries included.
 fn running(run: &RawRunning) -> String {
-    format!(
-        "(record {{ x = {}; q = {}; s = {}; l = {}; d = {}; inputs = {}; clock = {}; next = {}; instants = {}; updates = {} }})",
-        ints(&run.x),
-        ints(&run.q),
-        ints(&run.s),
-        words(&run.l),
-        words(&run.d),
-        ints(&run.inputs),
-        run.clocks.clock,
-        run.clocks.next,
-        run.clocks.instants,
-        run.clocks.updates
-    )
+    let clocks = &run.clocks;
+    record(&[
+        ("x", ints(&run.x)),
+        ("q", ints(&run.q)),
+        ("s", ints(&run.s)),
+        ("l", words(&run.l)),
+        ("d", words(&run.d)),
+        ("inputs", ints(&run.inputs)),
+        (
+            "clocks",
+            record(&[
+                ("clock", clocks.clock.to_string()),
+                ("next", clocks.next.to_string()),
+                ("instants", nat(clocks.instants)),
+                ("updates", nat(clocks.updates)),
+            ]),
+        ),
+    ])
 }
 
 /// A plan as a state holds it.
 fn plan(plan: &RawPlan) -> String {
-    format!(
-        "(record {{ horizon = {}; n = {}; m = {}; k = {}; links = {}; commands = {}; starts = {}; quanta = {}; firsts = {}; \
-         kinds = {}; lefts = {}; rights = {}; lows = {}; highs = {}; targets = {}; sources = {}; coefficients = {}; \
-         ticks = {}; numbers = {}; values = {} }})",
-        plan.horizon,
-        plan.counts.n,
-        plan.counts.m,
-        plan.counts.k,
-        plan.counts.links,
-        plan.counts.commands,
-        ints(&plan.integrators.starts),
-        ints(&plan.integrators.quanta),
-        ints(&plan.inputs.firsts),
-        sizes(&plan.nodes.kinds),
-        sizes(&plan.nodes.a),
-        sizes(&plan.nodes.b),
-        ints(&plan.nodes.lows),
-        ints(&plan.nodes.highs),
-        sizes(&plan.links.targets),
-        sizes(&plan.links.sources),
-        ints(&plan.links.coefficients),
-        words(&plan.commands.ticks),
-        sizes(&plan.commands.inputs),
-        ints(&plan.commands.values)
-    )
+    record(&[
+        ("horizon", plan.horizon.to_string()),
+        ("counts", counts(&plan.counts)),
+        (
+            "integrators",
+            record(&[
+                ("starts", ints(&plan.integrators.starts)),
+                ("quanta", ints(&plan.integrators.quanta)),
+            ]),
+        ),
+        ("inputs", record(&[("firsts", ints(&plan.inputs.firsts))])),
+        ("nodes", nodes(&plan.nodes)),
+        ("links", links(&plan.links)),
+        ("commands", commands(&plan.commands)),
+    ])
+}
+
+fn counts(counts: &RawCounts) -> String {
+    record(&[
+        ("n", counts.n.to_string()),
+        ("m", counts.m.to_string()),
+        ("k", counts.k.to_string()),
+        ("links", counts.links.to_string()),
+        ("commands", counts.commands.to_string()),
+    ])
+}
+
+fn nodes(nodes: &RawNodes) -> String {
+    record(&[
+        ("kinds", sizes(&nodes.kinds)),
+        ("a", sizes(&nodes.a)),
+        ("b", sizes(&nodes.b)),
+        ("lows", ints(&nodes.lows)),
+        ("highs", ints(&nodes.highs)),
+    ])
+}
+
+fn links(links: &RawLinks) -> String {
+    record(&[
+        ("targets", sizes(&links.targets)),
+        ("sources", sizes(&links.sources)),
+        ("coefficients", ints(&links.coefficients)),
+    ])
+}
+
+fn commands(commands: &RawCommands) -> String {
+    record(&[
+        ("ticks", words(&commands.ticks)),
+        ("inputs", sizes(&commands.inputs)),
+        ("values", ints(&commands.values)),
+    ])
 }
 
 /// The plain machine's record, its lists filled up with 0 to the width of the arrays.
@@ -176,15 +215,14 @@ pub fn plain(machine: &Plain) -> String {
         .map(|due| due.unwrap_or(u64::from(NEVER)))
         .collect();
     dues.resize(INTEGRATORS_MAX, 0);
-    format!(
-        "(record {{ x = {}; q = {}; s = {}; d = {}; inputs = {}; clock = {}; next = {}; instants = {} }})",
-        filled(&machine.positions, INTEGRATORS_MAX),
-        filled(&machine.outputs, INTEGRATORS_MAX),
-        filled(&machine.slopes, INTEGRATORS_MAX),
-        nats(&dues),
-        filled(&machine.inputs, INPUTS_MAX),
-        machine.clock,
-        machine.next_command,
-        machine.instants
-    )
+    record(&[
+        ("x", filled(&machine.positions, INTEGRATORS_MAX)),
+        ("q", filled(&machine.outputs, INTEGRATORS_MAX)),
+        ("s", filled(&machine.slopes, INTEGRATORS_MAX)),
+        ("d", nats(&dues)),
+        ("inputs", filled(&machine.inputs, INPUTS_MAX)),
+        ("clock", nat(machine.clock)),
+        ("next", machine.next_command.to_string()),
+        ("instants", nat(machine.instants)),
+    ])
 }

@@ -12,7 +12,7 @@ use std::process::Command;
 const OWNER: &str = "calls";
 /// Where the table of the calls' worked examples stands. The cases use what it uses and open what
 /// it opens.
-const TABLE: &str = "crates/examples/specs/Calls.antt";
+const TABLE: &str = "crates/workedexamples/specs/Calls.antt";
 
 /// A declaration of the module of cases.
 #[derive(Clone, Debug)]
