@@ -6,6 +6,7 @@ use Prim.Native.Nat.{ℕ, _+_, _-_, _<_}
 use lib.IntN.{ℤ, pos, _+ℤ_, _-ℤ_, _*ℤ_}
 use lib.ListN.{set}
 use Rattle.bitset.specs.Mask.{has}
+use Rattle.plan.specs.Numbers.{mostIntegrators}
 use Rattle.plan.specs.Lists.{natAt, intAt}
 use Rattle.plan.specs.Numbers.{mostIntegrators}
 use Rattle.machine.specs.Due.{dueTick}

@@ -7,6 +7,7 @@ use lib.IntN.{ℤ}
 use lib.Dec.{eqb}
 use lib.ListN.{set}
 use Rattle.bitset.specs.Mask.{withBit}
+use Rattle.plan.specs.Numbers.{mostIntegrators, mostInputs, mostCommands}
 use Rattle.plan.specs.Lists.{natAt, intAt}
 use Rattle.plan.specs.Numbers.{mostIntegrators, mostInputs, mostCommands}
 

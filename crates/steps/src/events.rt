@@ -5,6 +5,7 @@ ghost use lib.ListN.{length};
 ghost use Rattle.steps.specs.Events.{eventsIn, putAt, EventsReady};
 use bitset::lowest64;
 use bitset::rest64;
+use plan::EVENT_SIZE;
 use plan::SOURCES;
 use words::write_triple;
 
@@ -25,7 +26,7 @@ pub fn write_events<'a>(
     while left != 0 {
         let source = lowest64(left);
         write_triple(&mut buf[end..], t as usize, source, values[source]);
-        end += 12;
+        end += EVENT_SIZE;
         left = rest64(left);
     }
     end

@@ -1,6 +1,7 @@
 // "Status is read from the state": by the next instant's tick and the values that due integrators would take there.
 ghost use mathlib.Core.Path.{_≡_};
 ghost use Prim.Native.Nat.{_^_, _≤_, _<_};
+ghost use Rattle.plan.specs.Numbers.{mostIntegrators};
 ghost use Rattle.plan.specs.Lists.{firstFrom};
 ghost use Rattle.machine.specs.Status.{statusBy};
 ghost use Rattle.timing.specs.Status.{barsIn, DuePositionsReady};
@@ -20,7 +21,7 @@ fn lowest_barring<'a>(
     s: &'a [i64; INTEGRATORS],
     l: &'a [u32; INTEGRATORS],
 ) -> usize
-    requires { ⌜ (n ≤ 32) × (due < 2 ^ n) × DuePositionsReady due t (now x) (now s) (now l) ⌝ }
+    requires { ⌜ (n ≤ mostIntegrators) × (due < 2 ^ n) × DuePositionsReady due t (now x) (now s) (now l) ⌝ }
     ensures { λ r. ⌜ r ≡ firstFrom (barsIn due t (now (x .entry)) (now (s .entry)) (now (l .entry))) 0 n ⌝ }
 {
     let mut left = due;
@@ -45,7 +46,7 @@ pub fn status_at<'a>(
     s: &'a [i64; INTEGRATORS],
     l: &'a [u32; INTEGRATORS],
 ) -> Status
-    requires { ⌜ (n ≤ 32) × (due < 2 ^ n) × ((t ≤ horizon) → DuePositionsReady due t (now x) (now s) (now l)) ⌝ }
+    requires { ⌜ (n ≤ mostIntegrators) × (due < 2 ^ n) × ((t ≤ horizon) → DuePositionsReady due t (now x) (now s) (now l)) ⌝ }
     ensures { λ r. ⌜ r ≡ statusBy horizon n t (firstFrom (barsIn due t (now (x .entry)) (now (s .entry)) (now (l .entry))) 0 n) ⌝ }
 {
     if t == State::NEVER {
