@@ -23,7 +23,7 @@ use Rattle.timing.specs.Ticks.{PositionReady}
 use Rattle.timing.specs.Status.{barsIn, DuePositionsReady}
 
 -- the value that integrator i would take at t
-abbrev pub valueAt : ℕ → List ℤ → List ℤ → List ℕ → ℕ → ℤ
+abbrev pub valueAt : (t : ℕ) (x s : List ℤ) (l : List ℕ) (i : ℕ) → ℤ
 valueAt t x s l i = intAt x i +ℤ intAt s i *ℤ pos (t - natAt l i)
 
 -- ---- the two comparisons with ±M
