@@ -40,5 +40,5 @@ abbrev pub restOf : ℕ → ℕ
 restOf m = bitAnd m (m - 1)
 
 -- the i in `low`, all of them below n, and n + i for the i in `high`
-unfoldable pub joinedOf : ℕ → ℕ → ℕ → ℕ
-joinedOf low high n = high * 2 ^ n + low
+unfoldable pub unionShifted : ℕ → ℕ → ℕ → ℕ
+unionShifted low high n = high * 2 ^ n + low

@@ -10,11 +10,11 @@ ghost use Rattle.bitset.specs.Counts.{countOf};
 mod wide;
 
 pub use wide::has64;
-pub use wide::joined;
 pub use wide::lowest64;
 pub use wide::rest64;
+pub use wide::union_shifted;
 pub use wide::union64;
-pub use wide::with64;
+pub use wide::with_bit64;
 
 // Whether i is in the set.
 pub fn has(mask: u32, i: usize) -> bool
@@ -25,7 +25,7 @@ pub fn has(mask: u32, i: usize) -> bool
 }
 
 // The set, and i.
-pub fn with(mask: u32, i: usize) -> u32
+pub fn with_bit(mask: u32, i: usize) -> u32
     requires { ⌜ i < 32 ⌝ }
     ensures { λ r. ⌜ r ≡ withBit mask i ⌝ }
 {
@@ -70,14 +70,14 @@ pub fn all(n: usize) -> u32
 }
 
 // The i below n with ticks[i] = t.
-pub fn equal_to(n: usize, ticks: &[u32; 32], t: u32) -> u32
+pub fn where_equal(n: usize, ticks: &[u32; 32], t: u32) -> u32
     requires { ⌜ n ≤ 32 ⌝ }
     ensures { λ r. ⌜ r ≡ maskOf (λ i. eqb (getD (now (ticks .entry)) i 0) t) n ⌝ }
 {
     let mut equal: u32 = 0;
     for i in 0..n {
         if ticks[i] == t {
-            equal = with(equal, i);
+            equal = with_bit(equal, i);
         }
     }
     equal

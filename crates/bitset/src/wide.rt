@@ -1,7 +1,7 @@
 // Masks of 64 bits.
 ghost use mathlib.Core.Path.{_≡_};
 ghost use Prim.Native.Nat.{_^_, _<_, _≤_};
-ghost use Rattle.bitset.specs.Mask.{has, union, withBit, lowestOf, restOf, joinedOf};
+ghost use Rattle.bitset.specs.Mask.{has, union, withBit, lowestOf, restOf, unionShifted};
 
 // `has` for 64 bits.
 pub fn has64(mask: u64, i: usize) -> bool
@@ -11,8 +11,8 @@ pub fn has64(mask: u64, i: usize) -> bool
     (mask >> i) % 2 == 1
 }
 
-// `with` for 64 bits.
-pub fn with64(mask: u64, i: usize) -> u64
+// `with_bit` for 64 bits.
+pub fn with_bit64(mask: u64, i: usize) -> u64
     requires { ⌜ i < 64 ⌝ }
     ensures { λ r. ⌜ r ≡ withBit mask i ⌝ }
 {
@@ -42,9 +42,9 @@ pub fn union64(a: u64, b: u64) -> u64
 }
 
 // Two sets as one: the i of `low`, which are below n, and n + i for each i of `high`. So integrators and inputs become a set of source numbers.
-pub fn joined(low: u32, high: u32, n: usize) -> u64
+pub fn union_shifted(low: u32, high: u32, n: usize) -> u64
     requires { ⌜ (n ≤ 32) × (low < 2 ^ n) ⌝ }
-    ensures { λ r. ⌜ r ≡ joinedOf low high n ⌝ }
+    ensures { λ r. ⌜ r ≡ unionShifted low high n ⌝ }
 {
     ((high as u64) << n) | (low as u64)
 }

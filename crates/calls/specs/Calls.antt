@@ -26,8 +26,8 @@ use Rattle.calls.specs.declared.Ran.{Ran}
 use Rattle.calls.specs.declared.Positioned.{Positioned}
 
 -- the first bytes of a buffer replaced; "later bytes keep their value"
-abbrev pub over : List ℕ → List ℕ → List ℕ
-over bytes buffer = bytes ++ drop (length bytes) buffer
+abbrev pub writtenOver : List ℕ → List ℕ → List ℕ
+writtenOver bytes buffer = bytes ++ drop (length bytes) buffer
 
 -- ---- load: 1 to 9. "Load tries 1 to 9 and returns number, lowest faulty entry of that section (0 for 1 to 4) and the idle state."
 unfoldable pub loadOf : List ℕ → Loaded
@@ -52,19 +52,19 @@ writeOf st buffer =
     }
 
 unfoldable pub bufferOfWrite : State → List ℕ → List ℕ
-bufferOfWrite st buffer = cond (eqb (writeNumber st (length buffer)) acceptance) (over (encode (st .plan)) buffer) buffer
+bufferOfWrite st buffer = cond (eqb (writeNumber st (length buffer)) acceptance) (writtenOver (encode (st .plan)) buffer) buffer
 
 -- ---- runs: 10, 11, 12
 -- "A run's buffer is shorter than budget×(n+m)×12 bytes": the room that a run asks
-unfoldable pub roomOf : Plan → ℕ → ℕ
-roomOf p budget = budget * (p .counts .n + p .counts .m) * eventSize
+unfoldable pub bytesNeeded : Plan → ℕ → ℕ
+bytesNeeded p budget = budget * (p .counts .n + p .counts .m) * eventSize
 
 -- what is left to decline once the state is sound: "A run's budget is above 1,024", then the buffer
-unfoldable pub declineOf : Plan → ℕ → ℕ → ℕ
-declineOf p budget room = cond (leb budget largestBudget) (cond (leb (roomOf p budget) room) acceptance refusedRunBuffer) refusedBudget
+unfoldable pub runNumberIfSound : Plan → ℕ → ℕ → ℕ
+runNumberIfSound p budget room = cond (leb budget largestBudget) (cond (leb (bytesNeeded p budget) room) acceptance refusedRunBuffer) refusedBudget
 
 unfoldable pub runNumber : State → ℕ → ℕ → ℕ
-runNumber st budget room = cond (isSound st) (declineOf (st .plan) budget room) refusedUnsound
+runNumber st budget room = cond (isSound st) (runNumberIfSound (st .plan) budget room) refusedUnsound
 
 module _ (engine : Engine) (st : State) (budget : ℕ) where
   -- the state after an accepted run, and the bytes of its events
@@ -87,7 +87,7 @@ module _ (engine : Engine) (st : State) (budget : ℕ) where
       }
 
   unfoldable pub bufferOfRun : List ℕ → List ℕ
-  bufferOfRun buffer = cond (eqb (runNumber st budget (length buffer)) acceptance) (over ranEvents buffer) buffer
+  bufferOfRun buffer = cond (eqb (runNumber st budget (length buffer)) acceptance) (writtenOver ranEvents buffer) buffer
 
 -- ---- position call: 10, 14
 unfoldable pub positionNumber : State → ℕ → ℕ

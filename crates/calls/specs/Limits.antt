@@ -16,14 +16,14 @@ use Rattle.plan.specs.Refusals.{sectionOf, sectionStart}
 use Rattle.plan.specs.declared.Plan.{Plan}
 use Rattle.machine.specs.Values.{valueOf, sumOver, rateOf}
 use Rattle.machine.specs.Due.{upperLevel, lowerLevel, distance, ticksTo}
-use Rattle.machine.specs.Instant.{positionAt, tickOf, eventsOf}
+use Rattle.machine.specs.Instant.{positionAt, nextTickOf, eventsOf}
 use Rattle.machine.specs.Status.{statusOf}
 use Rattle.machine.specs.Runs.{events, positionOf}
 use Rattle.machine.specs.declared.Running.{Running}
 use Rattle.machine.specs.declared.State.{State}
 use Rattle.machine.specs.declared.Engine.{Engine}
 use Rattle.machine.specs.declared.Status.the-variants.{Paused}
-use Rattle.calls.specs.Calls.{loadOf, writeOf, roomOf, runOf, positionedOf}
+use Rattle.calls.specs.Calls.{loadOf, writeOf, bytesNeeded, runOf, positionedOf}
 use Rattle.calls.specs.declared.Ran.{Ran}
 
 -- of what a run answers
@@ -43,9 +43,9 @@ pub record AcceptedLimits (file : List ℕ) : Type 0 where
 
 -- of any file: its directory, whatever it says, and its answer
 pub record FileLimits (file : List ℕ) : Type 0 where
-  pub offset : (k : ℕ) → offsetIn file k < 2 ^ 32
-  pub size : (k : ℕ) → lengthIn file k < 2 ^ 32
-  pub end : (k : ℕ) → offsetIn file k + lengthIn file k < 2 ^ 33
+  pub offset : (section : ℕ) → offsetIn file section < 2 ^ 32
+  pub size : (section : ℕ) → lengthIn file section < 2 ^ 32
+  pub end : (section : ℕ) → offsetIn file section + lengthIn file section < 2 ^ 33
   pub number : loadOf file .number ≤ 9
   pub entry : loadOf file .entry ≤ 255
 
@@ -100,9 +100,9 @@ module _ (p : Plan) (r : Running) where
 
   -- of the numbers that the listing program prints, by their digits: tick, source and value of an event; clock, instants and updates
   pub record PrintedLimits : Type 0 where
-    pub tick : statusOf p r ≡ Paused → tickOf p r < 10 ^ 10
+    pub tick : statusOf p r ≡ Paused → nextTickOf p r < 10 ^ 10
     pub source : p .counts .n + p .counts .m ≤ 10 ^ 2
-    pub output : statusOf p r ≡ Paused → (i : ℕ) → i < p .counts .n → natAt (r .d) i ≡ tickOf p r → ∣ positionAt r (tickOf p r) i ∣ < 10 ^ 10
+    pub output : statusOf p r ≡ Paused → (i : ℕ) → i < p .counts .n → natAt (r .d) i ≡ nextTickOf p r → ∣ positionAt r (nextTickOf p r) i ∣ < 10 ^ 10
     pub setting : (e : ℕ) → e < p .counts .commands → ∣ intAt (p .commands .values) e ∣ < 10 ^ 10
     pub clock : r .clocks .clock < 10 ^ 10
     pub instants : r .clocks .instants < 10 ^ 10
@@ -111,13 +111,13 @@ module _ (p : Plan) (r : Running) where
   pub record StateLimits : Type 0 where
     pub rates : RateLimits p (r .q) (r .inputs)
     pub integrators : (i : ℕ) → i < p .counts .n → IntegratorLimits i
-    pub tick : statusOf p r ≡ Paused → (r .clocks .clock < tickOf p r) × (tickOf p r ≤ p .horizon)
+    pub tick : statusOf p r ≡ Paused → (r .clocks .clock < nextTickOf p r) × (nextTickOf p r ≤ p .horizon)
     pub next : r .clocks .next ≤ mostCommands
     pub instants : r .clocks .instants ≤ largestHorizon
     pub updates : r .clocks .updates ≤ mostIntegrators * largestHorizon
     -- the bytes of an instant's events, of a run's, and of the listing program's runs
     pub instant : length (eventsOf p r) ≤ 480
-    pub bytes : (engine : Engine) (budget : ℕ) → length (events p engine budget r) ≤ roomOf p budget
-    pub room : (budget : ℕ) → budget ≤ largestBudget → roomOf p budget ≤ 491520
-    pub listing : roomOf p listingBudget ≤ 30720
+    pub bytes : (engine : Engine) (budget : ℕ) → length (events p engine budget r) ≤ bytesNeeded p budget
+    pub room : (budget : ℕ) → budget ≤ largestBudget → bytesNeeded p budget ≤ 491520
+    pub listing : bytesNeeded p listingBudget ≤ 30720
     pub printed : PrintedLimits

@@ -9,12 +9,12 @@ pub mod States
 pub mod Calls
 pub mod Limits
 use Rattle.calls.specs.Promises.Numbers.{NumbersMean}
-use Rattle.calls.specs.Promises.Files.{EveryFile, EveryHeader, EveryPlace, EveryView, LoadThenWrite, WriteThenLoad, LoadShaped}
+use Rattle.calls.specs.Promises.Files.{EveryFile, EveryHeader, EveryPlace, EveryView, LoadThenWrite, WriteThenLoad, LoadWidths}
 use Rattle.calls.specs.Promises.Machine.{ValuesMean, DueLeast, DueBetween, CommandMeans, StartMeans, NextMeans, StepsMean, ReachMeans}
 use Rattle.calls.specs.Promises.Machine.{Frame, EventsRead, StatusMeans, RunTakes, PlainStarts, PlainMeans, PlainTakes}
 use Rattle.calls.specs.Promises.Lists.{ListsMean, GrowthMeans, Demand3}
 use Rattle.calls.specs.Promises.Sessions.{EverySession, SessionsExist}
-use Rattle.calls.specs.Promises.States.{SoundMeans, LoadSound, RunSound, IdleLoaded, NextDetermined, RunMoves, RunShaped}
+use Rattle.calls.specs.Promises.States.{SoundMeans, LoadSound, RunSound, IdleLoaded, NextDetermined, RunMoves, RunWidths}
 use Rattle.calls.specs.Promises.Calls.{EveryNumber, Accepted, Declined, EveryBuffer}
 use Rattle.calls.specs.Promises.Limits.{LimitPromise}
 
@@ -27,7 +27,7 @@ pub record EveryPromise : Type 0 where
   pub every-view : EveryView
   pub load-then-write : LoadThenWrite
   pub write-then-load : WriteThenLoad
-  pub load-shaped : LoadShaped
+  pub load-widths : LoadWidths
   pub values-mean : ValuesMean
   pub due-least : DueLeast
   pub due-between : DueBetween
@@ -54,7 +54,7 @@ pub record EveryPromise : Type 0 where
   pub idle-loaded : IdleLoaded
   pub next-determined : NextDetermined
   pub run-moves : RunMoves
-  pub run-shaped : RunShaped
+  pub run-widths : RunWidths
   pub every-number : EveryNumber
   pub accepted : Accepted
   pub declined : Declined

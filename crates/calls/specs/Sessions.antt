@@ -13,7 +13,7 @@ use Rattle.calls.specs.Calls.{runOf, bufferOfRun}
 use Rattle.calls.specs.Lists.{Call, answerOf, bufferOf}
 use Rattle.calls.specs.declared.Ran.{Ran}
 
-pub record Made : Type 0 where
+pub record MadeCall : Type 0 where
   -- engine, budget, and the buffer as it was lent
   pub call : Call
   pub answer : Ran
@@ -21,36 +21,36 @@ pub record Made : Type 0 where
   pub buffer : List ℕ
 
 -- the contract of the call's run, of the state st that it was handed
-pub record KeptBy (st : State) (made : Made) : Type 0 where
+pub record ContractHolds (st : State) (made : MadeCall) : Type 0 where
   pub answer : made .answer ≡ runOf (made .call .engine) st (made .call .budget) (made .call .buffer)
   pub buffer : made .buffer ≡ bufferOfRun (made .call .engine) st (made .call .budget) (made .call .buffer)
 
 -- "the state is the loaded one, then what the last call returned, and nothing else writes it"
-abbrev pub Session : State → List Made → Type 0
+abbrev pub Session : State → List MadeCall → Type 0
 Session st [] = Unit {0}
-Session st (made ∷ later) = KeptBy st made × Session (made .answer .state) later
+Session st (made ∷ later) = ContractHolds st made × Session (made .answer .state) later
 
 -- the state that the last call returned
-unfoldable pub lastState : State → List Made → State
+unfoldable pub lastState : State → List MadeCall → State
 lastState st [] = st
 lastState st (made ∷ later) = lastState (made .answer .state) later
 
 -- "the budgets of a list's accepted run calls added up"
-unfoldable pub acceptedSum : List Made → ℕ
+unfoldable pub acceptedSum : List MadeCall → ℕ
 acceptedSum [] = 0
 acceptedSum (made ∷ later) = cond (eqb (made .answer .number) acceptance) (made .call .budget) 0 + acceptedSum later
 
 -- "the bytes that accepted calls answer as written, joined in call order"
-unfoldable pub writtenBytes : List Made → List ℕ
+unfoldable pub writtenBytes : List MadeCall → List ℕ
 writtenBytes [] = []
 writtenBytes (made ∷ later) = take (made .answer .written) (made .buffer) ++ writtenBytes later
 
 -- what was handed in
-unfoldable pub callsOf : List Made → List Call
+unfoldable pub callsOf : List MadeCall → List Call
 callsOf [] = []
 callsOf (made ∷ later) = made .call ∷ callsOf later
 
 -- the session of a list of calls: what each answers and leaves in its buffer, of the state that the call before it returned
-unfoldable pub madeBy : State → List Call → List Made
-madeBy st [] = []
-madeBy st (c ∷ cs) = record { call = c; answer = answerOf st c; buffer = bufferOf st c } ∷ madeBy (answerOf st c .state) cs
+unfoldable pub sessionOf : State → List Call → List MadeCall
+sessionOf st [] = []
+sessionOf st (call ∷ later) = record { call = call; answer = answerOf st call; buffer = bufferOf st call } ∷ sessionOf (answerOf st call .state) later

@@ -9,7 +9,7 @@ use Rattle.plan.specs.Numbers.{acceptance, refusedWriteBuffer}
 use Rattle.plan.specs.Format.{planIn}
 use Rattle.plan.specs.Refusals.{numberOf, findingOf, accepted}
 use Rattle.plan.specs.Encoding.{fileLength, encode}
-use Rattle.calls.specs.Calls.{over}
+use Rattle.calls.specs.Calls.{writtenOver}
 
 -- 1 to 9 by the reader, then 13: "The plan writer's buffer is shorter than the file."
 unfoldable pub rewriteNumber : List ℕ → ℕ → ℕ
@@ -19,4 +19,4 @@ unfoldable pub rewriteLength : List ℕ → ℕ → ℕ
 rewriteLength file room = cond (eqb (rewriteNumber file room) acceptance) (fileLength (planIn file)) 0
 
 unfoldable pub rewriteBuffer : List ℕ → List ℕ → List ℕ
-rewriteBuffer file buffer = cond (eqb (rewriteNumber file (length buffer)) acceptance) (over (encode (planIn file)) buffer) buffer
+rewriteBuffer file buffer = cond (eqb (rewriteNumber file (length buffer)) acceptance) (writtenOver (encode (planIn file)) buffer) buffer

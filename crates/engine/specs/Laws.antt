@@ -1,3 +1,3 @@
 -- What is proved of these definitions.
 pub mod Aheads
-pub mod Running
+pub mod RunLoop

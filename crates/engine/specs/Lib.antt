@@ -1,3 +1,3 @@
 pub mod Ahead
-pub mod Running
+pub mod RunAnswer
 pub mod Laws

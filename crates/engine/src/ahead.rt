@@ -1,7 +1,7 @@
 // What lies ahead of a state: the next instant's tick, the integrators that are due there, and the status.
 ghost use mathlib.Core.Path.{_≡_};
 ghost use Rattle.engine.specs.Ahead.{aheadOf, AheadReady};
-use bitset::equal_to;
+use bitset::where_equal;
 use machine::Status;
 use plan::COMMANDS;
 use plan::INTEGRATORS;
@@ -29,7 +29,7 @@ pub fn look_ahead<'a>(
     ensures { λ r. ⌜ r ≡ aheadOf horizon n commands (now (ticks .entry)) (now (x .entry)) (now (s .entry)) (now (l .entry)) (now (d .entry)) next ⌝ }
 {
     let tick = next_tick(n, d, commands, ticks, next);
-    let due = equal_to(n, d, tick);
+    let due = where_equal(n, d, tick);
     let status = status_at(horizon, n, tick, due, x, s, l);
     Ahead { tick, due, status }
 }

@@ -3,7 +3,7 @@ ghost use mathlib.Core.Path.{_≡_};
 ghost use lib.ListN.{length};
 ghost use Rattle.machine.specs.Runs.{events};
 ghost use Rattle.steps.specs.Events.{putAt};
-ghost use Rattle.engine.specs.Running.{endedOf, RunReady};
+ghost use Rattle.engine.specs.RunAnswer.{endedOf, RunReady};
 use crate::ahead::look_ahead;
 use instant::take_instant;
 use machine::Engine;

@@ -2,4 +2,4 @@
 pub mod Comparing
 pub mod Layout
 pub mod Testing
-pub mod Trying
+pub mod ChecksInOrder

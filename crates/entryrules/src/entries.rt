@@ -6,7 +6,7 @@ ghost use lib.Dec.{eqb, ltb};
 ghost use Rattle.integers.specs.Parts.{∣_∣};
 ghost use Rattle.integers.specs.Range.{within};
 ghost use Rattle.plan.specs.Numbers.{M, mostLinks, mostCommands};
-ghost use Rattle.plan.specs.Tests.{horizonKept, integratorTest, kindKept, linkTest, commandTest, ascends, follows};
+ghost use Rattle.plan.specs.Tests.{horizonKept, integratorTest, nodeTest, linkTest, commandTest, pairAscends, ascendsAt};
 use plan::COMMANDS;
 use plan::LARGEST_COEFFICIENT;
 use plan::LARGEST_HORIZON;
@@ -14,7 +14,7 @@ use plan::LINKS;
 use plan::M;
 
 // A value within ±M.
-pub fn value_kept(value: i64) -> bool
+pub fn value_within_m(value: i64) -> bool
     ensures { λ r. ⌜ r ≡ within M value ⌝ }
 {
     if value < -M {
@@ -37,7 +37,7 @@ pub fn horizon_kept(horizon: u32) -> bool
 pub fn integrator_kept(start: i64, quantum: i64) -> bool
     ensures { λ r. ⌜ r ≡ integratorTest start quantum ⌝ }
 {
-    if !value_kept(start) {
+    if !value_within_m(start) {
         return false;
     }
     if quantum < 1 {
@@ -61,7 +61,7 @@ fn arithmetic_kept(own: usize, b: usize, lo: i64, hi: i64) -> bool
 
 // The rule of a node's kind. The node's own source number is `own`: "A and B, where used, name integrators, inputs or lower-numbered nodes."
 pub fn node_kept(own: usize, kind: usize, a: usize, b: usize, lo: i64, hi: i64) -> bool
-    ensures { λ r. ⌜ r ≡ kindKept own kind a b lo hi ⌝ }
+    ensures { λ r. ⌜ r ≡ nodeTest own kind a b lo hi ⌝ }
 {
     if own <= a {
         return false;
@@ -69,10 +69,10 @@ pub fn node_kept(own: usize, kind: usize, a: usize, b: usize, lo: i64, hi: i64) 
     if kind <= 1 {
         return arithmetic_kept(own, b, lo, hi);
     }
-    if !value_kept(lo) {
+    if !value_within_m(lo) {
         return false;
     }
-    if !value_kept(hi) {
+    if !value_within_m(hi) {
         return false;
     }
     if kind == 2 {
@@ -88,7 +88,13 @@ pub fn node_kept(own: usize, kind: usize, a: usize, b: usize, lo: i64, hi: i64) 
 }
 
 // "target integrator, source, signed coefficient, not 0, within ±16,777,216", with n integrators and `all` sources
-pub fn link_limits(n: usize, all: usize, target: usize, source: usize, coefficient: i64) -> bool
+pub fn link_limits_kept(
+    n: usize,
+    all: usize,
+    target: usize,
+    source: usize,
+    coefficient: i64,
+) -> bool
     ensures { λ r. ⌜ r ≡ linkTest n all target source coefficient ⌝ }
 {
     if n <= target {
@@ -107,7 +113,7 @@ pub fn link_limits(n: usize, all: usize, target: usize, source: usize, coefficie
 }
 
 // "tick 1 to horizon, input number below m, signed value within ±M"
-pub fn command_limits(horizon: u32, m: usize, tick: u32, input: usize, value: i64) -> bool
+pub fn command_limits_kept(horizon: u32, m: usize, tick: u32, input: usize, value: i64) -> bool
     ensures { λ r. ⌜ r ≡ commandTest horizon m tick input value ⌝ }
 {
     if tick < 1 {
@@ -119,12 +125,12 @@ pub fn command_limits(horizon: u32, m: usize, tick: u32, input: usize, value: i6
     if m <= input {
         return false;
     }
-    value_kept(value)
+    value_within_m(value)
 }
 
 // A pair stands before the next pair: by the first number, then by the second.
 fn pair_ascends(first: usize, second: usize, next_first: usize, next_second: usize) -> bool
-    ensures { λ r. ⌜ r ≡ ascends first second «next_first» «next_second» ⌝ }
+    ensures { λ r. ⌜ r ≡ pairAscends first second «next_first» «next_second» ⌝ }
 {
     if first < next_first {
         return true;
@@ -137,7 +143,7 @@ fn pair_ascends(first: usize, second: usize, next_first: usize, next_second: usi
 
 // The same for a command, whose first number is a tick. A parameter's cast asks for no proof; that of an array's element would.
 fn tick_ascends(tick: u32, input: usize, next_tick: u32, next_input: usize) -> bool
-    ensures { λ r. ⌜ r ≡ ascends tick input «next_tick» «next_input» ⌝ }
+    ensures { λ r. ⌜ r ≡ pairAscends tick input «next_tick» «next_input» ⌝ }
 {
     pair_ascends(tick as usize, input, next_tick as usize, next_input)
 }
@@ -149,7 +155,7 @@ pub fn link_ordered<'a>(
     sources: &'a [usize; LINKS],
 ) -> bool
     requires { ⌜ link < mostLinks ⌝ }
-    ensures { λ r. ⌜ r ≡ follows (now (targets .entry)) (now (sources .entry)) link ⌝ }
+    ensures { λ r. ⌜ r ≡ ascendsAt (now (targets .entry)) (now (sources .entry)) link ⌝ }
 {
     if link == 0 {
         return true;
@@ -169,7 +175,7 @@ pub fn command_ordered<'a>(
     inputs: &'a [usize; COMMANDS],
 ) -> bool
     requires { ⌜ command < mostCommands ⌝ }
-    ensures { λ r. ⌜ r ≡ follows (now (ticks .entry)) (now (inputs .entry)) command ⌝ }
+    ensures { λ r. ⌜ r ≡ ascendsAt (now (ticks .entry)) (now (inputs .entry)) command ⌝ }
 {
     if command == 0 {
         return true;

@@ -3,14 +3,14 @@
 mod entries;
 mod layout;
 
-pub use entries::command_limits;
+pub use entries::command_limits_kept;
 pub use entries::command_ordered;
 pub use entries::horizon_kept;
 pub use entries::integrator_kept;
-pub use entries::link_limits;
+pub use entries::link_limits_kept;
 pub use entries::link_ordered;
 pub use entries::node_kept;
-pub use entries::value_kept;
+pub use entries::value_within_m;
 pub use layout::count_kept;
 pub use layout::counts_kept;
 pub use layout::entry_size;

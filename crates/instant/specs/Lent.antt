@@ -11,9 +11,9 @@ use Rattle.plan.specs.Numbers.{eventSize}
 use Rattle.plan.specs.declared.Counts.{Counts}
 use Rattle.plan.specs.declared.Plan.{Plan}
 use Rattle.machine.specs.Reach.{isDue}
-use Rattle.machine.specs.Instant.{tickOf, instant, eventsOf}
+use Rattle.machine.specs.Instant.{nextTickOf, instant, eventsOf}
 use Rattle.machine.specs.Status.{isPaused}
-use Rattle.machine.specs.Sound.{SoundRunning, RunningShaped}
+use Rattle.machine.specs.Sound.{SoundRunning, RunningWidths}
 use Rattle.machine.specs.declared.Clocks.{Clocks}
 use Rattle.machine.specs.declared.Running.{Running}
 use Rattle.machine.specs.declared.Engine.{Engine}
@@ -64,10 +64,10 @@ movedSet Eager n due reached = allOf n
 
 -- the next instant, at t, of a sound and paused state; the tables and values are those of the plan and the state; the events fit behind byte `at`
 pub record InstantReady (p : Plan) (ranges reach : List ℕ) (t due : ℕ) (r : Running) (values : List ℤ) (at size : ℕ) : Type 0 where
-  pub shaped : RunningShaped r
+  pub shaped : RunningWidths r
   pub sound : SoundRunning p r
   pub paused : isPaused p r ≡ true
-  pub tick : t ≡ tickOf p r
+  pub tick : t ≡ nextTickOf p r
   pub due-set : due ≡ maskOf (isDue (r .d) t) (p .counts .n)
   pub ranges-are : ranges ≡ rangesOf p
   pub reach-is : reach ≡ reachTable p

@@ -6,8 +6,8 @@ ghost use Rattle.plan.specs.Numbers.{mostIntegrators};
 ghost use Rattle.instant.specs.Lent.{planOf, runningOf, movedSet, SomePlanReady, EveryPlanTaken};
 use bitset::all;
 use bitset::count;
-use bitset::joined;
 use bitset::union;
+use bitset::union_shifted;
 use machine::Clocks;
 use machine::Engine;
 use moves::move_all;
@@ -22,7 +22,7 @@ use reach::reached_by;
 use steps::obey_commands;
 use steps::set_outputs;
 use steps::write_events;
-use values::work_nodes;
+use values::work_out_nodes;
 
 // What an instant leaves, and the place behind its events.
 pub struct Taken {
@@ -96,9 +96,9 @@ pub fn take_instant<'a>(
         values,
         clocks.next,
     );
-    let changed = joined(due, commanded.inputs, n);
+    let changed = union_shifted(due, commanded.inputs, n);
     let reached = reached_by(changed, reach);
-    work_nodes(
+    work_out_nodes(
         base,
         counts.k,
         kinds,

@@ -3,13 +3,13 @@ use lib.IntN.{ℤ}
 use lib.Signed.{shrZ}
 use Prim.Native.Nat.{ℕ, _+_, _-_, _*_, _/_, _≤_, _<_}
 
--- v divided by k, rounded towards minus infinity: the library's shift that copies the sign bit, at any divisor
+-- v divided by a divisor, rounded towards minus infinity: the library's shift that copies the sign bit, at any divisor
 abbrev pub floorDiv : ℤ → ℕ → ℤ
-floorDiv v k = shrZ v k
+floorDiv v divisor = shrZ v divisor
 
 -- floor(v / 65,536), the one division by which the rules scale a value
-abbrev pub floored : ℤ → ℤ
-floored v = floorDiv v 65536
+abbrev pub floor65536 : ℤ → ℤ
+floor65536 v = floorDiv v 65536
 
 -- a divided by b, rounded up
 unfoldable pub ceilDiv : ℕ → ℕ → ℕ

@@ -1,12 +1,12 @@
 // Division of whole numbers that rounds down or up, and a value limited to a range.
 ghost use mathlib.Core.Path.{_≡_};
 ghost use Prim.Native.Nat.{_<_};
-ghost use Rattle.integers.specs.Division.{floored, ceilDiv};
+ghost use Rattle.integers.specs.Division.{floor65536, ceilDiv};
 ghost use Rattle.integers.specs.Range.{limited};
 
 // floor(v / 65,536). The shift copies the sign bit, so it rounds towards minus infinity; `/` would round towards zero.
 pub fn floor_65536(v: i64) -> i64
-    ensures { λ r. ⌜ r ≡ floored v ⌝ }
+    ensures { λ r. ⌜ r ≡ floor65536 v ⌝ }
 {
     v >> 16
 }

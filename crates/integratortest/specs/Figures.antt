@@ -1,5 +1,5 @@
 -- Model of the code: the clauses of a sound state on an integrator's own figures, as the code tests them. That they are document 01's:
--- `soundness`, Laws/Tested.
+-- `soundness`, Laws/RunningTests.
 use mathlib.Core.Bool.{Bool, _&&_}
 use mathlib.Core.List.{List}
 use Prim.Native.Nat.{ℕ, _^_, _≤_, _<_}

@@ -43,6 +43,6 @@ refusalLine number entry = (refusedWord ++ field (decimal number) space) ++ fiel
 unfoldable pub lineAt : List ℕ → ℕ → List ℕ
 lineAt bytes i = eventLine (word bytes (eventSize * i)) (word bytes (eventSize * i + 4)) (signedWord bytes (eventSize * i + 8))
 
--- the lines of the first k events of a list of bytes
+-- the lines of the first events of a list of bytes
 unfoldable pub linesOf : List ℕ → ℕ → List ℕ
-linesOf bytes k = joined (lineAt bytes) k
+linesOf bytes count = joined (lineAt bytes) count

@@ -9,27 +9,27 @@ use Rattle.integers.specs.Range.{limited, within}
 use Rattle.bitset.specs.Counts.{countOf}
 use Rattle.words.specs.Word.{numberAt, bytesOf, signedOf, unsignedOf, flat}
 use Rattle.plan.specs.Lists.{table, row, joined, every, some, firstFrom}
-use Rattle.plan.specs.Format.{horizonIn, offsetIn, lengthIn, startIn, countIn, part, sectionIn, columnOf, columnIn, planIn}
+use Rattle.plan.specs.Format.{horizonIn, offsetIn, lengthIn, requiredOffset, countIn, part, sectionIn, columnOf, columnIn, planIn}
 use Rattle.plan.specs.Tests.{longEnough, offsetsKept, countKept, sizesKept, horizonKept, integratorKept, inputKept}
-use Rattle.plan.specs.Tests.{kindKept, ascends, nodeKept, linkLimits, linkOrdered, commandLimits, commandOrdered}
+use Rattle.plan.specs.Tests.{nodeTest, pairAscends, nodeKept, linkLimitsKept, linkOrdered, commandLimitsKept, commandOrdered}
 use Rattle.plan.specs.Refusals.{numberOf, entryOf, isClean, orElse, firstFinding, horizonFinding, integratorsFinding, inputsFinding}
 use Rattle.plan.specs.Refusals.{nodesFinding, linksFinding, commandsFinding, planFinding, findingOf, accepted}
-use Rattle.plan.specs.Cases.{Case, case, AllRight, end, _&_}
-use Rattle.plan.specs.Files.{fileOf, cupFile}
-use Rattle.machine.specs.Values.{nodeOf, valueWith, valueOf, sumOver, rateOf}
+use Rattle.plan.specs.ExampleTables.{Case, case, AllRight, end, _&_}
+use Rattle.plan.specs.ExampleFiles.{fileOf, cupFile}
+use Rattle.machine.specs.Values.{nodeValue, valueWith, valueOf, sumOver, rateOf}
 use Rattle.machine.specs.Due.{upperLevel, lowerLevel, distance, ticksTo, dueTick, dueOf}
 use Rattle.machine.specs.Next.{nextCommand, commandTick, leastDue, nextTick}
 use Rattle.machine.specs.Start.{startSlope, startDue, startOf, startState, idleState}
 use Rattle.machine.specs.Reach.{isDue, setsInput, isCommanded, changes, dependsWith, linkReaches, reached}
 use Rattle.machine.specs.Instant.{positionAt, inputThen, inputsThen, moves, eventBytes, eventsAt, outputs, slopeThen, xThen, dueThen}
-use Rattle.machine.specs.Instant.{takenAt, tickOf, instant, eventsOf}
+use Rattle.machine.specs.Instant.{takenAt, nextTickOf, instant, eventsOf}
 use Rattle.machine.specs.Status.{statusNumber, statusPaused, bars, barring, statusBy, statusAt, statusOf, isPaused}
 use Rattle.machine.specs.Runs.{after, events}
 use Rattle.listingtext.specs.Decimal.{digitsIn, decimal, signedDecimal}
 use Rattle.listingtext.specs.Lines.{eventLine, endLine, refusalLine, lineAt, linesOf}
 use Rattle.calls.specs.Calls.{loadOf, ranState, ranEvents}
-use Rattle.listingturns.specs.Listing.{eventLines, closing, listedBy, listingOf}
-use Rattle.listingturns.specs.Turns.{turnState, turnMore, turnText, firstText, turnsFrom, printedIn}
+use Rattle.listingturns.specs.Listing.{eventLines, endLineOf, listingOfRun, listingOf}
+use Rattle.listingturns.specs.Turns.{turnState, turnMore, turnText, beginText, turnsFrom, printedIn}
 
 -- "4 0 12", "6 2 -3", "end 1 6 2 3"
 abbrev cupText : List ℕ
@@ -58,13 +58,13 @@ examples =
 
 pub examples-right : AllRight examples
 unfolding examples ceilDiv limited within countOf numberAt bytesOf signedOf unsignedOf flat table row joined every some firstFrom
-    horizonIn offsetIn lengthIn startIn countIn part sectionIn columnOf columnIn planIn longEnough offsetsKept countKept sizesKept
-    horizonKept integratorKept inputKept kindKept ascends nodeKept linkLimits linkOrdered commandLimits
+    horizonIn offsetIn lengthIn requiredOffset countIn part sectionIn columnOf columnIn planIn longEnough offsetsKept countKept sizesKept
+    horizonKept integratorKept inputKept nodeTest pairAscends nodeKept linkLimitsKept linkOrdered commandLimitsKept
     commandOrdered numberOf entryOf isClean orElse firstFinding horizonFinding integratorsFinding inputsFinding nodesFinding
-    linksFinding commandsFinding planFinding findingOf accepted nodeOf valueWith valueOf sumOver rateOf upperLevel lowerLevel distance ticksTo
+    linksFinding commandsFinding planFinding findingOf accepted nodeValue valueWith valueOf sumOver rateOf upperLevel lowerLevel distance ticksTo
     dueTick dueOf nextCommand commandTick leastDue nextTick startSlope startDue startOf startState idleState isDue setsInput
     isCommanded changes dependsWith linkReaches reached positionAt inputThen inputsThen moves eventBytes eventsAt outputs slopeThen xThen
-    dueThen takenAt tickOf instant eventsOf bars barring statusNumber statusPaused statusBy statusAt statusOf isPaused after events
-    digitsIn decimal signedDecimal eventLine endLine refusalLine lineAt linesOf loadOf ranState ranEvents eventLines closing listedBy listingOf
-    turnState turnMore turnText firstText turnsFrom printedIn
+    dueThen takenAt nextTickOf instant eventsOf bars barring statusNumber statusPaused statusBy statusAt statusOf isPaused after events
+    digitsIn decimal signedDecimal eventLine endLine refusalLine lineAt linesOf loadOf ranState ranEvents eventLines endLineOf listingOfRun listingOf
+    turnState turnMore turnText beginText turnsFrom printedIn
 examples-right = refl & refl & refl & refl & refl & end

@@ -20,17 +20,17 @@ unfoldable pub eventLines : List ℕ → List ℕ
 eventLines bytes = linesOf bytes (length bytes / eventSize)
 
 -- "then "end", status, clock, instants, updates"
-unfoldable pub closing : Plan → Running → List ℕ
-closing p r = endLine (statusNumber (statusOf p r)) (r .clocks .clock) (r .clocks .instants) (r .clocks .updates)
+unfoldable pub endLineOf : Plan → Running → List ℕ
+endLineOf p r = endLine (statusNumber (statusOf p r)) (r .clocks .clock) (r .clocks .instants) (r .clocks .updates)
 
 -- The lines of a lazy run from r on with a budget b, and the end line of where it ends. With the horizon for a budget the run always ends with
 -- status 1 or 2 (`ListingStops`), since each instant moves the clock on.
-unfoldable pub listedBy : Plan → ℕ → Running → List ℕ
-listedBy p b r = eventLines (events p Lazy b r) ++ closing p (after p Lazy b r)
+unfoldable pub listingOfRun : Plan → ℕ → Running → List ℕ
+listingOfRun p b r = eventLines (events p Lazy b r) ++ endLineOf p (after p Lazy b r)
 
 -- the text for a file: "a declined plan prints "refused", number, entry"
 unfoldable pub listingOf : List ℕ → List ℕ
 listingOf file =
     let loaded = loadOf file in
     let p = loaded .state .plan in
-    cond (eqb (loaded .number) acceptance) (listedBy p (p .horizon) (loaded .state .run)) (refusalLine (loaded .number) (loaded .entry))
+    cond (eqb (loaded .number) acceptance) (listingOfRun p (p .horizon) (loaded .state .run)) (refusalLine (loaded .number) (loaded .entry))

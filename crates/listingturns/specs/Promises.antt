@@ -17,7 +17,7 @@ use Rattle.listingtext.specs.Decimal.{decimal, signedDecimal}
 use Rattle.listingtext.specs.Decimal.{readFrom}
 use Rattle.calls.specs.Calls.{loadOf}
 use Rattle.listingturns.specs.Listing.{listingOf}
-use Rattle.listingturns.specs.Turns.{textSpace, refusalSpace, turnState, turnMore, turnText, firstText, printedIn}
+use Rattle.listingturns.specs.Turns.{textSpace, refusalSpace, turnState, turnMore, turnText, beginText, printedIn}
 
 -- a lazy run with the horizon for a budget ends with status 1 or 2
 abbrev pub ListingStops : Type 0
@@ -39,7 +39,7 @@ TurnsPrint = (file : List ℕ) (turns : ℕ) → loadOf file .state .plan .horiz
 
 -- what a turn prints fits the program's buffer, and so does a refusal
 abbrev pub TextsFit : Type 0
-TextsFit = ((st : State) → Sound st → length (turnText st) ≤ textSpace) × ((file : List ℕ) → Bytes file → length (firstText file) ≤ refusalSpace)
+TextsFit = ((st : State) → Sound st → length (turnText st) ≤ textSpace) × ((file : List ℕ) → Bytes file → length (beginText file) ≤ refusalSpace)
 
 -- "reads at most 4,493 bytes of standard input": one more than the longest file that is accepted, so that of a longer input nothing is listed
 abbrev pub LongRefused : Type 0

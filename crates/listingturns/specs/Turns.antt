@@ -10,7 +10,7 @@ use Rattle.machine.specs.declared.State.{State}
 use Rattle.machine.specs.declared.Engine.the-variants.{Lazy}
 use Rattle.listingtext.specs.Lines.{refusalLine}
 use Rattle.calls.specs.Calls.{loadOf, ranState, ranEvents}
-use Rattle.listingturns.specs.Listing.{eventLines, closing}
+use Rattle.listingturns.specs.Listing.{eventLines, endLineOf}
 use Rattle.listingturns.specs.declared.Turn.{Turn}
 
 -- the room that a turn's buffers need: its events, 64 × 40 × 12 bytes, and its text, 64 × 40 lines of up to 26 characters and an end line
@@ -35,18 +35,18 @@ module _ (st : State) where
 
   -- the lines of its events, and behind the last turn's the end line
   unfoldable pub turnText : List ℕ
-  turnText = eventLines (ranEvents Lazy st listingBudget) ++ cond turnMore [] (closing (turnState .plan) (turnState .run))
+  turnText = eventLines (ranEvents Lazy st listingBudget) ++ cond turnMore [] (endLineOf (turnState .plan) (turnState .run))
 
   -- what the code answers for it
   unfoldable pub turnOf : Turn
   turnOf = record { length = length turnText; more = turnMore; state = turnState }
 
 -- Before the first turn: nothing is printed for an accepted file, and the refusal for another, with no turn behind it.
-unfoldable pub firstText : List ℕ → List ℕ
-firstText file = cond (eqb (loadOf file .number) acceptance) [] (refusalLine (loadOf file .number) (loadOf file .entry))
+unfoldable pub beginText : List ℕ → List ℕ
+beginText file = cond (eqb (loadOf file .number) acceptance) [] (refusalLine (loadOf file .number) (loadOf file .entry))
 
-unfoldable pub firstOf : List ℕ → Turn
-firstOf file = record { length = length (firstText file); more = eqb (loadOf file .number) acceptance; state = loadOf file .state }
+unfoldable pub beginOf : List ℕ → Turn
+beginOf file = record { length = length (beginText file); more = eqb (loadOf file .number) acceptance; state = loadOf file .state }
 
 -- the texts of at most so many turns, joined
 unfoldable pub turnsFrom : ℕ → State → List ℕ
@@ -55,4 +55,4 @@ turnsFrom (suc turns) st = turnText st ++ cond (turnMore st) (turnsFrom turns (t
 
 -- and with what stands before them: all that the program's loop prints for a file, in at most so many turns
 unfoldable pub printedIn : ℕ → List ℕ → List ℕ
-printedIn turns file = firstText file ++ cond (eqb (loadOf file .number) acceptance) (turnsFrom turns (loadOf file .state)) []
+printedIn turns file = beginText file ++ cond (eqb (loadOf file .number) acceptance) (turnsFrom turns (loadOf file .state)) []

@@ -5,8 +5,8 @@ ghost use lib.ListN.{length};
 ghost use Rattle.plan.specs.Numbers.{listingBudget};
 ghost use Rattle.machine.specs.Sound.{Sound};
 ghost use Rattle.machine.specs.declared.Engine.the-variants.{Lazy};
-ghost use Rattle.calls.specs.Calls.{over, ranEvents};
-ghost use Rattle.listingturns.specs.Turns.{eventSpace, textSpace, refusalSpace, turnText, turnOf, firstText, firstOf};
+ghost use Rattle.calls.specs.Calls.{writtenOver, ranEvents};
+ghost use Rattle.listingturns.specs.Turns.{eventSpace, textSpace, refusalSpace, turnText, turnOf, beginText, beginOf};
 use listingtext::write_end;
 use listingtext::write_lines;
 use listingtext::write_refusal;
@@ -36,8 +36,8 @@ pub struct Turn {
 // Before the first turn: "a declined plan prints "refused", number, entry", and no turn follows.
 pub fn begin(file: &[u8], text: &mut [u8]) -> Turn
     requires { ⌜ refusalSpace ≤ length (now text) ⌝ }
-    ensures answer { λ r. ⌜ r ≡ firstOf (now (file .entry)) ⌝ }
-    ensures text { λ _. ⌜ now (text .exit) ≡ over (firstText (now (file .entry))) (now (text .entry)) ⌝ }
+    ensures answer { λ r. ⌜ r ≡ beginOf (now (file .entry)) ⌝ }
+    ensures text { λ _. ⌜ now (text .exit) ≡ writtenOver (beginText (now (file .entry))) (now (text .entry)) ⌝ }
 {
     let loaded = load(file);
     let state = loaded.state;
@@ -62,8 +62,8 @@ pub fn take_turn(state: State, events: &mut [u8], text: &mut [u8]) -> Turn
     requires sound { ⌜ Sound state ⌝ }
     requires room { ⌜ (eventSpace ≤ length (now events)) × (textSpace ≤ length (now text)) ⌝ }
     ensures answer { λ r. ⌜ r ≡ turnOf state ⌝ }
-    ensures events { λ _. ⌜ now (events .exit) ≡ over (ranEvents Lazy state listingBudget) (now (events .entry)) ⌝ }
-    ensures text { λ _. ⌜ now (text .exit) ≡ over (turnText state) (now (text .entry)) ⌝ }
+    ensures events { λ _. ⌜ now (events .exit) ≡ writtenOver (ranEvents Lazy state listingBudget) (now (events .entry)) ⌝ }
+    ensures text { λ _. ⌜ now (text .exit) ≡ writtenOver (turnText state) (now (text .entry)) ⌝ }
 {
     let ran = run_lazy(state, LISTING_BUDGET, events);
     let lines = write_lines(text, events, ran.written / EVENT_SIZE);

@@ -87,11 +87,11 @@ module _ (p : Plan) (r : Running) (t : ℕ) where
 
 module _ (p : Plan) where
   -- the tick of the next instant
-  unfoldable pub tickOf : Running → ℕ
-  tickOf r = nextTick p (r .d) (r .clocks .next)
+  unfoldable pub nextTickOf : Running → ℕ
+  nextTickOf r = nextTick p (r .d) (r .clocks .next)
 
   unfoldable pub instant : Engine → Running → Running
-  instant engine r = takenAt p r (tickOf r) (moves p engine (r .d) (tickOf r))
+  instant engine r = takenAt p r (nextTickOf r) (moves p engine (r .d) (nextTickOf r))
 
   unfoldable pub eventsOf : Running → List ℕ
-  eventsOf r = eventsAt p (tickOf r) (r .d) (outputs p r (tickOf r)) (inputsThen p (r .inputs) (tickOf r))
+  eventsOf r = eventsAt p (nextTickOf r) (r .d) (outputs p r (nextTickOf r)) (inputsThen p (r .inputs) (nextTickOf r))

@@ -1,9 +1,9 @@
 -- What is proved of these definitions.
-pub mod Between
+pub mod BetweenLevels
 pub mod Due
 pub mod Next
 pub mod Status
-pub mod Taken
+pub mod InstantFigures
 pub mod Frame
 pub mod Ascending
 pub mod NodeOrder
@@ -15,7 +15,7 @@ pub mod Sizes
 pub mod Levels
 pub mod Positions
 pub mod Steps
-pub mod Moved
+pub mod InstantByRule
 pub mod Soundness
 pub mod Agreement
 pub mod Growth
@@ -23,9 +23,9 @@ pub mod PlainSteps
 pub mod PlainRuns
 pub mod Runs
 pub mod Instants
-pub mod Tested
-pub mod Began
-pub mod Chosen
+pub mod SoundTest
+pub mod StartSound
+pub mod SelectedBlocks
 pub mod EventWords
 pub mod Lengths
 pub mod Shapes

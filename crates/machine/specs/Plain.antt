@@ -29,8 +29,8 @@ pub record Plain : Type 0 where
 
 module _ (p : Plan) where
   -- every integrator gets the slope and the due tick by rule, from its position, the outputs and the input values at a tick
-  unfoldable pub settled : (x q u : List ℤ) (t instants : ℕ) → Plain
-  settled x q u t instants =
+  unfoldable pub withRatesAndDues : (x q u : List ℤ) (t instants : ℕ) → Plain
+  withRatesAndDues x q u t instants =
       let slope = rateOf p q u in
       record {
         x = x;
@@ -45,42 +45,42 @@ module _ (p : Plan) where
 
   -- "Start: x = q = start"
   unfoldable pub plainStart : Plain
-  plainStart = settled (p .integrators .starts) (p .integrators .starts) (p .inputs .firsts) 0 0
+  plainStart = withRatesAndDues (p .integrators .starts) (p .integrators .starts) (p .inputs .firsts) 0 0
 
   -- "Next instant t"
-  unfoldable pub plainTick : Plain → ℕ
-  plainTick m = nextTick p (m .d) (m .next)
+  unfoldable pub plainNextTick : Plain → ℕ
+  plainNextTick plain = nextTick p (plain .d) (plain .next)
 
   -- where integrator i is at the next instant
   unfoldable pub plainPosition : Plain → ℕ → ℤ
-  plainPosition m i = intAt (m .x) i +ℤ intAt (m .s) i *ℤ pos (plainTick m - m .clock)
+  plainPosition plain i = intAt (plain .x) i +ℤ intAt (plain .s) i *ℤ pos (plainNextTick plain - plain .clock)
 
   unfoldable pub plainOutputs : Plain → List ℤ
-  plainOutputs m = row (pos 0) mostIntegrators (p .counts .n) (λ i. cond (isDue (m .d) (plainTick m) i) (plainPosition m i) (intAt (m .q) i))
+  plainOutputs plain = row (pos 0) mostIntegrators (p .counts .n) (λ i. cond (isDue (plain .d) (plainNextTick plain) i) (plainPosition plain i) (intAt (plain .q) i))
 
   -- one instant: all move, the due ones take their position as output, the commands of the tick set their inputs
   unfoldable pub plainInstant : Plain → Plain
-  plainInstant m =
-      settled (row (pos 0) mostIntegrators (p .counts .n) (plainPosition m)) (plainOutputs m) (inputsThen p (m .inputs) (plainTick m)) (plainTick m) (m .instants + 1)
+  plainInstant plain =
+      withRatesAndDues (row (pos 0) mostIntegrators (p .counts .n) (plainPosition plain)) (plainOutputs plain) (inputsThen p (plain .inputs) (plainNextTick plain)) (plainNextTick plain) (plain .instants + 1)
 
   unfoldable pub plainEventsOf : Plain → List ℕ
-  plainEventsOf m = eventsAt p (plainTick m) (m .d) (plainOutputs m) (inputsThen p (m .inputs) (plainTick m))
+  plainEventsOf plain = eventsAt p (plainNextTick plain) (plain .d) (plainOutputs plain) (inputsThen p (plain .inputs) (plainNextTick plain))
 
   unfoldable pub plainStatus : Plain → Status
-  plainStatus m = statusAt p (m .d) (plainTick m) (plainPosition m)
+  plainStatus plain = statusAt p (plain .d) (plainNextTick plain) (plainPosition plain)
 
   -- "the number that step 5 moves for the lazy engine, with the plain machine's due ticks": those due or reached
   unfoldable pub lazyCount : Plain → ℕ
-  lazyCount m = countOf (λ i. isDue (m .d) (plainTick m) i || reached p (m .d) (plainTick m) i) (p .counts .n)
+  lazyCount plain = countOf (λ i. isDue (plain .d) (plainNextTick plain) i || reached p (plain .d) (plainNextTick plain) i) (p .counts .n)
 
   -- "From Start it takes B instants, or fewer if its status is first 1 or 2."
   unfoldable pub plainFrom : ℕ → Plain → Plain
-  plainFrom zero m = m
-  plainFrom (suc b) m = cond (statusPaused (plainStatus m)) (plainFrom b (plainInstant m)) m
+  plainFrom zero plain = plain
+  plainFrom (suc b) plain = cond (statusPaused (plainStatus plain)) (plainFrom b (plainInstant plain)) plain
 
   unfoldable pub plainEventsFrom : ℕ → Plain → List ℕ
-  plainEventsFrom zero m = []
-  plainEventsFrom (suc b) m = cond (statusPaused (plainStatus m)) (plainEventsOf m ++ plainEventsFrom b (plainInstant m)) []
+  plainEventsFrom zero plain = []
+  plainEventsFrom (suc b) plain = cond (statusPaused (plainStatus plain)) (plainEventsOf plain ++ plainEventsFrom b (plainInstant plain)) []
 
   -- fed the budget sum
   unfoldable pub plainAfter : ℕ → Plain

@@ -1,5 +1,5 @@
 -- The same as a proposition: "A sound state", which SoundTest.antt has as a test, its clauses in document 01's order. `sound-means` of
--- Laws/Tested shows that they agree.
+-- Laws/SoundTest shows that they agree.
 use mathlib.Core.Path.{_≡_}
 use Prim.Native.Nat.{ℕ, _*_, _≤_, _<_}
 use lib.IntN.{pos, _-ℤ_}
@@ -9,7 +9,7 @@ use Rattle.integers.specs.Parts.{∣_∣}
 use Rattle.plan.specs.Numbers.{M, mostIntegrators, mostInputs}
 use Rattle.plan.specs.Lists.{natAt, intAt}
 use Rattle.plan.specs.Rules.{Within, PlanRules}
-use Rattle.plan.specs.Unused.{UnusedNat, UnusedInt, PlanUnused}
+use Rattle.plan.specs.Unused.{NatsZeroFrom, IntsZeroFrom, PlanUnusedZero}
 use Rattle.plan.specs.declared.Plan.{Plan}
 use Rattle.machine.specs.Values.{rateOf}
 use Rattle.machine.specs.Due.{dueOf}
@@ -18,13 +18,13 @@ use Rattle.machine.specs.declared.Running.{Running}
 use Rattle.machine.specs.declared.State.{State}
 
 -- "unused entries are 0": those of the running figures; Unused.antt of the crate `plan` has those of the plan
-pub record RunningUnused (p : Plan) (r : Running) : Type 0 where
-  pub x : UnusedInt (p .counts .n) (r .x)
-  pub q : UnusedInt (p .counts .n) (r .q)
-  pub s : UnusedInt (p .counts .n) (r .s)
-  pub l : UnusedNat (p .counts .n) (r .l)
-  pub d : UnusedNat (p .counts .n) (r .d)
-  pub inputs : UnusedInt (p .counts .m) (r .inputs)
+pub record RunningUnusedZero (p : Plan) (r : Running) : Type 0 where
+  pub x : IntsZeroFrom (p .counts .n) (r .x)
+  pub q : IntsZeroFrom (p .counts .n) (r .q)
+  pub s : IntsZeroFrom (p .counts .n) (r .s)
+  pub l : NatsZeroFrom (p .counts .n) (r .l)
+  pub d : NatsZeroFrom (p .counts .n) (r .d)
+  pub inputs : IntsZeroFrom (p .counts .m) (r .inputs)
 
 -- what is asked of integrator i
 pub record SoundIntegrator (p : Plan) (r : Running) (i : ℕ) : Type 0 where
@@ -53,11 +53,11 @@ pub record SoundRunning (p : Plan) (r : Running) : Type 0 where
   pub instants : r .clocks .instants ≤ r .clocks .clock
   pub updates : r .clocks .updates ≤ p .counts .n * r .clocks .instants
   -- "unused entries are 0"
-  pub plan-unused : PlanUnused p
-  pub running-unused : RunningUnused p r
+  pub plan-unused : PlanUnusedZero p
+  pub running-unused : RunningUnusedZero p r
 
 -- the arrays of the running figures have their full width, as those of a struct have
-pub record RunningShaped (r : Running) : Type 0 where
+pub record RunningWidths (r : Running) : Type 0 where
   pub x : length (r .x) ≡ mostIntegrators
   pub q : length (r .q) ≡ mostIntegrators
   pub s : length (r .s) ≡ mostIntegrators

@@ -11,7 +11,7 @@ use Rattle.plan.specs.Numbers.{M}
 use Rattle.plan.specs.Lists.{natAt, intAt, every}
 use Rattle.plan.specs.Tests.{countsKept}
 use Rattle.plan.specs.Refusals.{isClean, planFinding}
-use Rattle.plan.specs.Unused.{unusedNat, unusedInt, planUnused}
+use Rattle.plan.specs.Unused.{natsZeroFrom, intsZeroFrom, planUnusedZero}
 use Rattle.plan.specs.declared.Plan.{Plan}
 use Rattle.machine.specs.Values.{rateOf}
 use Rattle.machine.specs.Due.{upperLevel, lowerLevel, dueOf}
@@ -21,13 +21,13 @@ use Rattle.machine.specs.declared.State.{State}
 
 -- the plan of a state: its counts, its rules 4 to 9, its unused entries
 unfoldable pub planSound : Plan → Bool
-planSound p = countsKept p && isClean (planFinding p) && planUnused p
+planSound p = countsKept p && isClean (planFinding p) && planUnusedZero p
 
 module _ (p : Plan) (r : Running) where
-  unfoldable pub runningUnused : Bool
-  runningUnused =
-      unusedInt (p .counts .n) (r .x) && unusedInt (p .counts .n) (r .q) && unusedInt (p .counts .n) (r .s)
-      && unusedNat (p .counts .n) (r .l) && unusedNat (p .counts .n) (r .d) && unusedInt (p .counts .m) (r .inputs)
+  unfoldable pub runningUnusedZero : Bool
+  runningUnusedZero =
+      intsZeroFrom (p .counts .n) (r .x) && intsZeroFrom (p .counts .n) (r .q) && intsZeroFrom (p .counts .n) (r .s)
+      && natsZeroFrom (p .counts .n) (r .l) && natsZeroFrom (p .counts .n) (r .d) && intsZeroFrom (p .counts .m) (r .inputs)
 
   -- "|x−q| < D" is tested as x strictly between the levels, since x may be any 64-bit number
   unfoldable pub integratorSound : ℕ → Bool
@@ -45,7 +45,7 @@ module _ (p : Plan) (r : Running) where
       && every (λ j. within M (intAt (r .inputs) j)) (p .counts .m)
       && eqb (r .clocks .next) (nextCommand p (r .clocks .clock))
       && leb (r .clocks .instants) (r .clocks .clock) && leb (r .clocks .updates) (p .counts .n * r .clocks .instants)
-      && runningUnused
+      && runningUnusedZero
 
 unfoldable pub isSound : State → Bool
 isSound st = planSound (st .plan) && runningSound (st .plan) (st .run)

@@ -10,7 +10,7 @@ use Rattle.plan.specs.Numbers.{M, never, paused, finished, range}
 use Rattle.plan.specs.Lists.{firstFrom}
 use Rattle.plan.specs.declared.Plan.{Plan}
 use Rattle.machine.specs.Reach.{isDue}
-use Rattle.machine.specs.Instant.{positionAt, tickOf}
+use Rattle.machine.specs.Instant.{positionAt, nextTickOf}
 use Rattle.machine.specs.declared.Running.{Running}
 use Rattle.machine.specs.declared.Status.{Status}
 use Rattle.machine.specs.declared.Status.the-variants.{Paused, Finished, Range}
@@ -50,7 +50,7 @@ statusAt p d t value = statusBy (p .horizon) (p .counts .n) t (barring p d t val
 
 module _ (p : Plan) (r : Running) where
   unfoldable pub statusOf : Status
-  statusOf = statusAt p (r .d) (tickOf p r) (positionAt r (tickOf p r))
+  statusOf = statusAt p (r .d) (nextTickOf p r) (positionAt r (nextTickOf p r))
 
   unfoldable pub isPaused : Bool
   isPaused = statusPaused statusOf

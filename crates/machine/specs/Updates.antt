@@ -14,27 +14,27 @@ use Rattle.machine.specs.declared.Engine.the-variants.{Lazy, Eager}
 -- "At it updates grow by n if that call is eager, else by the number that step 5 moves for the lazy engine, with the plain machine's due
 -- ticks": from the plain machine before the instant
 unfoldable pub growth : Plan → Engine → Plain → ℕ
-growth p Lazy m = lazyCount p m
-growth p Eager m = p .counts .n
+growth p Lazy plain = lazyCount p plain
+growth p Eager plain = p .counts .n
 
--- the growth over the instants 1 to k
+-- the growth over the instants 1 to `last`
 unfoldable pub growthUpTo : Plan → (ℕ → Engine) → ℕ → ℕ
 growthUpTo p engine zero = 0
-growthUpTo p engine (suc k) = growthUpTo p engine k + growth p (engine (k + 1)) (plainAfter p k)
+growthUpTo p engine (suc last) = growthUpTo p engine last + growth p (engine (last + 1)) (plainAfter p last)
 
 -- ---- the same by calls: n for each instant that an eager call took, and the number due or reached for each that a lazy call took
 unfoldable pub isEager : Engine → Bool
 isEager Lazy = false
 isEager Eager = true
 
--- how many of the instants 1 to k an eager call took
+-- how many of the instants 1 to `last` an eager call took
 unfoldable pub eagerInstants : (ℕ → Engine) → ℕ → ℕ
-eagerInstants engine k = countOf (λ i. isEager (engine (i + 1))) k
+eagerInstants engine last = countOf (λ i. isEager (engine (i + 1))) last
 
--- over those of the instants 1 to k that a lazy call took: the number due or reached, added up
+-- over those of the instants 1 to `last` that a lazy call took: the number due or reached, added up
 unfoldable pub lazyMoves : Plan → (ℕ → Engine) → ℕ → ℕ
 lazyMoves p engine zero = 0
-lazyMoves p engine (suc k) = lazyMoves p engine k + cond (isEager (engine (k + 1))) 0 (lazyCount p (plainAfter p k))
+lazyMoves p engine (suc last) = lazyMoves p engine last + cond (isEager (engine (last + 1))) 0 (lazyCount p (plainAfter p last))
 
 -- "the number of integrators with l = c"
 unfoldable pub movedNow : Plan → Running → ℕ

@@ -5,7 +5,7 @@ use Prim.Native.Nat.{ℕ, zero, suc, _+_, _-_}
 use lib.IntN.{ℤ, pos, negℤ, _+ℤ_, _-ℤ_, _*ℤ_}
 use lib.Signed.{leZ}
 use lib.Dec.{ltb, eqb}
-use Rattle.integers.specs.Division.{floored}
+use Rattle.integers.specs.Division.{floor65536}
 use Rattle.integers.specs.Range.{limited}
 use Rattle.plan.specs.Numbers.{M}
 use Rattle.plan.specs.Lists.{natAt, intAt}
@@ -17,10 +17,10 @@ clipped z = limited (negℤ (pos M)) (pos M) z
 
 -- "Node kinds, with a and b the values of A and B: 0 is a−b; 1 is floor(a×b / 65,536); both then clipped to ±M .. 2 is a limited to lo..hi
 -- .. 3 is hi if a ≥ b, else lo."
-unfoldable pub nodeOf : (kind : ℕ) (lo hi a b : ℤ) → ℤ
-nodeOf kind lo hi a b =
+unfoldable pub nodeValue : (kind : ℕ) (lo hi a b : ℤ) → ℤ
+nodeValue kind lo hi a b =
     cond (eqb kind 0) (clipped (a -ℤ b))
-    (cond (eqb kind 1) (clipped (floored (a *ℤ b)))
+    (cond (eqb kind 1) (clipped (floor65536 (a *ℤ b)))
     (cond (eqb kind 2) (limited lo hi a)
     (cond (leZ b a) hi lo)))
 
@@ -32,7 +32,7 @@ module _ (p : Plan) (q u : List ℤ) where
   valueWith zero i = cond (ltb i (p .counts .n)) (intAt q i) (cond (ltb i (p .counts .n + p .counts .m)) (intAt u (i - p .counts .n)) (pos 0))
   valueWith (suc j) i =
       cond (eqb i (p .counts .n + p .counts .m + j))
-      (nodeOf (natAt (p .nodes .kinds) j) (intAt (p .nodes .lows) j) (intAt (p .nodes .highs) j) (valueWith j (natAt (p .nodes .a) j)) (valueWith j (natAt (p .nodes .b) j)))
+      (nodeValue (natAt (p .nodes .kinds) j) (intAt (p .nodes .lows) j) (intAt (p .nodes .highs) j) (valueWith j (natAt (p .nodes .a) j)) (valueWith j (natAt (p .nodes .b) j)))
       (valueWith j i)
 
   -- "Node values are worked out in node order."
@@ -48,4 +48,4 @@ module _ (p : Plan) (q u : List ℤ) where
 
   -- "s = floor(sum of coefficient × source value over its links / 65,536)"
   unfoldable pub rateOf : ℕ → ℤ
-  rateOf i = floored (sumOver i (p .counts .links))
+  rateOf i = floor65536 (sumOver i (p .counts .links))

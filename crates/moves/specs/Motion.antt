@@ -10,7 +10,7 @@ use Rattle.plan.specs.Numbers.{mostIntegrators}
 use Rattle.plan.specs.Lists.{natAt, intAt}
 use Rattle.plan.specs.Numbers.{mostIntegrators}
 use Rattle.machine.specs.Due.{dueTick}
-use Rattle.rates.specs.Links.{rangeRate, Rated}
+use Rattle.rates.specs.Links.{rangeRate, RateReady}
 use Rattle.timing.specs.Ticks.{DueReady, PositionReady}
 
 -- positions, slopes, last-moved ticks and due ticks
@@ -41,7 +41,7 @@ module _ (quanta : List ℤ) (sources : List ℕ) (coefficients : List ℤ) (ran
   -- what that asks
   pub record Movable (i : ℕ) (m : Motion) : Type 0 where
     pub used : i < mostIntegrators
-    pub rated : Rated sources coefficients values (natAt ranges i) (natAt ranges (i + 1))
+    pub rated : RateReady sources coefficients values (natAt ranges i) (natAt ranges (i + 1))
     pub position : PositionReady (intAt (m .x) i) (intAt (m .s) i) (natAt (m .l) i) t
     pub due : DueReady t (placeOf i m) (intAt values i) (intAt quanta i) (slopeOf i)
 

@@ -5,20 +5,20 @@ use lib.IntN.{ℤ}
 use Rattle.words.specs.Word.{wordOf, flat}
 use Rattle.plan.specs.Numbers.{sections, entrySizes, headerLength}
 use Rattle.plan.specs.Lists.{natAt, intAt, joined}
-use Rattle.plan.specs.Tests.{counts}
+use Rattle.plan.specs.Tests.{countList}
 use Rattle.plan.specs.declared.Plan.{Plan}
 
--- of sections with these counts: the length of section k, and its offset
+-- of sections with these counts: the length of a section, and its offset
 abbrev pub lengthFrom : List ℕ → ℕ → ℕ
-lengthFrom counts k = natAt entrySizes k * natAt counts k
+lengthFrom counts section = natAt entrySizes section * natAt counts section
 
 unfoldable pub offsetFrom : List ℕ → ℕ → ℕ
 offsetFrom counts zero = headerLength
-offsetFrom counts (suc k) = offsetFrom counts k + lengthFrom counts k
+offsetFrom counts (suc section) = offsetFrom counts section + lengthFrom counts section
 
 -- the words of the header's pairs, and of an entry of each section: those of links and of commands are two numbers and a signed one
 abbrev pub pairEntry : List ℕ → ℕ → List ℕ
-pairEntry counts k = offsetFrom counts k ∷ lengthFrom counts k ∷ []
+pairEntry counts section = offsetFrom counts section ∷ lengthFrom counts section ∷ []
 
 abbrev pub integratorEntry : List ℤ → List ℤ → ℕ → List ℕ
 integratorEntry starts quanta i = wordOf (intAt starts i) ∷ wordOf (intAt quanta i) ∷ []
@@ -35,14 +35,14 @@ tripleEntry xs ys zs e = natAt xs e ∷ natAt ys e ∷ wordOf (intAt zs e) ∷ [
 
 module _ (p : Plan) where
   unfoldable pub offsetOf : ℕ → ℕ
-  offsetOf k = offsetFrom (counts p) k
+  offsetOf section = offsetFrom (countList p) section
 
   -- the offset behind the last section is the file's length
   unfoldable pub fileLength : ℕ
   fileLength = offsetOf sections
 
   unfoldable pub headerWords : List ℕ
-  headerWords = p .horizon ∷ joined (pairEntry (counts p)) sections
+  headerWords = p .horizon ∷ joined (pairEntry (countList p)) sections
 
   unfoldable pub integratorWords : ℕ → List ℕ
   integratorWords i = integratorEntry (p .integrators .starts) (p .integrators .quanta) i

@@ -15,35 +15,35 @@ unfoldable pub horizonIn : List ℕ → ℕ
 horizonIn file = word file 0
 
 unfoldable pub offsetIn : List ℕ → ℕ → ℕ
-offsetIn file k = word file (4 + 8 * k)
+offsetIn file section = word file (4 + 8 * section)
 
 unfoldable pub lengthIn : List ℕ → ℕ → ℕ
-lengthIn file k = word file (8 + 8 * k)
+lengthIn file section = word file (8 + 8 * section)
 
--- "The first offset is 44, each next offset is the previous offset plus length": where section k is to start; of the number behind the
+-- "The first offset is 44, each next offset is the previous offset plus length": where a section is to start; of the number behind the
 -- last section, where the file is to end
-unfoldable pub startIn : List ℕ → ℕ → ℕ
-startIn file zero = headerLength
-startIn file (suc k) = offsetIn file k + lengthIn file k
+unfoldable pub requiredOffset : List ℕ → ℕ → ℕ
+requiredOffset file zero = headerLength
+requiredOffset file (suc section) = offsetIn file section + lengthIn file section
 
 unfoldable pub countIn : List ℕ → ℕ → ℕ
-countIn file k = lengthIn file k / natAt entrySizes k
+countIn file section = lengthIn file section / natAt entrySizes section
 
 -- `size` bytes of a file from `offset` on
 unfoldable pub part : List ℕ → ℕ → ℕ → List ℕ
 part file offset size = take size (drop offset file)
 
 unfoldable pub sectionIn : List ℕ → ℕ → List ℕ
-sectionIn file k = part file (offsetIn file k) (lengthIn file k)
+sectionIn file section = part file (offsetIn file section) (lengthIn file section)
 
 -- one column of a section as an array of `wide` entries: word number `column` of each of `count` entries of `size` bytes by a reading of words,
 -- and a zero in the unused entries
 unfoldable pub columnOf : {A : Type 0} (unused : A) (read : List ℕ → ℕ → A) (wide size count : ℕ) (section : List ℕ) (column : ℕ) → List A
 columnOf unused read wide size count section column = row unused wide count (λ i. read section (size * i + 4 * column))
 
--- of section k of a file
-unfoldable pub columnIn : {A : Type 0} (unused : A) (read : List ℕ → ℕ → A) (file : List ℕ) (k column : ℕ) → List A
-columnIn unused read file k = columnOf unused read (natAt largestCounts k) (natAt entrySizes k) (countIn file k) (sectionIn file k)
+-- of a section of a file
+unfoldable pub columnIn : {A : Type 0} (unused : A) (read : List ℕ → ℕ → A) (file : List ℕ) (section column : ℕ) → List A
+columnIn unused read file section = columnOf unused read (natAt largestCounts section) (natAt entrySizes section) (countIn file section) (sectionIn file section)
 
 -- a number that is not signed, among the integers
 abbrev pub unsignedWord : List ℕ → ℕ → ℤ
@@ -103,7 +103,7 @@ planIn file =
     }
 
 -- the arrays of a plan have their full width, as those of a struct have
-pub record Shaped (p : Plan) : Type 0 where
+pub record PlanWidths (p : Plan) : Type 0 where
   pub starts : length (p .integrators .starts) ≡ mostIntegrators
   pub quanta : length (p .integrators .quanta) ≡ mostIntegrators
   pub firsts : length (p .inputs .firsts) ≡ mostInputs

@@ -11,5 +11,5 @@ pub mod Unused
 pub mod Places
 pub mod Idle
 pub mod Laws
-pub mod Cases
-pub mod Files
+pub mod ExampleTables
+pub mod ExampleFiles

@@ -18,9 +18,9 @@ unfoldable pub table {ℓ} : {A : Type ℓ} → ℕ → (ℕ → A) → List A
 table zero f = []
 table (suc w) f = f zero ∷ table w (λ i. f (suc i))
 
--- an array of w entries of which k are used: f 0, .., f (k - 1), and z in the unused ones
-unfoldable pub row {ℓ} : {A : Type ℓ} (z : A) (w k : ℕ) (f : ℕ → A) → List A
-row z w k f = table w (λ i. cond (ltb i k) (f i) z)
+-- an array of w entries of which `used` are used: f 0, .., f (used - 1), and z in the unused ones
+unfoldable pub row {ℓ} : {A : Type ℓ} (z : A) (w used : ℕ) (f : ℕ → A) → List A
+row z w used f = table w (λ i. cond (ltb i used) (f i) z)
 
 -- f 0, f 1, .., f (n - 1), one behind the other
 unfoldable pub joined {ℓ} : {A : Type ℓ} → (ℕ → List A) → ℕ → List A

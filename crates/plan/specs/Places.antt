@@ -12,10 +12,10 @@ use Rattle.plan.specs.declared.Plan.{Plan}
 -- "Header, 44 bytes: horizon .., then five pairs of offset and length", of any file
 pub record HeaderPlaces (file : List ℕ) : Type 0 where
   pub horizon : planIn file .horizon ≡ word file 0
-  pub offset : (k : ℕ) → offsetIn file k ≡ word file (4 + 8 * k)
-  pub size : (k : ℕ) → lengthIn file k ≡ word file (8 + 8 * k)
+  pub offset : (section : ℕ) → offsetIn file section ≡ word file (4 + 8 * section)
+  pub size : (section : ℕ) → lengthIn file section ≡ word file (8 + 8 * section)
   -- how many entries a section has, by the length of an entry; refusal 3 speaks of it
-  pub count : (k : ℕ) → countIn file k ≡ word file (8 + 8 * k) / natAt (8 ∷ 4 ∷ 20 ∷ 12 ∷ 12 ∷ []) k
+  pub count : (section : ℕ) → countIn file section ≡ word file (8 + 8 * section) / natAt (8 ∷ 4 ∷ 20 ∷ 12 ∷ 12 ∷ []) section
 
 -- where each number of a file stands whose sections are of the right size: the counts by the lengths, and the entries behind their sections'
 -- offsets

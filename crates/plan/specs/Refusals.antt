@@ -6,8 +6,8 @@ use Prim.Native.Nat.{ℕ, zero, suc, _+_}
 use lib.Dec.{ltb, eqb}
 use Rattle.plan.specs.Numbers.{sections, acceptance, refusedShort, refusedOffsets, refusedSizes, refusedHorizon, refusedIntegrator, refusedInput, refusedNode, refusedLink, refusedCommand}
 use Rattle.plan.specs.Format.{offsetIn, sectionIn, planIn}
-use Rattle.plan.specs.Tests.{longEnough, offsetsKept, sizesKept, horizonKept, integratorKept, inputKept, nodeKept, linkLimits}
-use Rattle.plan.specs.Tests.{linkOrdered, commandLimits, commandOrdered}
+use Rattle.plan.specs.Tests.{longEnough, offsetsKept, sizesKept, horizonKept, integratorKept, inputKept, nodeKept, linkLimitsKept}
+use Rattle.plan.specs.Tests.{linkOrdered, commandLimitsKept, commandOrdered}
 use Rattle.plan.specs.declared.Plan.{Plan}
 use Rattle.plan.specs.declared.Finding.{Finding}
 use Rattle.plan.specs.declared.Finding.the-variants.{Clean, Short, Offsets, Sizes, Horizon, Integrator, Input, Node, Link, Command}
@@ -69,10 +69,10 @@ module _ (p : Plan) where
   nodesFinding = firstFinding (λ j. unless (nodeKept p j) (Node j)) 0 (p .counts .k)
 
   unfoldable pub linksFinding : Finding
-  linksFinding = firstFinding (λ e. unless (linkLimits p e && linkOrdered p e) (Link e)) 0 (p .counts .links)
+  linksFinding = firstFinding (λ e. unless (linkLimitsKept p e && linkOrdered p e) (Link e)) 0 (p .counts .links)
 
   unfoldable pub commandsFinding : Finding
-  commandsFinding = firstFinding (λ e. unless (commandLimits p e && commandOrdered p e) (Command e)) 0 (p .counts .commands)
+  commandsFinding = firstFinding (λ e. unless (commandLimitsKept p e && commandOrdered p e) (Command e)) 0 (p .counts .commands)
 
   -- the rules 4 to 9 of a plan, in order
   unfoldable pub planFinding : Finding

@@ -1,5 +1,5 @@
 -- The same as a proposition: the rules of "Plan file", which Tests.antt has as tests, in document 01's words, and the list of them by
--- refusal number. Laws/KeptFile and Laws/Kept show that each test means its rule.
+-- refusal number. Laws/FileTests and Laws/PlanTests show that each test means its rule.
 use mathlib.Core.Path.{_≡_}
 use mathlib.Core.Logic.{_⊎_}
 use mathlib.Core.List.{List, [], _∷_}
@@ -11,30 +11,30 @@ use Rattle.plan.specs.Numbers.{M, largestCoefficient, largestHorizon, se
 use Rattle.plan.specs.Lists.{natAt, intAt}
 use Rattle.plan.specs.Format.{offsetIn, lengthIn}
 use Rattle.plan.specs.Format.{countIn, planIn}
-use Rattle.plan.specs.Tests.{counts}
+use Rattle.plan.specs.Tests.{countList}
 use Rattle.plan.specs.declared.Plan.{Plan}
 
 -- a number lies within ±b
 abbrev pub Within : ℕ → ℤ → Type 0
 Within b z = (negℤ (pos b) ≤ℤ z) × (z ≤ℤ pos b)
 
--- a count is inside the limits of section k
+-- a count is inside the limits of a section
 abbrev pub CountRule : ℕ → ℕ → Type 0
-CountRule k count = (natAt leastCounts k ≤ count) × (count ≤ natAt largestCounts k)
+CountRule section count = (natAt leastCounts section ≤ count) × (count ≤ natAt largestCounts section)
 
 -- "Strictly ascending by" xs, "then" ys: entry e stands above its predecessor
-abbrev pub Ascends : List ℕ → List ℕ → ℕ → Type 0
-Ascends xs ys e = (d : ℕ) → suc d ≡ e → (natAt xs d < natAt xs e) ⊎ ((natAt xs d ≡ natAt xs e) × (natAt ys d < natAt ys e))
+abbrev pub AscendsAt : List ℕ → List ℕ → ℕ → Type 0
+AscendsAt xs ys e = (before : ℕ) → suc before ≡ e → (natAt xs before < natAt xs e) ⊎ ((natAt xs before ≡ natAt xs e) × (natAt ys before < natAt ys e))
 
 module _ (file : List ℕ) where
   pub record OffsetRule : Type 0 where
     pub first : offsetIn file 0 ≡ headerLength
-    pub next : (k : ℕ) → suc k < sections → offsetIn file (suc k) ≡ offsetIn file k + lengthIn file k
-    pub last : (k : ℕ) → suc k ≡ sections → length file ≡ offsetIn file k + lengthIn file k
+    pub next : (section : ℕ) → suc section < sections → offsetIn file (suc section) ≡ offsetIn file section + lengthIn file section
+    pub last : (section : ℕ) → suc section ≡ sections → length file ≡ offsetIn file section + lengthIn file section
 
   pub record SizeRule : Type 0 where
-    pub whole : (k : ℕ) → k < sections → lengthIn file k % natAt entrySizes k ≡ 0
-    pub count : (k : ℕ) → k < sections → CountRule k (countIn file k)
+    pub whole : (section : ℕ) → section < sections → lengthIn file section % natAt entrySizes section ≡ 0
+    pub count : (section : ℕ) → section < sections → CountRule section (countIn file section)
 
 module _ (p : Plan) where
   abbrev pub HorizonRule : Type 0
@@ -42,7 +42,7 @@ module _ (p : Plan) where
 
   -- the counts of a plan that comes in no file
   abbrev pub CountsRule : Type 0
-  CountsRule = (k : ℕ) → k < sections → CountRule k (natAt (counts p) k)
+  CountsRule = (section : ℕ) → section < sections → CountRule section (natAt (countList p) section)
 
   pub record IntegratorRule (i : ℕ) : Type 0 where
     pub start : Within M (intAt (p .integrators .starts) i)
@@ -74,14 +74,14 @@ module _ (p : Plan) where
     pub source : natAt (p .links .sources) e < p .counts .n + p .counts .m + p .counts .k
     pub nonzero : intAt (p .links .coefficients) e ≡ pos 0 → ⊥
     pub coefficient : Within largestCoefficient (intAt (p .links .coefficients) e)
-    pub order : Ascends (p .links .targets) (p .links .sources) e
+    pub order : AscendsAt (p .links .targets) (p .links .sources) e
 
   pub record CommandRule (e : ℕ) : Type 0 where
     pub least : 1 ≤ natAt (p .commands .ticks) e
     pub most : natAt (p .commands .ticks) e ≤ p .horizon
     pub number : natAt (p .commands .inputs) e < p .counts .m
     pub value : Within M (intAt (p .commands .values) e)
-    pub order : Ascends (p .commands .ticks) (p .commands .inputs) e
+    pub order : AscendsAt (p .commands .ticks) (p .commands .inputs) e
 
   -- "its plan keeps all rules above"
   pub record PlanRules : Type 0 where
@@ -116,20 +116,20 @@ module _ (file : List ℕ) where
       let p = planIn file in
       0 ∷ 1 ∷ 1 ∷ 1 ∷ 1 ∷ p .counts .n ∷ p .counts .m ∷ p .counts .k ∷ p .counts .links ∷ p .counts .commands ∷ []
 
-  -- entry e keeps the rule of refusal number k, and every entry keeps it
+  -- entry e keeps the rule of a refusal number, and every entry keeps it
   abbrev pub Rule : ℕ → ℕ → Type 0
-  Rule k e = getD rules k (λ _. Unit {0}) e
+  Rule number e = getD rules number (λ _. Unit {0}) e
 
   abbrev pub Holds : ℕ → Type 0
-  Holds k = (e : ℕ) → e < natAt ruleEntries k → Rule k e
+  Holds number = (e : ℕ) → e < natAt ruleEntries number → Rule number e
 
 -- what number and entry mean, by the rules as propositions
 pub record Answered (file : List ℕ) (number entry : ℕ) : Type 0 where
   pub known : number ≤ 9
   -- number 0: every entry keeps every rule, and the entry is 0
-  pub accepts : number ≡ 0 → ((k : ℕ) → Holds file k) × (entry ≡ 0)
+  pub accepts : number ≡ 0 → ((rule : ℕ) → Holds file rule) × (entry ≡ 0)
   -- any other: the rules of lower numbers hold; the entry is one of its rule's, those below it keep the rule, and it breaks it
-  pub earlier : (k : ℕ) → k < number → Holds file k
+  pub earlier : (rule : ℕ) → rule < number → Holds file rule
   pub there : 0 < number → entry < natAt (ruleEntries file) number
   pub lowest : (e : ℕ) → e < entry → Rule file number e
   pub broken : 0 < number → Rule file number entry → ⊥

@@ -11,7 +11,7 @@ use Rattle.integers.specs.Parts.{∣_∣}
 use Rattle.integers.specs.Range.{within}
 use Rattle.plan.specs.Numbers.{M, largestCoefficient, largestHorizon, sections, entrySizes, leastCounts, largestCounts, headerLength}
 use Rattle.plan.specs.Lists.{natAt, intAt, every}
-use Rattle.plan.specs.Format.{offsetIn, lengthIn, startIn, countIn}
+use Rattle.plan.specs.Format.{offsetIn, lengthIn, requiredOffset, countIn}
 use Rattle.plan.specs.declared.Plan.{Plan}
 
 -- ---- the file
@@ -20,15 +20,15 @@ longEnough file = leb headerLength (length file)
 
 -- "The first offset is 44, each next offset is the previous offset plus length, the last section ends the file."
 unfoldable pub offsetsKept : List ℕ → Bool
-offsetsKept file = every (λ k. eqb (offsetIn file k) (startIn file k)) sections && eqb (length file) (startIn file sections)
+offsetsKept file = every (λ section. eqb (offsetIn file section) (requiredOffset file section)) sections && eqb (length file) (requiredOffset file sections)
 
 -- a count is inside its section's limits
 unfoldable pub countKept : ℕ → ℕ → Bool
-countKept k count = leb (natAt leastCounts k) count && leb count (natAt largestCounts k)
+countKept section count = leb (natAt leastCounts section) count && leb count (natAt largestCounts section)
 
 -- a section is a whole number of entries, and their count is inside its limits
 unfoldable pub sizesKept : List ℕ → Bool
-sizesKept file = every (λ k. eqb (lengthIn file k % natAt entrySizes k) 0 && countKept k (countIn file k)) sections
+sizesKept file = every (λ section. eqb (lengthIn file section % natAt entrySizes section) 0 && countKept section (countIn file section)) sections
 
 -- ---- the plan
 -- "horizon (a tick, 1 to 2,000,000,000)"
@@ -42,8 +42,8 @@ integratorTest start quantum = within M start && leZ (pos 1) quantum && leZ quan
 
 -- The rule of a node's kind. A node's own source number is `own`, so "integrators, inputs or lower-numbered nodes" are the sources below it.
 -- Kinds 0 and 1: "with lo and hi 0". Kind 2: "lo ≤ hi, B is 0 and names nothing". Kinds 2 and 3: "lo and hi lie within ±M".
-unfoldable pub kindKept : (own kind a b : ℕ) (lo hi : ℤ) → Bool
-kindKept own kind a b lo hi =
+unfoldable pub nodeTest : (own kind a b : ℕ) (lo hi : ℤ) → Bool
+nodeTest own kind a b lo hi =
     ltb a own &&
     cond (leb kind 1) (ltb b own && eqb ∣ lo ∣ 0 && eqb ∣ hi ∣ 0)
     (within M lo && within M hi && cond (eqb kind 2) (eqb b 0 && leZ lo hi) (eqb kind 3 && ltb b own))
@@ -57,21 +57,21 @@ linkTest n all target source coefficient =
 abbrev pub commandTest : (horizon m tick number : ℕ) (value : ℤ) → Bool
 commandTest horizon m tick number value = leb 1 tick && leb tick horizon && ltb number m && within M value
 
--- (a, b) stands before (c, d): by the first, then by the second
-unfoldable pub ascends : (a b c d : ℕ) → Bool
-ascends a b c d = ltb a c || (eqb a c && ltb b d)
+-- a pair stands before the next pair: by the first number, then by the second
+unfoldable pub pairAscends : (first second nextFirst nextSecond : ℕ) → Bool
+pairAscends first second nextFirst nextSecond = ltb first nextFirst || (eqb first nextFirst && ltb second nextSecond)
 
 -- "Strictly ascending by" xs, "then" ys: entry e stands above its predecessor, if it has one
-abbrev pub follows : List ℕ → List ℕ → ℕ → Bool
-follows xs ys e = eqb e 0 || ascends (natAt xs (e - 1)) (natAt ys (e - 1)) (natAt xs e) (natAt ys e)
+abbrev pub ascendsAt : List ℕ → List ℕ → ℕ → Bool
+ascendsAt xs ys e = eqb e 0 || pairAscends (natAt xs (e - 1)) (natAt ys (e - 1)) (natAt xs e) (natAt ys e)
 
 module _ (p : Plan) where
   -- the counts in the order of the sections
-  unfoldable pub counts : List ℕ
-  counts = p .counts .n ∷ p .counts .m ∷ p .counts .k ∷ p .counts .links ∷ p .counts .commands ∷ []
+  unfoldable pub countList : List ℕ
+  countList = p .counts .n ∷ p .counts .m ∷ p .counts .k ∷ p .counts .links ∷ p .counts .commands ∷ []
 
   unfoldable pub countsKept : Bool
-  countsKept = every (λ k. countKept k (natAt counts k)) sections
+  countsKept = every (λ section. countKept section (natAt countList section)) sections
 
   unfoldable pub integratorKept : ℕ → Bool
   integratorKept i = integratorTest (intAt (p .integrators .starts) i) (intAt (p .integrators .quanta) i)
@@ -82,20 +82,20 @@ module _ (p : Plan) where
 
   unfoldable pub nodeKept : ℕ → Bool
   nodeKept j =
-      kindKept (p .counts .n + p .counts .m + j) (natAt (p .nodes .kinds) j) (natAt (p .nodes .a) j) (natAt (p .nodes .b) j) (intAt (p .nodes .lows) j) (intAt (p .nodes .highs) j)
+      nodeTest (p .counts .n + p .counts .m + j) (natAt (p .nodes .kinds) j) (natAt (p .nodes .a) j) (natAt (p .nodes .b) j) (intAt (p .nodes .lows) j) (intAt (p .nodes .highs) j)
 
   -- "Links may name any source."
-  unfoldable pub linkLimits : ℕ → Bool
-  linkLimits e =
+  unfoldable pub linkLimitsKept : ℕ → Bool
+  linkLimitsKept e =
       linkTest (p .counts .n) (p .counts .n + p .counts .m + p .counts .k) (natAt (p .links .targets) e) (natAt (p .links .sources) e) (intAt (p .links .coefficients) e)
 
   -- "Strictly ascending by target, then source."
   unfoldable pub linkOrdered : ℕ → Bool
-  linkOrdered e = follows (p .links .targets) (p .links .sources) e
+  linkOrdered e = ascendsAt (p .links .targets) (p .links .sources) e
 
-  unfoldable pub commandLimits : ℕ → Bool
-  commandLimits e = commandTest (p .horizon) (p .counts .m) (natAt (p .commands .ticks) e) (natAt (p .commands .inputs) e) (intAt (p .commands .values) e)
+  unfoldable pub commandLimitsKept : ℕ → Bool
+  commandLimitsKept e = commandTest (p .horizon) (p .counts .m) (natAt (p .commands .ticks) e) (natAt (p .commands .inputs) e) (intAt (p .commands .values) e)
 
   -- "Strictly ascending by tick, then input."
   unfoldable pub commandOrdered : ℕ → Bool
-  commandOrdered e = follows (p .commands .ticks) (p .commands .inputs) e
+  commandOrdered e = ascendsAt (p .commands .ticks) (p .commands .inputs) e

@@ -1,4 +1,4 @@
 -- What is proved of these definitions.
-pub mod Filling
+pub mod ColumnLoops
 pub mod Reading
 pub mod Sections

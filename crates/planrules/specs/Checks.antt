@@ -8,7 +8,7 @@ use lib.IntN.{ℤ}
 use Rattle.integers.specs.Range.{within}
 use Rattle.plan.specs.Numbers.{M}
 use Rattle.plan.specs.Lists.{natAt, intAt}
-use Rattle.plan.specs.Tests.{integratorTest, kindKept, linkTest, commandTest, follows}
+use Rattle.plan.specs.Tests.{integratorTest, nodeTest, linkTest, commandTest, ascendsAt}
 use Rattle.plan.specs.Refusals.{unless, firstFinding}
 use Rattle.plan.specs.declared.Finding.{Finding}
 use Rattle.plan.specs.declared.Finding.the-variants.{Integrator, Input, Node, Link, Command}
@@ -32,7 +32,7 @@ inputsCheck m firsts = checked (inputAt firsts) Input m
 -- `base` is n + m, the source number of node 0
 abbrev pub nodeAt : (base : ℕ) (kinds a b : List ℕ) (lows highs : List ℤ) (e : ℕ) → Bool
 nodeAt base kinds a b lows highs e =
-    kindKept (base + e) (natAt kinds e) (natAt a e) (natAt b e) (intAt lows e) (intAt highs e)
+    nodeTest (base + e) (natAt kinds e) (natAt a e) (natAt b e) (intAt lows e) (intAt highs e)
 
 abbrev pub nodesCheck : (base k : ℕ) (kinds a b : List ℕ) (lows highs : List ℤ) → Finding
 nodesCheck base k kinds a b lows highs = checked (nodeAt base kinds a b lows highs) Node k
@@ -42,7 +42,7 @@ abbrev pub linkLimitsAt : (n all : ℕ) (targets sources : List ℕ) (coefficien
 linkLimitsAt n all targets sources coefficients e = linkTest n all (natAt targets e) (natAt sources e) (intAt coefficients e)
 
 abbrev pub linkAt : (n all : ℕ) (targets sources : List ℕ) (coefficients : List ℤ) (e : ℕ) → Bool
-linkAt n all targets sources coefficients e = linkLimitsAt n all targets sources coefficients e && follows targets sources e
+linkAt n all targets sources coefficients e = linkLimitsAt n all targets sources coefficients e && ascendsAt targets sources e
 
 abbrev pub linksCheck : (n all links : ℕ) (targets sources : List ℕ) (coefficients : List ℤ) → Finding
 linksCheck n all links targets sources coefficients = checked (linkAt n all targets sources coefficients) Link links
@@ -51,7 +51,7 @@ abbrev pub commandLimitsAt : (horizon m : ℕ) (ticks inputs : List ℕ) (values
 commandLimitsAt horizon m ticks inputs values e = commandTest horizon m (natAt ticks e) (natAt inputs e) (intAt values e)
 
 abbrev pub commandAt : (horizon m : ℕ) (ticks inputs : List ℕ) (values : List ℤ) (e : ℕ) → Bool
-commandAt horizon m ticks inputs values e = commandLimitsAt horizon m ticks inputs values e && follows ticks inputs e
+commandAt horizon m ticks inputs values e = commandLimitsAt horizon m ticks inputs values e && ascendsAt ticks inputs e
 
 abbrev pub commandsCheck : (horizon m commands : ℕ) (ticks inputs : List ℕ) (values : List ℤ) → Finding
 commandsCheck horizon m commands ticks inputs values = checked (commandAt horizon m ticks inputs values) Command commands

@@ -9,15 +9,15 @@ ghost use Rattle.plan.specs.Rules.{CountsRule};
 ghost use Rattle.plan.specs.Refusals.{isClean, unless, orElse, planFinding};
 ghost use Rattle.plan.specs.declared.Finding.the-variants.{Horizon};
 ghost use Rattle.planrules.specs.Checks.{integratorsCheck, inputsCheck, nodesCheck, linksCheck, commandsCheck};
-use entryrules::command_limits;
+use entryrules::command_limits_kept;
 use entryrules::command_ordered;
 use entryrules::counts_kept;
 use entryrules::horizon_kept;
 use entryrules::integrator_kept;
-use entryrules::link_limits;
+use entryrules::link_limits_kept;
 use entryrules::link_ordered;
 use entryrules::node_kept;
-use entryrules::value_kept;
+use entryrules::value_within_m;
 use plan::COMMANDS;
 use plan::Finding;
 use plan::INPUTS;
@@ -63,7 +63,7 @@ fn check_inputs(m: usize, firsts: &[i64; INPUTS]) -> Finding
 {
     let mut j = 0;
     while j < m {
-        if !value_kept(firsts[j]) {
+        if !value_within_m(firsts[j]) {
             return Finding::Input(j);
         }
         j += 1;
@@ -108,7 +108,7 @@ fn check_links<'a>(
 {
     let mut e = 0;
     while e < links {
-        if !link_limits(n, all, targets[e], sources[e], coefficients[e]) {
+        if !link_limits_kept(n, all, targets[e], sources[e], coefficients[e]) {
             return Finding::Link(e);
         }
         if !link_ordered(e, targets, sources) {
@@ -161,7 +161,7 @@ fn check_commands<'a>(
 {
     let mut e = 0;
     while e < commands {
-        if !command_limits(horizon, m, ticks[e], inputs[e], values[e]) {
+        if !command_limits_kept(horizon, m, ticks[e], inputs[e], values[e]) {
             return Finding::Command(e);
         }
         if !command_ordered(e, ticks, inputs) {

@@ -1,4 +1,4 @@
--- Model of the code: what the writers of the header ask, that the counts are limited. `limited` of Laws/Header shows it for every plan that
+-- Model of the code: what the writers of the header ask, that the counts are limited. `counts-within-limits` of Laws/Header shows it for every plan that
 -- keeps the rules.
 use mathlib.Core.List.{List}
 use Prim.Native.Nat.{ℕ, _≤_, _<_}
@@ -6,5 +6,5 @@ use Rattle.plan.specs.Numbers.{sections, largestCounts}
 use Rattle.plan.specs.Lists.{natAt}
 
 -- no count is above its section's limit
-abbrev pub Limited : List ℕ → Type 0
-Limited counts = (k : ℕ) → k < sections → natAt counts k ≤ natAt largestCounts k
+abbrev pub CountsWithinLimits : List ℕ → Type 0
+CountsWithinLimits counts = (k : ℕ) → k < sections → natAt counts k ≤ natAt largestCounts k

@@ -1,4 +1,4 @@
 -- What is proved of these definitions.
 pub mod Header
 pub mod Plans
-pub mod Stages
+pub mod SectionWriting

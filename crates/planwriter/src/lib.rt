@@ -8,7 +8,7 @@ ghost use Rattle.plan.specs.Numbers.{sections, headerLength};
 ghost use Rattle.plan.specs.Lists.{joined};
 ghost use Rattle.plan.specs.Rules.{PlanRules};
 ghost use Rattle.plan.specs.Encoding.{lengthFrom, offsetFrom, pairEntry};
-ghost use Rattle.planwriter.specs.Header.{Limited};
+ghost use Rattle.planwriter.specs.Header.{CountsWithinLimits};
 ghost use Rattle.planwriter.specs.Plans.{planWritten, writtenBuffer};
 use entryrules::entry_size;
 use plan::HEADER_LENGTH;
@@ -32,7 +32,7 @@ fn write_pair(buf: &mut [u8], offset: usize, size: usize)
 
 // The bytes of a section, by the counts of the five sections.
 fn section_length(counts: &[usize; SECTIONS], section: usize) -> usize
-    requires { ⌜ (section < sections) × Limited (now counts) ⌝ }
+    requires { ⌜ (section < sections) × CountsWithinLimits (now counts) ⌝ }
     ensures { λ r. ⌜ r ≡ lengthFrom (now (counts .entry)) section ⌝ }
 {
     entry_size(section) as usize * counts[section]
@@ -40,7 +40,7 @@ fn section_length(counts: &[usize; SECTIONS], section: usize) -> usize
 
 // Where a section starts; of the number behind the last section, the length of the file.
 fn section_offset(counts: &[usize; SECTIONS], section: usize) -> usize
-    requires { ⌜ (section ≤ sections) × Limited (now counts) ⌝ }
+    requires { ⌜ (section ≤ sections) × CountsWithinLimits (now counts) ⌝ }
     ensures { λ r. ⌜ r ≡ offsetFrom (now (counts .entry)) section ⌝ }
 {
     let mut offset = HEADER_LENGTH;
@@ -54,7 +54,7 @@ fn section_offset(counts: &[usize; SECTIONS], section: usize) -> usize
 
 // The header's pairs, one for each section.
 fn write_pairs(buf: &mut [u8], counts: &[usize; SECTIONS])
-    requires { ⌜ (8 * sections ≤ length (now buf)) × Limited (now counts) ⌝ }
+    requires { ⌜ (8 * sections ≤ length (now buf)) × CountsWithinLimits (now counts) ⌝ }
     ensures { λ _. ⌜ now (buf .exit) ≡ written (joined (pairEntry (now (counts .entry))) sections) (now (buf .entry)) ⌝ }
 {
     let mut section = 0;
@@ -68,7 +68,7 @@ fn write_pairs(buf: &mut [u8], counts: &[usize; SECTIONS])
 
 // The header: the horizon, then the pairs.
 fn write_header(buf: &mut [u8], horizon: u32, counts: &[usize; SECTIONS])
-    requires { ⌜ (headerLength ≤ length (now buf)) × Limited (now counts) ⌝ }
+    requires { ⌜ (headerLength ≤ length (now buf)) × CountsWithinLimits (now counts) ⌝ }
     ensures { λ _. ⌜ now (buf .exit) ≡ written (horizon ∷ joined (pairEntry (now (counts .entry))) sections) (now (buf .entry)) ⌝ }
 {
     write_u32(buf, 0, horizon as u64);

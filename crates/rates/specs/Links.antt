@@ -5,7 +5,7 @@ use Prim.Native.Nat.{ℕ, zero, suc, _+_, _-_, _≤_, _<_}
 use lib.IntN.{ℤ, pos, _+ℤ_, _*ℤ_}
 use lib.Dec.{leb}
 use Rattle.integers.specs.Parts.{∣_∣}
-use Rattle.integers.specs.Division.{floored}
+use Rattle.integers.specs.Division.{floor65536}
 use Rattle.plan.specs.Numbers.{M, largestCoefficient, mostIntegrators, mostLinks, sourceWidth}
 use Rattle.plan.specs.Lists.{natAt, intAt, row, firstFrom}
 use Rattle.plan.specs.declared.Plan.{Plan}
@@ -22,17 +22,17 @@ rangesOf p = row 0 (mostIntegrators + 1) (p .counts .n + 1) (firstLink (p .links
 abbrev pub term : (sources : List ℕ) (coefficients values : List ℤ) (e : ℕ) → ℤ
 term sources coefficients values e = intAt coefficients e *ℤ intAt values (natAt sources e)
 
--- f a, .., f (a + d - 1), added up
+-- f from, .., f (from + count - 1), added up
 unfoldable pub sumFrom : (ℕ → ℤ) → ℕ → ℕ → ℤ
-sumFrom f a zero = pos 0
-sumFrom f a (suc d) = sumFrom f a d +ℤ f (a + d)
+sumFrom f from zero = pos 0
+sumFrom f from (suc count) = sumFrom f from count +ℤ f (from + count)
 
 -- the rate by the links from .. to
 unfoldable pub rangeRate : (sources : List ℕ) (coefficients values : List ℤ) (from to : ℕ) → ℤ
-rangeRate sources coefficients values from to = floored (sumFrom (term sources coefficients values) from (to - from))
+rangeRate sources coefficients values from to = floor65536 (sumFrom (term sources coefficients values) from (to - from))
 
 -- what that asks: at most 256 links, and terms that are not beyond 2^54
-pub record Rated (sources : List ℕ) (coefficients values : List ℤ) (from to : ℕ) : Type 0 where
+pub record RateReady (sources : List ℕ) (coefficients values : List ℤ) (from to : ℕ) : Type 0 where
   pub order : from ≤ to
   pub few : to ≤ mostLinks
   pub known : (e : ℕ) → e < to → natAt sources e < sourceWidth
@@ -40,5 +40,5 @@ pub record Rated (sources : List ℕ) (coefficients values : List ℤ) (from to 
   pub sized : (i : ℕ) → ∣ intAt values i ∣ ≤ M
 
 -- of the first n integrators, by the table of ranges
-abbrev pub AllRated : (n : ℕ) (ranges sources : List ℕ) (coefficients values : List ℤ) → Type 0
-AllRated n ranges sources coefficients values = (i : ℕ) → i < n → Rated sources coefficients values (natAt ranges i) (natAt ranges (i + 1))
+abbrev pub RatesReady : (n : ℕ) (ranges sources : List ℕ) (coefficients values : List ℤ) → Type 0
+RatesReady n ranges sources coefficients values = (i : ℕ) → i < n → RateReady sources coefficients values (natAt ranges i) (natAt ranges (i + 1))

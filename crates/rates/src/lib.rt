@@ -6,7 +6,7 @@ ghost use lib.IntN.{pos};
 ghost use lib.Dec.{leb};
 ghost use Rattle.plan.specs.Numbers.{mostIntegrators, mostLinks};
 ghost use Rattle.plan.specs.Lists.{natAt, row, firstFrom};
-ghost use Rattle.rates.specs.Links.{firstLink, rangeRate, Rated, AllRated};
+ghost use Rattle.rates.specs.Links.{firstLink, rangeRate, RateReady, RatesReady};
 use integers::floor_65536;
 use plan::INTEGRATORS;
 use plan::LINKS;
@@ -51,7 +51,7 @@ pub fn rate<'a>(
     coefficients: &'a [i64; LINKS],
     values: &'a [i64; SOURCES],
 ) -> i64
-    requires { ⌜ Rated (now sources) (now coefficients) (now values) from to ⌝ }
+    requires { ⌜ RateReady (now sources) (now coefficients) (now values) from to ⌝ }
     ensures { λ r. ⌜ r ≡ rangeRate (now (sources .entry)) (now (coefficients .entry)) (now (values .entry)) from to ⌝ }
 {
     let mut sum: i64 = 0;
@@ -71,7 +71,7 @@ pub fn rates<'a>(
     coefficients: &'a [i64; LINKS],
     values: &'a [i64; SOURCES],
 ) -> [i64; INTEGRATORS]
-    requires { ⌜ (n ≤ mostIntegrators) × AllRated n (now ranges) (now sources) (now coefficients) (now values) ⌝ }
+    requires { ⌜ (n ≤ mostIntegrators) × RatesReady n (now ranges) (now sources) (now coefficients) (now values) ⌝ }
     ensures { λ r. ⌜ r ≡ row (pos 0) mostIntegrators n (λ i. rangeRate (now (sources .entry)) (now (coefficients .entry)) (now (values .entry))
         (natAt (now (ranges .entry)) i) (natAt (now (ranges .entry)) (i + 1))) ⌝ }
 {

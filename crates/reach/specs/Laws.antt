@@ -1,5 +1,5 @@
 -- What is proved of these definitions.
-pub mod Turns
+pub mod TableLoops
 pub mod Some
 pub mod Masks
 pub mod Entries

@@ -16,31 +16,31 @@ marked place bit table zero = table
 marked place bit table (suc e) = set (marked place bit table e) (place e) (withBit (natAt (marked place bit table e) (place e)) (bit e))
 
 -- each link's target in the entry of its source
-abbrev pub linked : List ℕ → List ℕ → ℕ → List ℕ
-linked targets sources links = marked (natAt sources) (natAt targets) (replicate sourceWidth 0) links
+abbrev pub linkEntries : List ℕ → List ℕ → ℕ → List ℕ
+linkEntries targets sources links = marked (natAt sources) (natAt targets) (replicate sourceWidth 0) links
 
 -- each node in its own entry
-abbrev pub ownNodes : ℕ → List ℕ → ℕ → List ℕ
-ownNodes base table k = marked (λ j. base + j) (λ j. 32 + j) table k
+abbrev pub ownEntries : ℕ → List ℕ → ℕ → List ℕ
+ownEntries base table k = marked (λ j. base + j) (λ j. 32 + j) table k
 
 -- the bits of an entry added to a source's
-abbrev pub added : List ℕ → ℕ → ℕ → List ℕ
-added table source entry = set table source (union (natAt table source) entry)
+abbrev pub addedTo : List ℕ → ℕ → ℕ → List ℕ
+addedTo table source entry = set table source (union (natAt table source) entry)
 
 module _ (kinds a b : List ℕ) (base : ℕ) where
   -- node j's entry added to those of the operands that it uses
-  unfoldable pub handedDown : ℕ → List ℕ → List ℕ
-  handedDown j table =
-      let entry = natAt table (base + j) in let left = added table (natAt a j) entry in
-      cond (eqb (natAt kinds j) 2) left (added left (natAt b j) entry)
+  unfoldable pub addedToOperands : ℕ → List ℕ → List ℕ
+  addedToOperands j table =
+      let entry = natAt table (base + j) in let left = addedTo table (natAt a j) entry in
+      cond (eqb (natAt kinds j) 2) left (addedTo left (natAt b j) entry)
 
   -- "dependence is followed down through lower-numbered nodes": from node j - 1 down to node 0
   unfoldable pub followedDown : ℕ → List ℕ → List ℕ
   followedDown zero table = table
-  followedDown (suc j) table = followedDown j (handedDown j table)
+  followedDown (suc j) table = followedDown j (addedToOperands j table)
 
 unfoldable pub tableFrom : (base k links : ℕ) (kinds a b targets sources : List ℕ) → List ℕ
-tableFrom base k links kinds a b targets sources = followedDown kinds a b base k (ownNodes base (linked targets sources links) k)
+tableFrom base k links kinds a b targets sources = followedDown kinds a b base k (ownEntries base (linkEntries targets sources links) k)
 
 -- the table of a plan
 unfoldable pub reachTable : Plan → List ℕ
@@ -51,12 +51,12 @@ unfoldable pub entriesOf : List ℕ → ℕ → ℕ
 entriesOf table changed = each (λ i entries. union entries (natAt table i)) (has changed) 64 0
 
 -- what the links ask, and what the nodes ask: operands are sources of a lower number
-pub record Linked (targets sources : List ℕ) (links : ℕ) : Type 0 where
+pub record LinksReady (targets sources : List ℕ) (links : ℕ) : Type 0 where
   pub few : links ≤ mostLinks
   pub target : (e : ℕ) → e < links → natAt targets e < mostIntegrators
   pub source : (e : ℕ) → e < links → natAt sources e < sourceWidth
 
-pub record Wired (a b : List ℕ) (base k : ℕ) : Type 0 where
+pub record OperandsReady (a b : List ℕ) (base k : ℕ) : Type 0 where
   pub room : base + k ≤ sourceWidth
   pub left : (j : ℕ) → j < k → natAt a j < base + j
   pub right : (j : ℕ) → j < k → natAt b j < base + j

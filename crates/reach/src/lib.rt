@@ -3,11 +3,11 @@
 ghost use mathlib.Core.Path.{_≡_};
 ghost use Prim.Native.Nat.{_+_, _/_, _%_, _^_, _≤_, _<_};
 ghost use Rattle.plan.specs.Numbers.{mostNodes, sourceWidth};
-ghost use Rattle.reach.specs.Table.{linked, ownNodes, added, handedDown, followedDown, tableFrom, entriesOf, Linked, Wired};
+ghost use Rattle.reach.specs.Table.{linkEntries, ownEntries, addedTo, addedToOperands, followedDown, tableFrom, entriesOf, LinksReady, OperandsReady};
 use bitset::lowest64;
 use bitset::rest64;
 use bitset::union64;
-use bitset::with64;
+use bitset::with_bit64;
 use plan::LINKS;
 use plan::NODES;
 use plan::SOURCES;
@@ -18,14 +18,14 @@ fn link_entries<'a>(
     targets: &'a [usize; LINKS],
     sources: &'a [usize; LINKS],
 ) -> [u64; SOURCES]
-    requires { ⌜ Linked (now targets) (now sources) links ⌝ }
-    ensures { λ r. ⌜ r ≡ linked (now (targets .entry)) (now (sources .entry)) links ⌝ }
+    requires { ⌜ LinksReady (now targets) (now sources) links ⌝ }
+    ensures { λ r. ⌜ r ≡ linkEntries (now (targets .entry)) (now (sources .entry)) links ⌝ }
 {
     let mut table: [u64; SOURCES] = [0; SOURCES];
     let mut e: usize = 0;
     while e < links {
         let source = sources[e];
-        table[source] = with64(table[source], targets[e]);
+        table[source] = with_bit64(table[source], targets[e]);
         e += 1;
     }
     table
@@ -34,12 +34,12 @@ fn link_entries<'a>(
 // Each node goes into its own entry; node j's source number is base + j.
 fn own_entries(base: usize, k: usize, table: &mut [u64; SOURCES])
     requires { ⌜ (k ≤ mostNodes) × (base + k ≤ sourceWidth) ⌝ }
-    ensures { λ _. ⌜ now (table .exit) ≡ ownNodes base (now (table .entry)) k ⌝ }
+    ensures { λ _. ⌜ now (table .exit) ≡ ownEntries base (now (table .entry)) k ⌝ }
 {
     let mut j: usize = 0;
     while j < k {
         let source = base + j;
-        table[source] = with64(table[source], 32 + j);
+        table[source] = with_bit64(table[source], 32 + j);
         j += 1;
     }
 }
@@ -47,13 +47,13 @@ fn own_entries(base: usize, k: usize, table: &mut [u64; SOURCES])
 // The bits of `entry` go into the entry of a source too.
 fn add_to(table: &mut [u64; SOURCES], source: usize, entry: u64)
     requires { ⌜ source < sourceWidth ⌝ }
-    ensures { λ _. ⌜ now (table .exit) ≡ added (now (table .entry)) source entry ⌝ }
+    ensures { λ _. ⌜ now (table .exit) ≡ addedTo (now (table .entry)) source entry ⌝ }
 {
     table[source] = union64(table[source], entry);
 }
 
 // What node j's change reaches, a change of an operand that it uses reaches too. "B is 0 and names nothing" for kind 2.
-fn hand_down<'a>(
+fn add_to_operands<'a>(
     j: usize,
     base: usize,
     kinds: &'a [usize; NODES],
@@ -61,8 +61,8 @@ fn hand_down<'a>(
     b: &'a [usize; NODES],
     table: &mut [u64; SOURCES],
 )
-    requires { ⌜ (j < mostNodes) × Wired (now a) (now b) base (j + 1) ⌝ }
-    ensures { λ _. ⌜ now (table .exit) ≡ handedDown (now (kinds .entry)) (now (a .entry)) (now (b .entry)) base j (now (table .entry)) ⌝ }
+    requires { ⌜ (j < mostNodes) × OperandsReady (now a) (now b) base (j + 1) ⌝ }
+    ensures { λ _. ⌜ now (table .exit) ≡ addedToOperands (now (kinds .entry)) (now (a .entry)) (now (b .entry)) base j (now (table .entry)) ⌝ }
 {
     let entry = table[base + j];
     add_to(table, a[j], entry);
@@ -81,11 +81,11 @@ fn follow_down<'a>(
     b: &'a [usize; NODES],
     table: &mut [u64; SOURCES],
 )
-    requires { ⌜ (j ≤ mostNodes) × Wired (now a) (now b) base j ⌝ }
+    requires { ⌜ (j ≤ mostNodes) × OperandsReady (now a) (now b) base j ⌝ }
     ensures { λ _. ⌜ now (table .exit) ≡ followedDown (now (kinds .entry)) (now (a .entry)) (now (b .entry)) base j (now (table .entry)) ⌝ }
 {
     if j > 0 {
-        hand_down(j - 1, base, kinds, a, b, table);
+        add_to_operands(j - 1, base, kinds, a, b, table);
         follow_down(j - 1, base, kinds, a, b, table);
     }
 }
@@ -101,7 +101,7 @@ pub fn reach_table<'a>(
     targets: &'a [usize; LINKS],
     sources: &'a [usize; LINKS],
 ) -> [u64; SOURCES]
-    requires { ⌜ (k ≤ mostNodes) × Wired (now a) (now b) base k × Linked (now targets) (now sources) links ⌝ }
+    requires { ⌜ (k ≤ mostNodes) × OperandsReady (now a) (now b) base k × LinksReady (now targets) (now sources) links ⌝ }
     ensures { λ r. ⌜ r ≡ tableFrom base k links (now (kinds .entry)) (now (a .entry)) (now (b .entry)) (now (targets .entry))
         (now (sources .entry)) ⌝ }
 {

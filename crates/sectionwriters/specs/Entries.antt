@@ -1,4 +1,4 @@
--- Model of the code: what the section writers ask, that each number fits a word. `fitting` of `planwriter`, Laws/Stages, shows it for every
+-- Model of the code: what the section writers ask, that each number fits a word. `fitting` of `planwriter`, Laws/SectionWriting, shows it for every
 -- plan that keeps the rules.
 use mathlib.Core.List.{List}
 use Prim.Native.Nat.{ℕ, _^_, _<_}

@@ -1,2 +1,2 @@
 -- What the proofs of the code go by.
-pub mod Tested
+pub mod RunningTests

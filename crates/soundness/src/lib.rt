@@ -5,7 +5,7 @@ ghost use Rattle.machine.specs.SoundTest.{isSound};
 use crate::running::running_sound;
 use machine::State;
 use planrules::plan_kept;
-use unused::plan_unused;
+use unused::plan_unused_zero;
 
 mod running;
 
@@ -16,7 +16,7 @@ pub fn is_sound(st: State) -> bool
     if !plan_kept(plan) {
         return false;
     }
-    if !plan_unused(plan) {
+    if !plan_unused_zero(plan) {
         return false;
     }
     let run = st.run;

@@ -7,24 +7,24 @@ ghost use Rattle.plan.specs.Numbers.{M};
 ghost use Rattle.plan.specs.Lists.{intAt, every};
 ghost use Rattle.plan.specs.Rules.{PlanRules};
 ghost use Rattle.machine.specs.SoundTest.{runningSound};
-use entryrules::value_kept;
+use entryrules::value_within_m;
 use integratortest::integrators_sound;
 use machine::Running;
 use plan::Plan;
 use rates::link_ranges;
 use rates::rates;
 use timing::next_command;
-use unused::figures_unused;
+use unused::figures_unused_zero;
 use values::source_values;
 
 // "|q| ≤ M", and "inputs are within ±M".
-fn values_kept(values: &[i64], count: usize) -> bool
+fn values_within_m(values: &[i64], count: usize) -> bool
     requires { ⌜ count ≤ length (now values) ⌝ }
     ensures { λ r. ⌜ r ≡ every (λ i. within M (intAt (now (values .entry)) i)) count ⌝ }
 {
     let mut i: usize = 0;
     while i < count {
-        if !value_kept(values[i]) {
+        if !value_within_m(values[i]) {
             return false;
         }
         i += 1;
@@ -43,10 +43,10 @@ pub fn running_sound(p: Plan, r: Running) -> bool
     if clock > p.horizon {
         return false;
     }
-    if !values_kept(&r.q, n) {
+    if !values_within_m(&r.q, n) {
         return false;
     }
-    if !values_kept(&r.inputs, m) {
+    if !values_within_m(&r.inputs, m) {
         return false;
     }
     let values = source_values(
@@ -85,5 +85,5 @@ pub fn running_sound(p: Plan, r: Running) -> bool
     if r.clocks.updates > (n as u64) * r.clocks.instants {
         return false;
     }
-    figures_unused(n, m, r)
+    figures_unused_zero(n, m, r)
 }

@@ -19,7 +19,7 @@ use timing::next_command;
 use values::source_values;
 
 // The due tick of each integrator at its start.
-fn first_dues<'a>(
+fn start_dues<'a>(
     n: usize,
     starts: &'a [i64; INTEGRATORS],
     quanta: &'a [i64; INTEGRATORS],
@@ -66,7 +66,7 @@ pub fn start(plan: Plan) -> Running
         &plan.links.coefficients,
         &values,
     );
-    let d = first_dues(n, &plan.integrators.starts, &plan.integrators.quanta, &s);
+    let d = start_dues(n, &plan.integrators.starts, &plan.integrators.quanta, &s);
     let next = next_command(plan.counts.commands, &plan.commands.ticks, 0);
     let x = plan.integrators.starts;
     let inputs = plan.inputs.firsts;

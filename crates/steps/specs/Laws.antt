@@ -4,5 +4,5 @@ pub mod EventTurns
 pub mod EventBytes
 pub mod CommandTurns
 pub mod Commands
-pub mod Walks
+pub mod MaskLoops
 pub mod Outputs

@@ -2,7 +2,7 @@
 ghost use mathlib.Core.Path.{_≡_};
 ghost use Prim.Native.Nat.{_-_};
 ghost use Rattle.steps.specs.Commands.{afterCommands, afterCommandsFrom, CommandsInRange};
-use bitset::with;
+use bitset::with_bit;
 use plan::COMMANDS;
 use plan::SOURCES;
 
@@ -34,7 +34,7 @@ pub fn obey_commands<'a>(
         let j = inputs[e];
         let value = settings[e];
         values[n + j] = value;
-        commanded = with(commanded, j);
+        commanded = with_bit(commanded, j);
         e += 1;
     }
     Commanded {

@@ -2,11 +2,11 @@
 -- Laws/Tested.
 use mathlib.Core.Bool.{Bool, _&&_}
 use Prim.Native.Nat.{ℕ}
-use Rattle.plan.specs.Unused.{unusedNat, unusedInt}
+use Rattle.plan.specs.Unused.{natsZeroFrom, intsZeroFrom}
 use Rattle.machine.specs.declared.Running.{Running}
 
 -- "unused entries are 0"
-unfoldable pub figuresUnused : ℕ → ℕ → Running → Bool
-figuresUnused n m r =
-    unusedInt n (r .x) && unusedInt n (r .q) && unusedInt n (r .s)
-    && unusedNat n (r .l) && unusedNat n (r .d) && unusedInt m (r .inputs)
+unfoldable pub figuresUnusedZero : ℕ → ℕ → Running → Bool
+figuresUnusedZero n m r =
+    intsZeroFrom n (r .x) && intsZeroFrom n (r .q) && intsZeroFrom n (r .s)
+    && natsZeroFrom n (r .l) && natsZeroFrom n (r .d) && intsZeroFrom m (r .inputs)

@@ -1,13 +1,13 @@
 // "unused entries are 0": of an array those from its count on.
 ghost use mathlib.Core.Path.{_≡_};
-ghost use Rattle.plan.specs.Unused.{unusedNat, unusedInt, planUnused};
-ghost use Rattle.unused.specs.Entries.{figuresUnused};
+ghost use Rattle.plan.specs.Unused.{natsZeroFrom, intsZeroFrom, planUnusedZero};
+ghost use Rattle.unused.specs.Entries.{figuresUnusedZero};
 use machine::Running;
 use plan::Plan;
 
 // Values, positions, quanta and slopes.
-fn signed_unused(entries: &[i64], count: usize) -> bool
-    ensures { λ r. ⌜ r ≡ unusedInt count (now (entries .entry)) ⌝ }
+fn signed_zero_from(entries: &[i64], count: usize) -> bool
+    ensures { λ r. ⌜ r ≡ intsZeroFrom count (now (entries .entry)) ⌝ }
 {
     let mut i = count;
     while i < entries.len() {
@@ -20,8 +20,8 @@ fn signed_unused(entries: &[i64], count: usize) -> bool
 }
 
 // Ticks.
-fn ticks_unused(entries: &[u32], count: usize) -> bool
-    ensures { λ r. ⌜ r ≡ unusedNat count (now (entries .entry)) ⌝ }
+fn ticks_zero_from(entries: &[u32], count: usize) -> bool
+    ensures { λ r. ⌜ r ≡ natsZeroFrom count (now (entries .entry)) ⌝ }
 {
     let mut i = count;
     while i < entries.len() {
@@ -34,8 +34,8 @@ fn ticks_unused(entries: &[u32], count: usize) -> bool
 }
 
 // Kinds, and numbers of sources, integrators and inputs.
-fn numbers_unused(entries: &[usize], count: usize) -> bool
-    ensures { λ r. ⌜ r ≡ unusedNat count (now (entries .entry)) ⌝ }
+fn numbers_zero_from(entries: &[usize], count: usize) -> bool
+    ensures { λ r. ⌜ r ≡ natsZeroFrom count (now (entries .entry)) ⌝ }
 {
     let mut i = count;
     while i < entries.len() {
@@ -48,69 +48,69 @@ fn numbers_unused(entries: &[usize], count: usize) -> bool
 }
 
 // Every column of a plan, each by the count of its section.
-pub fn plan_unused(plan: Plan) -> bool
-    ensures { λ r. ⌜ r ≡ planUnused plan ⌝ }
+pub fn plan_unused_zero(plan: Plan) -> bool
+    ensures { λ r. ⌜ r ≡ planUnusedZero plan ⌝ }
 {
-    if !signed_unused(&plan.integrators.starts, plan.counts.n) {
+    if !signed_zero_from(&plan.integrators.starts, plan.counts.n) {
         return false;
     }
-    if !signed_unused(&plan.integrators.quanta, plan.counts.n) {
+    if !signed_zero_from(&plan.integrators.quanta, plan.counts.n) {
         return false;
     }
-    if !signed_unused(&plan.inputs.firsts, plan.counts.m) {
+    if !signed_zero_from(&plan.inputs.firsts, plan.counts.m) {
         return false;
     }
-    if !numbers_unused(&plan.nodes.kinds, plan.counts.k) {
+    if !numbers_zero_from(&plan.nodes.kinds, plan.counts.k) {
         return false;
     }
-    if !numbers_unused(&plan.nodes.a, plan.counts.k) {
+    if !numbers_zero_from(&plan.nodes.a, plan.counts.k) {
         return false;
     }
-    if !numbers_unused(&plan.nodes.b, plan.counts.k) {
+    if !numbers_zero_from(&plan.nodes.b, plan.counts.k) {
         return false;
     }
-    if !signed_unused(&plan.nodes.lows, plan.counts.k) {
+    if !signed_zero_from(&plan.nodes.lows, plan.counts.k) {
         return false;
     }
-    if !signed_unused(&plan.nodes.highs, plan.counts.k) {
+    if !signed_zero_from(&plan.nodes.highs, plan.counts.k) {
         return false;
     }
-    if !numbers_unused(&plan.links.targets, plan.counts.links) {
+    if !numbers_zero_from(&plan.links.targets, plan.counts.links) {
         return false;
     }
-    if !numbers_unused(&plan.links.sources, plan.counts.links) {
+    if !numbers_zero_from(&plan.links.sources, plan.counts.links) {
         return false;
     }
-    if !signed_unused(&plan.links.coefficients, plan.counts.links) {
+    if !signed_zero_from(&plan.links.coefficients, plan.counts.links) {
         return false;
     }
-    if !ticks_unused(&plan.commands.ticks, plan.counts.commands) {
+    if !ticks_zero_from(&plan.commands.ticks, plan.counts.commands) {
         return false;
     }
-    if !numbers_unused(&plan.commands.inputs, plan.counts.commands) {
+    if !numbers_zero_from(&plan.commands.inputs, plan.counts.commands) {
         return false;
     }
-    signed_unused(&plan.commands.values, plan.counts.commands)
+    signed_zero_from(&plan.commands.values, plan.counts.commands)
 }
 
 // The running figures of n integrators and m inputs.
-pub fn figures_unused(n: usize, m: usize, run: Running) -> bool
-    ensures { λ r. ⌜ r ≡ figuresUnused n m run ⌝ }
+pub fn figures_unused_zero(n: usize, m: usize, run: Running) -> bool
+    ensures { λ r. ⌜ r ≡ figuresUnusedZero n m run ⌝ }
 {
-    if !signed_unused(&run.x, n) {
+    if !signed_zero_from(&run.x, n) {
         return false;
     }
-    if !signed_unused(&run.q, n) {
+    if !signed_zero_from(&run.q, n) {
         return false;
     }
-    if !signed_unused(&run.s, n) {
+    if !signed_zero_from(&run.s, n) {
         return false;
     }
-    if !ticks_unused(&run.l, n) {
+    if !ticks_zero_from(&run.l, n) {
         return false;
     }
-    if !ticks_unused(&run.d, n) {
+    if !ticks_zero_from(&run.d, n) {
         return false;
     }
-    signed_unused(&run.inputs, m)
+    signed_zero_from(&run.inputs, m)
 }

@@ -9,15 +9,15 @@ use Rattle.integers.specs.Parts.{∣_∣}
 use Rattle.plan.specs.Numbers.{M, mostIntegrators, mostInputs, mostNodes, sourceWidth}
 use Rattle.plan.specs.Lists.{natAt, intAt, row}
 use Rattle.plan.specs.declared.Plan.{Plan}
-use Rattle.machine.specs.Values.{nodeOf, valueOf}
+use Rattle.machine.specs.Values.{nodeValue, valueOf}
 
 -- the value of each source at its source number, with the outputs q and the input values u
 unfoldable pub valuesOf : Plan → List ℤ → List ℤ → List ℤ
 valuesOf p q u = row (pos 0) sourceWidth (p .counts .n + p .counts .m + p .counts .k) (valueOf p q u)
 
 -- integrators and inputs alone
-unfoldable pub firstValues : (n m : ℕ) (q u : List ℤ) → List ℤ
-firstValues n m q u = row (pos 0) sourceWidth (n + m) (λ i. cond (ltb i n) (intAt q i) (intAt u (i - n)))
+unfoldable pub outputAndInputValues : (n m : ℕ) (q u : List ℤ) → List ℤ
+outputAndInputValues n m q u = row (pos 0) sourceWidth (n + m) (λ i. cond (ltb i n) (intAt q i) (intAt u (i - n)))
 
 -- the outputs and the input values, read out of the values of sources
 unfoldable pub outputsIn : (n : ℕ) (values : List ℤ) → List ℤ
@@ -29,7 +29,7 @@ inputsIn n m values = row (pos 0) mostInputs m (λ j. intAt values (n + j))
 module _ (kinds a b : List ℕ) (lows highs : List ℤ) (base : ℕ) where
   -- the value of node j by the values of its operands
   unfoldable pub nodeFrom : ℕ → List ℤ → ℤ
-  nodeFrom j values = nodeOf (natAt kinds j) (intAt lows j) (intAt highs j) (intAt values (natAt a j)) (intAt values (natAt b j))
+  nodeFrom j values = nodeValue (natAt kinds j) (intAt lows j) (intAt highs j) (intAt values (natAt a j)) (intAt values (natAt b j))
 
   -- node j worked out
   unfoldable pub nodeStep : ℕ → List ℤ → List ℤ

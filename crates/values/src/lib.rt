@@ -6,8 +6,8 @@ ghost use Prim.Native.Nat.{_+_, _^_, _≤_, _<_};
 ghost use Rattle.integers.specs.Parts.{∣_∣};
 ghost use Rattle.bitset.specs.Mask.{has, each};
 ghost use Rattle.plan.specs.Numbers.{M, mostIntegrators, mostInputs};
-ghost use Rattle.machine.specs.Values.{clipped, nodeOf};
-ghost use Rattle.values.specs.Sources.{firstValues, outputsIn, inputsIn, nodeStep, NodesReady};
+ghost use Rattle.machine.specs.Values.{clipped, nodeValue};
+ghost use Rattle.values.specs.Sources.{outputAndInputValues, outputsIn, inputsIn, nodeStep, NodesReady};
 use bitset::all;
 use bitset::lowest;
 use bitset::rest;
@@ -29,7 +29,7 @@ fn clip(v: i64) -> i64
 // "0 is a−b; 1 is floor(a×b / 65,536); both then clipped to ±M .. 2 is a limited to lo..hi .. 3 is hi if a ≥ b, else lo."
 pub fn node_value(kind: usize, a: i64, b: i64, lo: i64, hi: i64) -> i64
     requires { ⌜ (∣ a ∣ ≤ M) × (∣ b ∣ ≤ M) ⌝ }
-    ensures { λ r. ⌜ r ≡ nodeOf kind lo hi a b ⌝ }
+    ensures { λ r. ⌜ r ≡ nodeValue kind lo hi a b ⌝ }
 {
     if kind == 0 {
         return clip(a - b);
@@ -44,7 +44,7 @@ pub fn node_value(kind: usize, a: i64, b: i64, lo: i64, hi: i64) -> i64
 }
 
 // Node j, whose source number is base + j, from the values of its operands.
-fn work_node<'a>(
+fn work_out_node<'a>(
     j: usize,
     base: usize,
     k: usize,
@@ -66,7 +66,7 @@ fn work_node<'a>(
 }
 
 // "Node values are worked out in node order": those of the mask, lowest first.
-pub fn work_nodes<'a>(
+pub fn work_out_nodes<'a>(
     base: usize,
     k: usize,
     kinds: &'a [usize; NODES],
@@ -84,20 +84,20 @@ pub fn work_nodes<'a>(
     let mut left = nodes;
     while left != 0 {
         let j = lowest(left);
-        work_node(j, base, k, kinds, a, b, lows, highs, values);
+        work_out_node(j, base, k, kinds, a, b, lows, highs, values);
         left = rest(left);
     }
 }
 
 // The outputs at 0 to n−1 and the input values at n to n+m−1, and 0 from there on.
-fn first_values<'a>(
+fn output_and_input_values<'a>(
     n: usize,
     m: usize,
     q: &'a [i64; INTEGRATORS],
     inputs: &'a [i64; INPUTS],
 ) -> [i64; SOURCES]
     requires { ⌜ (n ≤ mostIntegrators) × (m ≤ mostInputs) ⌝ }
-    ensures { λ r. ⌜ r ≡ firstValues n m (now (q .entry)) (now (inputs .entry)) ⌝ }
+    ensures { λ r. ⌜ r ≡ outputAndInputValues n m (now (q .entry)) (now (inputs .entry)) ⌝ }
 {
     let mut values: [i64; SOURCES] = [0; SOURCES];
     let mut i: usize = 0;
@@ -127,12 +127,12 @@ pub fn source_values<'a>(
     highs: &'a [i64; NODES],
 ) -> [i64; SOURCES]
     requires { ⌜ (n ≤ mostIntegrators) × (m ≤ mostInputs)
-        × NodesReady (now a) (now b) (now lows) (now highs) (firstValues n m (now q) (now inputs)) (n + m) k ⌝ }
+        × NodesReady (now a) (now b) (now lows) (now highs) (outputAndInputValues n m (now q) (now inputs)) (n + m) k ⌝ }
     ensures { λ r. ⌜ r ≡ each (nodeStep (now (kinds .entry)) (now (a .entry)) (now (b .entry)) (now (lows .entry))
-        (now (highs .entry)) (n + m)) (λ _. true) k (firstValues n m (now (q .entry)) (now (inputs .entry))) ⌝ }
+        (now (highs .entry)) (n + m)) (λ _. true) k (outputAndInputValues n m (now (q .entry)) (now (inputs .entry))) ⌝ }
 {
-    let mut values = first_values(n, m, q, inputs);
-    work_nodes(n + m, k, kinds, a, b, lows, highs, all(k), &mut values);
+    let mut values = output_and_input_values(n, m, q, inputs);
+    work_out_nodes(n + m, k, kinds, a, b, lows, highs, all(k), &mut values);
     values
 }
 

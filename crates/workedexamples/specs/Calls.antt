@@ -12,35 +12,35 @@ use Rattle.integers.specs.Range.{limited, within}
 use Rattle.bitset.specs.Counts.{countOf}
 use Rattle.words.specs.Word.{numberAt, bytesOf, signedOf, unsignedOf, flat}
 use Rattle.plan.specs.Lists.{table, row, joined, every, some, all, firstFrom}
-use Rattle.plan.specs.Format.{horizonIn, offsetIn, lengthIn, startIn, countIn, part, sectionIn, columnOf, columnIn, planIn}
-use Rattle.plan.specs.Tests.{longEnough, offsetsKept, countKept, sizesKept, horizonKept, counts, countsKept, integratorKept, inputKept}
-use Rattle.plan.specs.Tests.{kindKept, ascends, nodeKept, linkLimits, linkOrdered, commandLimits, commandOrdered}
+use Rattle.plan.specs.Format.{horizonIn, offsetIn, lengthIn, requiredOffset, countIn, part, sectionIn, columnOf, columnIn, planIn}
+use Rattle.plan.specs.Tests.{longEnough, offsetsKept, countKept, sizesKept, horizonKept, countList, countsKept, integratorKept, inputKept}
+use Rattle.plan.specs.Tests.{nodeTest, pairAscends, nodeKept, linkLimitsKept, linkOrdered, commandLimitsKept, commandOrdered}
 use Rattle.plan.specs.Refusals.{numberOf, entryOf, isClean, orElse, firstFinding, horizonFinding, integratorsFinding, inputsFinding}
 use Rattle.plan.specs.Refusals.{nodesFinding, linksFinding, commandsFinding, planFinding, findingOf, accepted, sectionOf}
 use Rattle.plan.specs.Encoding.{offsetFrom, offsetOf, fileLength, headerWords, integratorWords, inputWords, nodeWords, linkWords}
 use Rattle.plan.specs.Laws.Layout.{lengthOf}
 use Rattle.plan.specs.Encoding.{commandWords, fileWords, encode}
-use Rattle.plan.specs.Cases.{Case, case, AllRight, end, _&_}
-use Rattle.plan.specs.Files.{fileOf, cupFile, cupPlan}
-use Rattle.machine.specs.Values.{nodeOf, valueWith, valueOf, sumOver, rateOf}
+use Rattle.plan.specs.ExampleTables.{Case, case, AllRight, end, _&_}
+use Rattle.plan.specs.ExampleFiles.{fileOf, cupFile, cupPlan}
+use Rattle.machine.specs.Values.{nodeValue, valueWith, valueOf, sumOver, rateOf}
 use Rattle.machine.specs.Due.{upperLevel, lowerLevel, distance, ticksTo, dueTick, dueOf}
 use Rattle.machine.specs.Next.{nextCommand, commandTick, leastDue, nextTick}
 use Rattle.machine.specs.Start.{startSlope, startDue, startOf, startState, idleState}
 use Rattle.machine.specs.Reach.{isDue, setsInput, isCommanded, changes, dependsWith, linkReaches, reached}
 use Rattle.machine.specs.Instant.{positionAt, inputThen, inputsThen, moves, eventBytes, eventsAt, outputs, slopeThen, xThen, dueThen}
-use Rattle.machine.specs.Instant.{takenAt, tickOf, instant, eventsOf}
+use Rattle.machine.specs.Instant.{takenAt, nextTickOf, instant, eventsOf}
 use Rattle.machine.specs.Status.{statusNumber, statusIntegrator, statusPaused, bars, barring, statusBy, statusAt, statusOf, isPaused}
 use Rattle.machine.specs.Runs.{after, events, positionOf}
-use Rattle.machine.specs.Plain.{settled, plainStart, plainTick, plainPosition, plainOutputs, plainInstant, plainEventsOf, plainStatus}
+use Rattle.machine.specs.Plain.{withRatesAndDues, plainStart, plainNextTick, plainPosition, plainOutputs, plainInstant, plainEventsOf, plainStatus}
 use Rattle.machine.specs.Plain.{lazyCount, plainFrom, plainEventsFrom, plainAfter, plainEvents}
-use Rattle.plan.specs.Unused.{unusedNat, unusedInt, planUnused}
-use Rattle.machine.specs.SoundTest.{planSound, runningUnused, integratorSound, runningSound, isSound}
+use Rattle.plan.specs.Unused.{natsZeroFrom, intsZeroFrom, planUnusedZero}
+use Rattle.machine.specs.SoundTest.{planSound, runningUnusedZero, integratorSound, runningSound, isSound}
 use Rattle.machine.specs.declared.State.{State}
 use Rattle.machine.specs.declared.Engine.{Engine}
 use Rattle.machine.specs.declared.Engine.the-variants.{Lazy, Eager}
-use Rattle.calls.specs.Calls.{loadOf, writeNumber, writeOf, bufferOfWrite, roomOf, declineOf, runNumber, ranState, ranEvents}
+use Rattle.calls.specs.Calls.{loadOf, writeNumber, writeOf, bufferOfWrite, bytesNeeded, runNumberIfSound, runNumber, ranState, ranEvents}
 use Rattle.calls.specs.Calls.{runOf, bufferOfRun, positionNumber, positionedOf}
-use Rattle.calls.specs.Lists.{Call, answerOf, bufferOf, fedBy, afterCalls, budgetSum, joinedBytes, engineAt, cutAt, restAt, allBy}
+use Rattle.calls.specs.Lists.{Call, answerOf, bufferOf, acceptedBudget, afterCalls, budgetSum, joinedBytes, engineAt, cutAt, restAt, allBy}
 use Rattle.machine.specs.Updates.{growth, growthUpTo, isEager, eagerInstants, lazyMoves, movedNow}
 
 -- the cup as it is loaded, its plan number for number
@@ -126,7 +126,7 @@ examples =
     ∷ case ℕ (runOf Lazy loaded 1 (filled 36) .status) 0
     ∷ case ℕ (runOf Lazy loaded 1 (filled 36) .state .run .clocks .clock) 4
     ∷ case ℕ (runOf Lazy loaded 1 (filled 35) .state .run .clocks .clock) 0
-    ∷ case ℕ (declineOf cupPlan 1024 36864) 0
+    ∷ case ℕ (runNumberIfSound cupPlan 1024 36864) 0
     -- range with its integrator, nothing written; declined, every figure is 0
     ∷ case ℕ (runOf Eager barred 1 (filled 36) .number) 0
     ∷ case ℕ (runOf Eager barred 1 (filled 36) .status) 2
@@ -175,18 +175,18 @@ examples =
 -- every example is right: each pair of values is equal by computation
 pub examples-right : AllRight examples
 unfolding examples ceilDiv limited within countOf numberAt bytesOf signedOf unsignedOf flat table row joined every some all firstFrom
-    horizonIn offsetIn lengthIn startIn countIn part sectionIn columnOf columnIn planIn longEnough offsetsKept countKept sizesKept
-    horizonKept counts countsKept integratorKept inputKept kindKept ascends nodeKept linkLimits linkOrdered commandLimits
+    horizonIn offsetIn lengthIn requiredOffset countIn part sectionIn columnOf columnIn planIn longEnough offsetsKept countKept sizesKept
+    horizonKept countList countsKept integratorKept inputKept nodeTest pairAscends nodeKept linkLimitsKept linkOrdered commandLimitsKept
     commandOrdered numberOf entryOf isClean orElse firstFinding horizonFinding integratorsFinding inputsFinding nodesFinding
     linksFinding commandsFinding planFinding findingOf accepted sectionOf offsetFrom lengthOf offsetOf fileLength headerWords integratorWords inputWords
-    nodeWords linkWords commandWords fileWords encode nodeOf valueWith valueOf sumOver rateOf upperLevel lowerLevel distance ticksTo
+    nodeWords linkWords commandWords fileWords encode nodeValue valueWith valueOf sumOver rateOf upperLevel lowerLevel distance ticksTo
     dueTick dueOf nextCommand commandTick leastDue nextTick startSlope startDue startOf startState idleState isDue setsInput
     isCommanded changes dependsWith linkReaches reached positionAt inputThen inputsThen moves eventBytes eventsAt outputs slopeThen xThen
-    dueThen takenAt tickOf instant eventsOf bars barring statusNumber statusIntegrator statusPaused statusBy statusAt statusOf isPaused after events
-    positionOf settled plainStart plainTick plainPosition plainOutputs plainInstant plainEventsOf plainStatus
-    lazyCount plainFrom plainEventsFrom plainAfter plainEvents unusedNat unusedInt planUnused planSound runningUnused
-    integratorSound runningSound isSound loadOf writeNumber writeOf bufferOfWrite roomOf declineOf runNumber ranState ranEvents
-    runOf bufferOfRun positionNumber positionedOf answerOf bufferOf fedBy afterCalls budgetSum joinedBytes engineAt cutAt restAt allBy
+    dueThen takenAt nextTickOf instant eventsOf bars barring statusNumber statusIntegrator statusPaused statusBy statusAt statusOf isPaused after events
+    positionOf withRatesAndDues plainStart plainNextTick plainPosition plainOutputs plainInstant plainEventsOf plainStatus
+    lazyCount plainFrom plainEventsFrom plainAfter plainEvents natsZeroFrom intsZeroFrom planUnusedZero planSound runningUnusedZero
+    integratorSound runningSound isSound loadOf writeNumber writeOf bufferOfWrite bytesNeeded runNumberIfSound runNumber ranState ranEvents
+    runOf bufferOfRun positionNumber positionedOf answerOf bufferOf acceptedBudget afterCalls budgetSum joinedBytes engineAt cutAt restAt allBy
     growth growthUpTo isEager eagerInstants lazyMoves movedNow
 examples-right =
     refl & refl & refl & refl & refl & refl & refl & refl & refl & refl & refl & refl & refl & refl & refl & refl & refl & refl & refl & refl &

@@ -11,29 +11,29 @@ use Rattle.integers.specs.Range.{limited, within}
 use Rattle.bitset.specs.Counts.{countOf}
 use Rattle.words.specs.Word.{numberAt, bytesOf, signedOf, unsignedOf, wordOf, flat}
 use Rattle.plan.specs.Lists.{natAt, intAt, table, row, joined, every, some, all, firstFrom}
-use Rattle.plan.specs.Format.{horizonIn, offsetIn, lengthIn, startIn, countIn, part, sectionIn, columnOf, columnIn, planIn}
-use Rattle.plan.specs.Tests.{longEnough, offsetsKept, countKept, sizesKept, horizonKept, kindKept, ascends, counts, countsKept, integratorKept}
-use Rattle.plan.specs.Tests.{inputKept, nodeKept, linkLimits, linkOrdered, commandLimits, commandOrdered}
+use Rattle.plan.specs.Format.{horizonIn, offsetIn, lengthIn, requiredOffset, countIn, part, sectionIn, columnOf, columnIn, planIn}
+use Rattle.plan.specs.Tests.{longEnough, offsetsKept, countKept, sizesKept, horizonKept, nodeTest, pairAscends, countList, countsKept, integratorKept}
+use Rattle.plan.specs.Tests.{inputKept, nodeKept, linkLimitsKept, linkOrdered, commandLimitsKept, commandOrdered}
 use Rattle.plan.specs.Refusals.{numberOf, isClean, orElse, firstFinding, horizonFinding, integratorsFinding, inputsFinding, nodesFinding}
 use Rattle.plan.specs.Refusals.{linksFinding, commandsFinding, planFinding, findingOf, accepted}
 use Rattle.plan.specs.Encoding.{offsetFrom, headerWords, integratorWords, fileWords, encode}
 use Rattle.plan.specs.Idle.{idlePlan}
-use Rattle.plan.specs.Unused.{unusedNat, unusedInt, planUnused}
-use Rattle.plan.specs.Cases.{Case, case, AllRight, end, _&_}
-use Rattle.plan.specs.Files.{fileOf, cupPlan}
+use Rattle.plan.specs.Unused.{natsZeroFrom, intsZeroFrom, planUnusedZero}
+use Rattle.plan.specs.ExampleTables.{Case, case, AllRight, end, _&_}
+use Rattle.plan.specs.ExampleFiles.{fileOf, cupPlan}
 use Rattle.plan.specs.declared.Plan.{Plan}
-use Rattle.machine.specs.Values.{nodeOf, valueWith, valueOf, sumOver, rateOf}
+use Rattle.machine.specs.Values.{nodeValue, valueWith, valueOf, sumOver, rateOf}
 use Rattle.machine.specs.Due.{upperLevel, lowerLevel, distance, ticksTo, dueTick, dueOf}
 use Rattle.machine.specs.Next.{nextCommand, commandTick, leastDue, nextTick}
 use Rattle.machine.specs.Start.{startSlope, startDue, startOf, startState, idleState}
 use Rattle.machine.specs.Reach.{isDue, setsInput, isCommanded, changes, dependsWith, linkReaches, reached}
 use Rattle.machine.specs.Instant.{positionAt, inputThen, inputsThen, moves, eventBytes, eventsAt, outputs, slopeThen, xThen, dueThen, takenAt}
-use Rattle.machine.specs.Instant.{tickOf, instant, eventsOf}
+use Rattle.machine.specs.Instant.{nextTickOf, instant, eventsOf}
 use Rattle.machine.specs.Status.{statusNumber, statusIntegrator, statusPaused, bars, barring, statusBy, statusAt, statusOf, isPaused}
 use Rattle.machine.specs.Runs.{after, events, positionOf}
-use Rattle.machine.specs.Plain.{settled, plainStart, plainTick, plainPosition, plainOutputs, plainInstant, plainStatus}
+use Rattle.machine.specs.Plain.{withRatesAndDues, plainStart, plainNextTick, plainPosition, plainOutputs, plainInstant, plainStatus}
 use Rattle.machine.specs.Plain.{plainEventsOf, plainEventsFrom, plainEvents, lazyCount, plainFrom, plainAfter}
-use Rattle.machine.specs.SoundTest.{planSound, runningUnused, integratorSound, runningSound, isSound}
+use Rattle.machine.specs.SoundTest.{planSound, runningUnusedZero, integratorSound, runningSound, isSound}
 use Rattle.machine.specs.declared.Running.{Running}
 use Rattle.machine.specs.declared.State.{State}
 use Rattle.machine.specs.declared.Engine.the-variants.{Lazy, Eager}
@@ -200,17 +200,17 @@ further =
     ∷ case ℕ (dueFrom (pos 25) (pos 12) (negsuc 2)) 8
     ∷ case ℕ (dueFrom (negsuc 2) (pos 12) (pos 3)) 9
     -- the kinds of nodes: differences and products are clipped to ±M, products are rounded down
-    ∷ case ℤ (nodeOf 3 (pos 1) (pos 2) (pos 7) (pos 8)) (pos 1)
-    ∷ case ℤ (nodeOf 3 (pos 1) (pos 2) (pos 8) (pos 7)) (pos 2)
-    ∷ case ℤ (nodeOf 0 (pos 0) (pos 0) (pos 5) (pos 8)) (negsuc 2)
-    ∷ case ℤ (nodeOf 0 (pos 0) (pos 0) m minus-m) m
-    ∷ case ℤ (nodeOf 0 (pos 0) (pos 0) minus-m m) minus-m
-    ∷ case ℤ (nodeOf 1 (pos 0) (pos 0) m m) m
-    ∷ case ℤ (nodeOf 1 (pos 0) (pos 0) m minus-m) minus-m
-    ∷ case ℤ (nodeOf 1 (pos 0) (pos 0) (pos 131072) (pos 3)) (pos 6)
-    ∷ case ℤ (nodeOf 2 (negsuc 4) (pos 5) (pos 6) (pos 0)) (pos 5)
-    ∷ case ℤ (nodeOf 2 (negsuc 4) (pos 5) (negsuc 5) (pos 0)) (negsuc 4)
-    ∷ case ℤ (nodeOf 2 (negsuc 4) (pos 5) (pos 4) (pos 9)) (pos 4)
+    ∷ case ℤ (nodeValue 3 (pos 1) (pos 2) (pos 7) (pos 8)) (pos 1)
+    ∷ case ℤ (nodeValue 3 (pos 1) (pos 2) (pos 8) (pos 7)) (pos 2)
+    ∷ case ℤ (nodeValue 0 (pos 0) (pos 0) (pos 5) (pos 8)) (negsuc 2)
+    ∷ case ℤ (nodeValue 0 (pos 0) (pos 0) m minus-m) m
+    ∷ case ℤ (nodeValue 0 (pos 0) (pos 0) minus-m m) minus-m
+    ∷ case ℤ (nodeValue 1 (pos 0) (pos 0) m m) m
+    ∷ case ℤ (nodeValue 1 (pos 0) (pos 0) m minus-m) minus-m
+    ∷ case ℤ (nodeValue 1 (pos 0) (pos 0) (pos 131072) (pos 3)) (pos 6)
+    ∷ case ℤ (nodeValue 2 (negsuc 4) (pos 5) (pos 6) (pos 0)) (pos 5)
+    ∷ case ℤ (nodeValue 2 (negsuc 4) (pos 5) (negsuc 5) (pos 0)) (negsuc 4)
+    ∷ case ℤ (nodeValue 2 (negsuc 4) (pos 5) (pos 4) (pos 9)) (pos 4)
     -- a due value of −M passes, −M − 1 bars
     ∷ case ℤ (intAt (lazily (pump (negsuc 1073741822) 1 (negsuc 0) (pos 65536)) 1 .q) 0) minus-m
     ∷ case ℕ (statusNumber (statusOf (pump (negsuc 1073741822) 1 (negsuc 1) (pos 65536)) (lazily (pump (negsuc 1073741822) 1 (negsuc 1) (pos 65536)) 0))) 2
@@ -232,7 +232,7 @@ further =
     ∷ case ℕ (lazily (planIn pairFile) 1 .clocks .updates) 2
     -- range names the lowest integrator beyond ±M, not the lowest that is due, and bars that tick's command too
     ∷ case Bool (accepted rangeFile) true
-    ∷ case ℕ (tickOf (planIn rangeFile) (startOf (planIn rangeFile))) 1
+    ∷ case ℕ (nextTickOf (planIn rangeFile) (startOf (planIn rangeFile))) 1
     ∷ case ℕ (statusNumber (statusOf (planIn rangeFile) (startOf (planIn rangeFile)))) 2
     ∷ case ℕ (statusIntegrator (statusOf (planIn rangeFile) (startOf (planIn rangeFile)))) 1
     ∷ case ℕ (lazily (planIn rangeFile) 5 .clocks .clock) 0
@@ -309,15 +309,15 @@ further =
 -- every case is right: each pair of values is equal by computation
 pub further-right : AllRight further
 unfolding further ceilDiv limited within countOf numberAt bytesOf signedOf unsignedOf flat table row joined every some all firstFrom
-    horizonIn offsetIn lengthIn startIn countIn part sectionIn columnOf columnIn planIn longEnough offsetsKept countKept sizesKept
-    horizonKept kindKept ascends counts countsKept integratorKept inputKept nodeKept linkLimits linkOrdered commandLimits commandOrdered
+    horizonIn offsetIn lengthIn requiredOffset countIn part sectionIn columnOf columnIn planIn longEnough offsetsKept countKept sizesKept
+    horizonKept nodeTest pairAscends countList countsKept integratorKept inputKept nodeKept linkLimitsKept linkOrdered commandLimitsKept commandOrdered
     numberOf isClean orElse firstFinding horizonFinding integratorsFinding inputsFinding nodesFinding linksFinding commandsFinding
-    planFinding findingOf accepted offsetFrom headerWords integratorWords fileWords encode unusedNat unusedInt planUnused nodeOf valueWith
+    planFinding findingOf accepted offsetFrom headerWords integratorWords fileWords encode natsZeroFrom intsZeroFrom planUnusedZero nodeValue valueWith
     valueOf sumOver rateOf upperLevel lowerLevel distance ticksTo dueTick dueOf nextCommand commandTick leastDue nextTick startSlope
     startDue startOf startState idleState isDue setsInput isCommanded changes dependsWith linkReaches reached positionAt inputThen
-    inputsThen moves eventBytes eventsAt outputs slopeThen xThen dueThen takenAt tickOf instant eventsOf bars barring statusNumber statusIntegrator statusPaused
-    statusBy statusAt statusOf isPaused after events positionOf settled plainStart plainTick plainPosition plainOutputs plainInstant
-    plainStatus plainEventsOf plainEventsFrom plainEvents lazyCount plainFrom plainAfter planSound runningUnused integratorSound runningSound isSound
+    inputsThen moves eventBytes eventsAt outputs slopeThen xThen dueThen takenAt nextTickOf instant eventsOf bars barring statusNumber statusIntegrator statusPaused
+    statusBy statusAt statusOf isPaused after events positionOf withRatesAndDues plainStart plainNextTick plainPosition plainOutputs plainInstant
+    plainStatus plainEventsOf plainEventsFrom plainEvents lazyCount plainFrom plainAfter planSound runningUnusedZero integratorSound runningSound isSound
 further-right =
     refl & refl & refl & refl & refl & refl & refl & refl & refl & refl & refl & refl & refl & refl & refl & refl & refl & refl & refl & refl &
     refl & refl & refl & refl & refl & refl & refl & refl & refl & refl & refl & refl & refl & refl & refl & refl & refl & refl & refl & refl &

@@ -12,34 +12,34 @@ use Rattle.bitset.specs.Counts.{countOf}
 use Rattle.words.specs.Word.{numberAt, bytesOf, signedOf, unsignedOf, wordOf, flat}
 use Rattle.plan.specs.Numbers.{sections}
 use Rattle.plan.specs.Lists.{intAt, table, row, joined, every, some, all, firstFrom}
-use Rattle.plan.specs.Format.{horizonIn, offsetIn, lengthIn, startIn, countIn, part, sectionIn, columnOf, columnIn, planIn}
-use Rattle.plan.specs.Tests.{longEnough, offsetsKept, countKept, sizesKept, horizonKept, ascends, counts, countsKept, integratorKept, inputKept}
-use Rattle.plan.specs.Tests.{linkLimits, linkOrdered, commandLimits, commandOrdered}
+use Rattle.plan.specs.Format.{horizonIn, offsetIn, lengthIn, requiredOffset, countIn, part, sectionIn, columnOf, columnIn, planIn}
+use Rattle.plan.specs.Tests.{longEnough, offsetsKept, countKept, sizesKept, horizonKept, pairAscends, countList, countsKept, integratorKept, inputKept}
+use Rattle.plan.specs.Tests.{linkLimitsKept, linkOrdered, commandLimitsKept, commandOrdered}
 use Rattle.plan.specs.Refusals.{numberOf, isClean, orElse, firstFinding, horizonFinding, integratorsFinding, inputsFinding, nodesFinding}
 use Rattle.plan.specs.Refusals.{linksFinding, commandsFinding, planFinding, findingOf, accepted}
 use Rattle.plan.specs.Encoding.{offsetFrom, headerWords, integratorWords, inputWords, linkWords, commandWords, fileWords, encode}
-use Rattle.plan.specs.Unused.{unusedNat, unusedInt, planUnused}
-use Rattle.plan.specs.Cases.{Case, case, AllRight, end, _&_}
-use Rattle.plan.specs.Files.{fileOf, cupFile, cupPlan}
+use Rattle.plan.specs.Unused.{natsZeroFrom, intsZeroFrom, planUnusedZero}
+use Rattle.plan.specs.ExampleTables.{Case, case, AllRight, end, _&_}
+use Rattle.plan.specs.ExampleFiles.{fileOf, cupFile, cupPlan}
 use Rattle.plan.specs.declared.Plan.{Plan}
-use Rattle.machine.specs.Values.{nodeOf, valueWith, valueOf, sumOver, rateOf}
+use Rattle.machine.specs.Values.{nodeValue, valueWith, valueOf, sumOver, rateOf}
 use Rattle.machine.specs.Due.{upperLevel, lowerLevel, distance, ticksTo, dueTick, dueOf}
 use Rattle.machine.specs.Next.{nextCommand, commandTick, leastDue, nextTick}
 use Rattle.machine.specs.Start.{startSlope, startDue, startOf, startState}
 use Rattle.machine.specs.Reach.{isDue, setsInput, isCommanded, changes, dependsWith, linkReaches, reached}
 use Rattle.machine.specs.Instant.{positionAt, inputThen, inputsThen, moves, eventBytes, eventsAt, outputs, slopeThen, xThen, dueThen, takenAt}
-use Rattle.machine.specs.Instant.{tickOf, instant, eventsOf}
+use Rattle.machine.specs.Instant.{nextTickOf, instant, eventsOf}
 use Rattle.machine.specs.Status.{statusNumber, statusPaused, bars, barring, statusBy, statusAt, statusOf, isPaused}
 use Rattle.machine.specs.Runs.{after, events, positionOf}
-use Rattle.machine.specs.SoundTest.{planSound, runningUnused, integratorSound, runningSound, isSound}
+use Rattle.machine.specs.SoundTest.{planSound, runningUnusedZero, integratorSound, runningSound, isSound}
 use Rattle.machine.specs.declared.Engine.{Engine}
 use Rattle.machine.specs.declared.Engine.the-variants.{Lazy, Eager}
 use Rattle.listingtext.specs.Decimal.{digitsIn, decimal, signedDecimal}
 use Rattle.listingtext.specs.Lines.{eventLine, endLine, lineAt, linesOf}
-use Rattle.calls.specs.Calls.{loadOf, roomOf, declineOf, runNumber, ranState, ranEvents, runOf, bufferOfRun, positionNumber, positionedOf}
+use Rattle.calls.specs.Calls.{loadOf, bytesNeeded, runNumberIfSound, runNumber, ranState, ranEvents, runOf, bufferOfRun, positionNumber, positionedOf}
 use Rattle.calls.specs.declared.Ran.{Ran}
-use Rattle.listingturns.specs.Listing.{eventLines, closing, listedBy, listingOf}
-use Rattle.listingturns.specs.Turns.{turnState, turnMore, turnText, firstText, turnsFrom, printedIn}
+use Rattle.listingturns.specs.Listing.{eventLines, endLineOf, listingOfRun, listingOf}
+use Rattle.listingturns.specs.Turns.{turnState, turnMore, turnText, beginText, turnsFrom, printedIn}
 
 -- ---- P1, "A cup in full"
 
@@ -165,11 +165,11 @@ p6-slopes = case (List ℤ) (loadOf sumsFile .state .run .s) (negsuc 0 ∷ negsu
 
 -- "Node 1 with 1 and −1: −1."
 abbrev p7-product : Case
-p7-product = case ℤ (nodeOf 1 (pos 0) (pos 0) (pos 1) (negsuc 0)) (negsuc 0)
+p7-product = case ℤ (nodeValue 1 (pos 0) (pos 0) (pos 1) (negsuc 0)) (negsuc 0)
 
 -- "Node 3 with a=b: hi.": lo is 1, hi is 2
 abbrev p8-comparison : Case
-p8-comparison = case ℤ (nodeOf 3 (pos 1) (pos 2) (pos 7) (pos 7)) (pos 2)
+p8-comparison = case ℤ (nodeValue 3 (pos 1) (pos 2) (pos 7) (pos 7)) (pos 2)
 
 -- ---- P9: "Due value M passes, M+1 bars."
 
@@ -212,16 +212,16 @@ p1-to-p9 =
 -- every case is right: each pair of values is equal by computation
 pub p1-to-p9-right : AllRight p1-to-p9
 unfolding p1-to-p9 ceilDiv limited within countOf numberAt bytesOf signedOf unsignedOf flat table row joined every some all firstFrom
-    horizonIn offsetIn lengthIn startIn countIn part sectionIn columnOf columnIn planIn longEnough offsetsKept countKept sizesKept
-    horizonKept ascends counts countsKept integratorKept inputKept linkLimits linkOrdered commandLimits commandOrdered numberOf isClean
+    horizonIn offsetIn lengthIn requiredOffset countIn part sectionIn columnOf columnIn planIn longEnough offsetsKept countKept sizesKept
+    horizonKept pairAscends countList countsKept integratorKept inputKept linkLimitsKept linkOrdered commandLimitsKept commandOrdered numberOf isClean
     orElse firstFinding horizonFinding integratorsFinding inputsFinding nodesFinding linksFinding commandsFinding planFinding findingOf
-    accepted offsetFrom headerWords integratorWords inputWords linkWords commandWords fileWords encode unusedNat unusedInt planUnused
-    nodeOf valueWith valueOf sumOver rateOf upperLevel lowerLevel distance ticksTo dueTick dueOf nextCommand commandTick leastDue nextTick
+    accepted offsetFrom headerWords integratorWords inputWords linkWords commandWords fileWords encode natsZeroFrom intsZeroFrom planUnusedZero
+    nodeValue valueWith valueOf sumOver rateOf upperLevel lowerLevel distance ticksTo dueTick dueOf nextCommand commandTick leastDue nextTick
     startSlope startDue startOf startState isDue setsInput isCommanded changes dependsWith linkReaches reached positionAt inputThen
-    inputsThen moves eventBytes eventsAt outputs slopeThen xThen dueThen takenAt tickOf instant eventsOf bars barring statusNumber statusPaused statusBy statusAt statusOf
-    isPaused after events positionOf planSound runningUnused integratorSound runningSound isSound digitsIn decimal signedDecimal eventLine
-    endLine lineAt linesOf loadOf roomOf declineOf runNumber ranState ranEvents runOf bufferOfRun positionNumber positionedOf eventLines
-    closing listedBy listingOf turnState turnMore turnText firstText turnsFrom printedIn
+    inputsThen moves eventBytes eventsAt outputs slopeThen xThen dueThen takenAt nextTickOf instant eventsOf bars barring statusNumber statusPaused statusBy statusAt statusOf
+    isPaused after events positionOf planSound runningUnusedZero integratorSound runningSound isSound digitsIn decimal signedDecimal eventLine
+    endLine lineAt linesOf loadOf bytesNeeded runNumberIfSound runNumber ranState ranEvents runOf bufferOfRun positionNumber positionedOf eventLines
+    endLineOf listingOfRun listingOf turnState turnMore turnText beginText turnsFrom printedIn
 p1-to-p9-right =
     refl & refl & refl & refl & refl & refl & refl & refl & refl & refl & refl & refl & refl & refl & refl & refl & refl & refl & refl & refl &
     refl & refl & refl & refl & refl & refl & refl & refl & refl & end

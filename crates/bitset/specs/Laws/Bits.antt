@@ -13,7 +13,7 @@ use lib.Arith.{lt-one}
 use lib.Pow.{pow-pos, pow-mono, pow-lt, shl-exact, shr-shr, shr-lt, high}
 use lib.Bits.{bitAnd, bitOr, or-shr, or-mod, or-lt, or-shifted-r, and-shr, and-mod, block-half, block-odd}
 use borrow.Author.Tests.{eq-eqb, ne-eqb}
-use Rattle.bitset.specs.Mask.{has, maskOf, allOf, union, withBit, joinedOf}
+use Rattle.bitset.specs.Mask.{has, maskOf, allOf, union, withBit, unionShifted}
 
 -- the lowest digit is 0 or 1
 pub parity : (m : ℕ) → (m % 2 ≡ 0) ⊎ (m % 2 ≡ 1)
@@ -109,16 +109,16 @@ one-shl w k l = shl-exact 1 k w (omega arith) (omega arith) ∙ one-mul (2 ^ k)
 
 -- ---- two masks as one
 
-pub has-joined-low : (a b n i : ℕ) → i < n → has (joinedOf a b n) i ≡ has a i
-unfolding joinedOf
-has-joined-low a b zero i l = absurd (not-suc-le-zero l)
-has-joined-low a b (suc n) zero l = has-zero (b * 2 ^ suc n + a) ∙ rw block-odd (sym (has-zero a))
-has-joined-low a b (suc n) (suc i) l =
-    has-suc (b * 2 ^ suc n + a) i ∙ rw block-half (has-joined-low (a / 2) b n i (le-of-suc-le-suc l)) ∙ sym (has-suc a i)
+pub has-shifted-low : (a b n i : ℕ) → i < n → has (unionShifted a b n) i ≡ has a i
+unfolding unionShifted
+has-shifted-low a b zero i l = absurd (not-suc-le-zero l)
+has-shifted-low a b (suc n) zero l = has-zero (b * 2 ^ suc n + a) ∙ rw block-odd (sym (has-zero a))
+has-shifted-low a b (suc n) (suc i) l =
+    has-suc (b * 2 ^ suc n + a) i ∙ rw block-half (has-shifted-low (a / 2) b n i (le-of-suc-le-suc l)) ∙ sym (has-suc a i)
 
-pub has-joined-high : (a b n i : ℕ) → a < 2 ^ n → n ≤ i → has (joinedOf a b n) i ≡ has b (i - n)
-unfolding joinedOf
-has-joined-high a b n i h l =
+pub has-shifted-high : (a b n i : ℕ) → a < 2 ^ n → n ≤ i → has (unionShifted a b n) i ≡ has b (i - n)
+unfolding unionShifted
+has-shifted-high a b n i h l =
     let e : i ≡ n + (i - n) = omega arith in
     ap (has (b * 2 ^ n + a)) e ∙ sym (has-shr (b * 2 ^ n + a) n (i - n)) ∙ ap (λ (x : ℕ). has x (i - n)) (high b n h)
 

@@ -5,12 +5,12 @@ use mathlib.Core.List.{List, [], _++_}
 use Prim.Native.Nat.{ℕ, _+_, _*_, _≤_, _<_}
 use lib.ListN.{length, take, drop}
 use Rattle.words.specs.Word.{Bytes, word}
-use Rattle.plan.specs.Format.{Shaped, planIn}
+use Rattle.plan.specs.Format.{PlanWidths, planIn}
 use Rattle.plan.specs.Refusals.{sectionOf, sectionStart}
 use Rattle.plan.specs.Rules.{Answered}
 use Rattle.plan.specs.Places.{HeaderPlaces, EntryPlaces}
 use Rattle.machine.specs.Start.{startState, idleState}
-use Rattle.machine.specs.Sound.{RunningShaped, Sound}
+use Rattle.machine.specs.Sound.{RunningWidths, Sound}
 use Rattle.machine.specs.declared.State.{State}
 use Rattle.calls.specs.Calls.{loadOf, writeOf, bufferOfWrite}
 
@@ -62,15 +62,15 @@ pub record WrittenBackPromise (file buffer : List ℕ) : Type 0 where
 abbrev pub LoadThenWrite : Type 0
 LoadThenWrite = (file buffer : List ℕ) → Bytes file → loadOf file .number ≡ 0 → length file ≤ length buffer → WrittenBackPromise file buffer
 
--- what was written for a sound state is loaded as that plan's start. `Shaped` says that the plan is one that a struct can hold
+-- what was written for a sound state is loaded as that plan's start. `PlanWidths` says that the plan is one that a struct can hold
 pub record LoadedBack (st : State) (buffer : List ℕ) : Type 0 where
   pub number : loadOf (take (writeOf st buffer .length) (bufferOfWrite st buffer)) .number ≡ 0
   pub entry : loadOf (take (writeOf st buffer .length) (bufferOfWrite st buffer)) .entry ≡ 0
   pub state : loadOf (take (writeOf st buffer .length) (bufferOfWrite st buffer)) .state ≡ startState (st .plan)
 
 abbrev pub WriteThenLoad : Type 0
-WriteThenLoad = (st : State) (buffer : List ℕ) → Shaped (st .plan) → writeOf st buffer .number ≡ 0 → LoadedBack st buffer
+WriteThenLoad = (st : State) (buffer : List ℕ) → PlanWidths (st .plan) → writeOf st buffer .number ≡ 0 → LoadedBack st buffer
 
 -- a loaded state is one that a struct can hold
-abbrev pub LoadShaped : Type 0
-LoadShaped = (file : List ℕ) → Shaped (loadOf file .state .plan) × RunningShaped (loadOf file .state .run)
+abbrev pub LoadWidths : Type 0
+LoadWidths = (file : List ℕ) → PlanWidths (loadOf file .state .plan) × RunningWidths (loadOf file .state .run)

@@ -23,34 +23,34 @@ use Rattle.calls.specs.Lists.{Call, answerOf, bufferOf, afterCalls, budg
 use Rattle.calls.specs.declared.Ran.{Ran}
 
 -- what a call of a list answers in itself, and the buffer that it leaves
-pub record CallPromise (p : Plan) (st : State) (c : Call) (answer : Ran) (buffer : List ℕ) : Type 0 where
+pub record CallPromise (p : Plan) (st : State) (call : Call) (answer : Ran) (buffer : List ℕ) : Type 0 where
   -- "There a call is declined by 11 or 12 only", and by these exactly as they are named; never by 10
-  pub above : 1024 < c .budget → answer .number ≡ 11
-  pub short : c .budget ≤ 1024 → length (c .buffer) < c .budget * (p .counts .n + p .counts .m) * 12 → answer .number ≡ 12
-  pub accepted : c .budget ≤ 1024 → c .budget * (p .counts .n + p .counts .m) * 12 ≤ length (c .buffer) → answer .number ≡ 0
+  pub above : 1024 < call .budget → answer .number ≡ 11
+  pub short : call .budget ≤ 1024 → length (call .buffer) < call .budget * (p .counts .n + p .counts .m) * 12 → answer .number ≡ 12
+  pub accepted : call .budget ≤ 1024 → call .budget * (p .counts .n + p .counts .m) * 12 ≤ length (call .buffer) → answer .number ≡ 0
   -- "Each accepted call answers the status and integrator of the state it returns."
   pub status : answer .number ≡ 0 → answer .status ≡ statusNumber (statusOf p (answer .state .run))
   pub integrator : answer .number ≡ 0 → answer .integrator ≡ statusIntegrator (statusOf p (answer .state .run))
   -- "bytes written from the buffer's start; later bytes keep their value", and there are as many as before
-  pub written : answer .written ≤ length (c .buffer)
-  pub size : length buffer ≡ length (c .buffer)
-  pub later : drop (answer .written) buffer ≡ drop (answer .written) (c .buffer)
+  pub written : answer .written ≤ length (call .buffer)
+  pub size : length buffer ≡ length (call .buffer)
+  pub later : drop (answer .written) buffer ≡ drop (answer .written) (call .buffer)
   -- a refusal changes nothing that was lent
-  pub declined : (answer .number ≡ 0 → ⊥) → (answer .state ≡ st) × (buffer ≡ c .buffer)
+  pub declined : (answer .number ≡ 0 → ⊥) → (answer .state ≡ st) × (buffer ≡ call .buffer)
 
 -- "Plain machine and engines are compared on everything but l, the stored x and updates"
-pub record SameAsPlain (p : Plan) (st : State) (m : Plain) : Type 0 where
+pub record SameAsPlain (p : Plan) (st : State) (plain : Plain) : Type 0 where
   pub plan : st .plan ≡ p
-  pub q : st .run .q ≡ m .q
-  pub s : st .run .s ≡ m .s
-  pub d : st .run .d ≡ m .d
-  pub inputs : st .run .inputs ≡ m .inputs
-  pub clock : st .run .clocks .clock ≡ m .clock
-  pub next : st .run .clocks .next ≡ m .next
-  pub instants : st .run .clocks .instants ≡ m .instants
+  pub q : st .run .q ≡ plain .q
+  pub s : st .run .s ≡ plain .s
+  pub d : st .run .d ≡ plain .d
+  pub inputs : st .run .inputs ≡ plain .inputs
+  pub clock : st .run .clocks .clock ≡ plain .clock
+  pub next : st .run .clocks .next ≡ plain .next
+  pub instants : st .run .clocks .instants ≡ plain .instants
   -- "that takes in status and its integrator by the rule above, the position call for every integrator"
-  pub status : statusOf p (st .run) ≡ plainStatus p m
-  pub position : (i : ℕ) → i < p .counts .n → positionedOf st i ≡ record { number = 0; value = intAt (m .x) i; state = st }
+  pub status : statusOf p (st .run) ≡ plainStatus p plain
+  pub position : (i : ℕ) → i < p .counts .n → positionedOf st i ≡ record { number = 0; value = intAt (plain .x) i; state = st }
   pub no-position : (i : ℕ) → p .counts .n ≤ i → positionedOf st i ≡ record { number = 14; value = pos 0; state = st }
 
 -- "any two lists with an equal sum end alike in all of these": the states in which two lists end, and the bytes that they joined, in everything
@@ -84,47 +84,47 @@ pub record InstantPromise (p : Plan) (st : State) (calls : List Call) (i : ℕ) 
   pub grown : afterCalls st (cutAt st calls i) .run .clocks .updates ≡ growthUpTo p (engineAt st calls) i
 
 -- what the accepted budgets of a list add up to, and the call that an instant belongs to
-pub record FoldPromise (st : State) (c : Call) (calls : List Call) : Type 0 where
+pub record FoldPromise (st : State) (call : Call) (calls : List Call) : Type 0 where
   -- "the budgets of a list's accepted run calls added up; a declined call feeds it nothing"
-  pub accepted-sum : answerOf st c .number ≡ 0 → budgetSum st (c ∷ calls) ≡ c .budget + budgetSum (answerOf st c .state) calls
-  pub declined-sum : (answerOf st c .number ≡ 0 → ⊥) → budgetSum st (c ∷ calls) ≡ budgetSum (answerOf st c .state) calls
+  pub accepted-sum : answerOf st call .number ≡ 0 → budgetSum st (call ∷ calls) ≡ call .budget + budgetSum (answerOf st call .state) calls
+  pub declined-sum : (answerOf st call .number ≡ 0 → ⊥) → budgetSum st (call ∷ calls) ≡ budgetSum (answerOf st call .state) calls
   -- "Instant i .. belongs to the first accepted call at which the accepted budgets, its own included, add up to i or more"
-  pub own : (i : ℕ) → answerOf st c .number ≡ 0 → 1 ≤ i → i ≤ c .budget → engineAt st (c ∷ calls) i ≡ c .engine
-  pub later : (i : ℕ) → answerOf st c .number ≡ 0 → c .budget < i
-      → engineAt st (c ∷ calls) i ≡ engineAt (answerOf st c .state) calls (i - c .budget)
-  pub declined : (i : ℕ) → (answerOf st c .number ≡ 0 → ⊥) → 1 ≤ i → engineAt st (c ∷ calls) i ≡ engineAt (answerOf st c .state) calls i
+  pub own : (i : ℕ) → answerOf st call .number ≡ 0 → 1 ≤ i → i ≤ call .budget → engineAt st (call ∷ calls) i ≡ call .engine
+  pub later : (i : ℕ) → answerOf st call .number ≡ 0 → call .budget < i
+      → engineAt st (call ∷ calls) i ≡ engineAt (answerOf st call .state) calls (i - call .budget)
+  pub declined : (i : ℕ) → (answerOf st call .number ≡ 0 → ⊥) → 1 ≤ i → engineAt st (call ∷ calls) i ≡ engineAt (answerOf st call .state) calls i
 
 abbrev pub ListsMean : Type 0
-ListsMean = (st : State) (c : Call) (calls : List Call) → FoldPromise st c calls
+ListsMean = (st : State) (call : Call) (calls : List Call) → FoldPromise st call calls
 
 -- by how much updates grow: "by n if that call is eager, else by the number that step 5 moves for the lazy engine, with the plain machine's due
--- ticks"; over the instants 1 to k, n times those that eager calls took, and the number due or reached over those that lazy calls took
-pub record GrowthPromise (p : Plan) (engine : ℕ → Engine) (k : ℕ) (m : Plain) : Type 0 where
-  pub lazy : growth p Lazy m ≡ countOf (moves p Lazy (m .d) (nextTick p (m .d) (m .next))) (p .counts .n)
-  pub due-or-reached : lazyCount p m ≡ countOf (moves p Lazy (m .d) (nextTick p (m .d) (m .next))) (p .counts .n)
-  pub parts : growthUpTo p engine k ≡ p .counts .n * eagerInstants engine k + lazyMoves p engine k
+-- ticks"; over the instants 1 to `last`, n times those that eager calls took, and the number due or reached over those that lazy calls took
+pub record GrowthPromise (p : Plan) (engine : ℕ → Engine) (last : ℕ) (plain : Plain) : Type 0 where
+  pub lazy : growth p Lazy plain ≡ countOf (moves p Lazy (plain .d) (nextTick p (plain .d) (plain .next))) (p .counts .n)
+  pub due-or-reached : lazyCount p plain ≡ countOf (moves p Lazy (plain .d) (nextTick p (plain .d) (plain .next))) (p .counts .n)
+  pub parts : growthUpTo p engine last ≡ p .counts .n * eagerInstants engine last + lazyMoves p engine last
   -- an instant that an eager call took counts in the first part alone, one that a lazy call took in the second alone
   pub none : (eagerInstants engine 0 ≡ 0) × (lazyMoves p engine 0 ≡ 0)
-  pub by-eager : engine (k + 1) ≡ Eager
-      → (eagerInstants engine (k + 1) ≡ eagerInstants engine k + 1) × (lazyMoves p engine (k + 1) ≡ lazyMoves p engine k)
-  pub by-lazy : engine (k + 1) ≡ Lazy
-      → (eagerInstants engine (k + 1) ≡ eagerInstants engine k) × (lazyMoves p engine (k + 1) ≡ lazyMoves p engine k + lazyCount p (plainAfter p k))
+  pub by-eager : engine (last + 1) ≡ Eager
+      → (eagerInstants engine (last + 1) ≡ eagerInstants engine last + 1) × (lazyMoves p engine (last + 1) ≡ lazyMoves p engine last)
+  pub by-lazy : engine (last + 1) ≡ Lazy
+      → (eagerInstants engine (last + 1) ≡ eagerInstants engine last) × (lazyMoves p engine (last + 1) ≡ lazyMoves p engine last + lazyCount p (plainAfter p last))
 
 abbrev pub GrowthMeans : Type 0
-GrowthMeans = (p : Plan) (engine : ℕ → Engine) (k : ℕ) (m : Plain) → GrowthPromise p engine k m
+GrowthMeans = (p : Plan) (engine : ℕ → Engine) (last : ℕ) (plain : Plain) → GrowthPromise p engine last plain
 
 -- the claim about a list, from the loaded state
 pub record ListPromise (p : Plan) (st : State) (calls : List Call) : Type 0 where
-  pub each : (earlier : List Call) (c : Call) (later : List Call) → calls ≡ earlier ++ (c ∷ later)
-      → CallPromise p (afterCalls st earlier) c (answerOf (afterCalls st earlier) c) (bufferOf (afterCalls st earlier) c)
+  pub each : (earlier : List Call) (call : Call) (later : List Call) → calls ≡ earlier ++ (call ∷ later)
+      → CallPromise p (afterCalls st earlier) call (answerOf (afterCalls st earlier) call) (bufferOf (afterCalls st earlier) call)
   pub state : SameAsPlain p (afterCalls st calls) (plainAfter p (budgetSum st calls))
   -- "and the bytes that accepted calls answer as written, joined in call order"
   pub bytes : joinedBytes st calls ≡ plainEvents p (budgetSum st calls)
   pub instants : (i : ℕ) → 1 ≤ i → i ≤ plainAfter p (budgetSum st calls) .instants → InstantPromise p st calls i
   pub updates : afterCalls st calls .run .clocks .updates ≡ growthUpTo p (engineAt st calls) (plainAfter p (budgetSum st calls) .instants)
   -- n times the instants that eager calls took, and over those that lazy calls took the number due or reached
-  pub counted : let k = plainAfter p (budgetSum st calls) .instants in
-      afterCalls st calls .run .clocks .updates ≡ p .counts .n * eagerInstants (engineAt st calls) k + lazyMoves p (engineAt st calls) k
+  pub counted : let last = plainAfter p (budgetSum st calls) .instants in
+      afterCalls st calls .run .clocks .updates ≡ p .counts .n * eagerInstants (engineAt st calls) last + lazyMoves p (engineAt st calls) last
   -- "any two lists with an equal sum end alike in all of these"
   pub alike : (others : List Call) → budgetSum st others ≡ budgetSum st calls
       → EndAlike (afterCalls st others) (afterCalls st calls) (joinedBytes st others) (joinedBytes st calls)

@@ -9,7 +9,7 @@ use lib.IntN.{ℤ, pos, negℤ, _+ℤ_, _-ℤ_, _*ℤ_}
 use lib.Signed.{_≤ℤ_, _<ℤ_}
 use lib.ListN.{length}
 use Rattle.integers.specs.Parts.{up, ∣_∣}
-use Rattle.integers.specs.Division.{floored, Ceil}
+use Rattle.integers.specs.Division.{floor65536, Ceil}
 use Rattle.integers.specs.Range.{limited}
 use Rattle.bitset.specs.Counts.{countOf}
 use Rattle.words.specs.Word.{word, signedWord}
@@ -22,10 +22,10 @@ use Rattle.machine.specs.Due.{distance, ticksTo, dueOf, LeastTicks}
 use Rattle.machine.specs.Next.{nextCommand}
 use Rattle.machine.specs.Start.{startState}
 use Rattle.machine.specs.Reach.{changes, Changed, reached, Reached}
-use Rattle.machine.specs.Instant.{positionAt, moves, Moves, tickOf, instant, eventsOf}
+use Rattle.machine.specs.Instant.{positionAt, moves, Moves, nextTickOf, instant, eventsOf}
 use Rattle.machine.specs.Status.{statusNumber, statusIntegrator, statusOf}
 use Rattle.machine.specs.Runs.{after, events}
-use Rattle.machine.specs.Plain.{Plain, plainStart, plainTick, plainPosition, plainInstant, plainEventsOf, plainStatus}
+use Rattle.machine.specs.Plain.{Plain, plainStart, plainNextTick, plainPosition, plainInstant, plainEventsOf, plainStatus}
 use Rattle.machine.specs.Plain.{plainAfter, plainEvents}
 use Rattle.machine.specs.declared.Running.{Running}
 use Rattle.machine.specs.declared.Engine.{Engine}
@@ -40,7 +40,7 @@ pub record ValuePromise (p : Plan) (q u : List ℤ) : Type 0 where
       → valueOf p q u (p .counts .n + p .counts .m + j) ≡ limited (negℤ (pos M)) (pos M) (valueOf p q u (natAt (p .nodes .a) j) -ℤ valueOf p q u (natAt (p .nodes .b) j))
   pub products : (j : ℕ) → j < p .counts .k → natAt (p .nodes .kinds) j ≡ 1
       → valueOf p q u (p .counts .n + p .counts .m + j)
-      ≡ limited (negℤ (pos M)) (pos M) (floored (valueOf p q u (natAt (p .nodes .a) j) *ℤ valueOf p q u (natAt (p .nodes .b) j)))
+      ≡ limited (negℤ (pos M)) (pos M) (floor65536 (valueOf p q u (natAt (p .nodes .a) j) *ℤ valueOf p q u (natAt (p .nodes .b) j)))
   -- "2 is a limited to lo..hi"
   pub limited-values : (j : ℕ) → j < p .counts .k → natAt (p .nodes .kinds) j ≡ 2
       → valueOf p q u (p .counts .n + p .counts .m + j) ≡ limited (intAt (p .nodes .lows) j) (intAt (p .nodes .highs) j) (valueOf p q u (natAt (p .nodes .a) j))
@@ -112,7 +112,7 @@ pub record NextPromise (p : Plan) (d : List ℕ) (next t : ℕ) : Type 0 where
   pub no-instant : ((i : ℕ) → i < p .counts .n → never ≤ natAt d i) → (next < p .counts .commands → never ≤ natAt (p .commands .ticks) next) → t ≡ never
 
 abbrev pub NextMeans : Type 0
-NextMeans = (p : Plan) (r : Running) → NextPromise p (r .d) (r .clocks .next) (tickOf p r)
+NextMeans = (p : Plan) (r : Running) → NextPromise p (r .d) (r .clocks .next) (nextTickOf p r)
 
 -- Steps 1 and 2 at tick t: with the due ticks d and the positions at t, outputs q and input values u become q′ and u′
 pub record SourcesPromise (p : Plan) (d : List ℕ) (t : ℕ) (position : ℕ → ℤ) (q u q′ u′ : List ℤ) : Type 0 where
@@ -145,7 +145,7 @@ pub record StepPromise (p : Plan) (engine : Engine) (t : ℕ) (r r′ : Running)
   pub moving : (i : ℕ) → (moves p engine (r .d) t i ≡ true → Moves p engine (r .d) t i) × (Moves p engine (r .d) t i → moves p engine (r .d) t i ≡ true)
 
 abbrev pub StepsMean : Type 0
-StepsMean = (p : Plan) (engine : Engine) (r : Running) → PlanRules p → StepPromise p engine (tickOf p r) r (instant p engine r)
+StepsMean = (p : Plan) (engine : Engine) (r : Running) → PlanRules p → StepPromise p engine (nextTickOf p r) r (instant p engine r)
 
 -- which sources change, and step 4: the tests are the relations in document 01's words
 pub record ReachPromise (p : Plan) (d : List ℕ) (t i : ℕ) : Type 0 where
@@ -158,7 +158,7 @@ ReachMeans = (p : Plan) (d : List ℕ) (t i : ℕ) → PlanRules p → ReachProm
 -- an integrator that an instant does not reach keeps its rate
 abbrev pub Frame : Type 0
 Frame =
-    (p : Plan) (engine : Engine) (r : Running) (i : ℕ) → PlanRules p → (Reached p (r .d) (tickOf p r) i → ⊥)
+    (p : Plan) (engine : Engine) (r : Running) (i : ℕ) → PlanRules p → (Reached p (r .d) (nextTickOf p r) i → ⊥)
     → rateOf p (instant p engine r .q) (instant p engine r .inputs) i ≡ rateOf p (r .q) (r .inputs) i
 
 -- 12 bytes from `at` on read back as an event's tick, source and value
@@ -178,7 +178,7 @@ pub record EventsPromise (p : Plan) (d : List ℕ) (t : ℕ) (position : ℕ →
 abbrev pub EventsRead : Type 0
 EventsRead =
     (p : Plan) (r : Running) → PlanRules p → statusOf p r ≡ Paused
-    → EventsPromise p (r .d) (tickOf p r) (positionAt r (tickOf p r)) (eventsOf p r)
+    → EventsPromise p (r .d) (nextTickOf p r) (positionAt r (nextTickOf p r)) (eventsOf p r)
 
 -- "1 finished if t is never or above the horizon; else 2 range if step 1 bars the instant (with the lowest such integrator); else 0 paused"
 pub record StatusPromise (p : Plan) (d : List ℕ) (t : ℕ) (position : ℕ → ℤ) (status integrator : ℕ) : Type 0 where
@@ -191,7 +191,7 @@ pub record StatusPromise (p : Plan) (d : List ℕ) (t : ℕ) (position : ℕ →
 
 abbrev pub StatusMeans : Type 0
 StatusMeans =
-    (p : Plan) (r : Running) → StatusPromise p (r .d) (tickOf p r) (positionAt r (tickOf p r)) (statusNumber (statusOf p r)) (statusIntegrator (statusOf p r))
+    (p : Plan) (r : Running) → StatusPromise p (r .d) (nextTickOf p r) (positionAt r (nextTickOf p r)) (statusNumber (statusOf p r)) (statusIntegrator (statusOf p r))
 
 -- "A run with budget b takes b instants, or fewer if the status is first 1 or 2", from any figures
 pub record RunPromise (p : Plan) (engine : Engine) (r : Running) : Type 0 where
@@ -207,41 +207,41 @@ RunTakes = (p : Plan) (engine : Engine) (r : Running) → RunPromise p engine r
 -- ════ The plain machine: "these rules with every integrator moved at each instant and no update count"
 
 -- Start
-pub record PlainStartPromise (p : Plan) (m : Plain) : Type 0 where
-  pub x : (i : ℕ) → i < p .counts .n → intAt (m .x) i ≡ intAt (p .integrators .starts) i
-  pub q : (i : ℕ) → i < p .counts .n → intAt (m .q) i ≡ intAt (p .integrators .starts) i
-  pub s : (i : ℕ) → i < p .counts .n → intAt (m .s) i ≡ rateOf p (m .q) (m .inputs) i
-  pub d : (i : ℕ) → i < p .counts .n → natAt (m .d) i ≡ dueOf p (m .q) i 0 (intAt (m .x) i) (intAt (m .s) i)
-  pub inputs : (j : ℕ) → j < p .counts .m → intAt (m .inputs) j ≡ intAt (p .inputs .firsts) j
-  pub clock : m .clock ≡ 0
-  pub next : CommandPromise p 0 (m .next)
-  pub instants : m .instants ≡ 0
+pub record PlainStartPromise (p : Plan) (plain : Plain) : Type 0 where
+  pub x : (i : ℕ) → i < p .counts .n → intAt (plain .x) i ≡ intAt (p .integrators .starts) i
+  pub q : (i : ℕ) → i < p .counts .n → intAt (plain .q) i ≡ intAt (p .integrators .starts) i
+  pub s : (i : ℕ) → i < p .counts .n → intAt (plain .s) i ≡ rateOf p (plain .q) (plain .inputs) i
+  pub d : (i : ℕ) → i < p .counts .n → natAt (plain .d) i ≡ dueOf p (plain .q) i 0 (intAt (plain .x) i) (intAt (plain .s) i)
+  pub inputs : (j : ℕ) → j < p .counts .m → intAt (plain .inputs) j ≡ intAt (p .inputs .firsts) j
+  pub clock : plain .clock ≡ 0
+  pub next : CommandPromise p 0 (plain .next)
+  pub instants : plain .instants ≡ 0
 
 -- one instant, at tick t, from the figures m to the figures m′
-pub record PlainStepPromise (p : Plan) (t : ℕ) (m m′ : Plain) : Type 0 where
+pub record PlainStepPromise (p : Plan) (t : ℕ) (plain plain′ : Plain) : Type 0 where
   -- where integrator i is at t: it was last moved at the clock
-  pub position : (i : ℕ) → plainPosition p m i ≡ intAt (m .x) i +ℤ intAt (m .s) i *ℤ pos (t - m .clock)
-  pub sources : SourcesPromise p (m .d) t (plainPosition p m) (m .q) (m .inputs) (m′ .q) (m′ .inputs)
+  pub position : (i : ℕ) → plainPosition p plain i ≡ intAt (plain .x) i +ℤ intAt (plain .s) i *ℤ pos (t - plain .clock)
+  pub sources : SourcesPromise p (plain .d) t (plainPosition p plain) (plain .q) (plain .inputs) (plain′ .q) (plain′ .inputs)
   -- "every integrator moved", with the slope and the due tick by the new outputs and inputs
-  pub x : (i : ℕ) → i < p .counts .n → intAt (m′ .x) i ≡ plainPosition p m i
-  pub s : (i : ℕ) → i < p .counts .n → intAt (m′ .s) i ≡ rateOf p (m′ .q) (m′ .inputs) i
-  pub d : (i : ℕ) → i < p .counts .n → natAt (m′ .d) i ≡ dueOf p (m′ .q) i t (intAt (m′ .x) i) (intAt (m′ .s) i)
-  pub clock : m′ .clock ≡ t
-  pub next : CommandPromise p t (m′ .next)
-  pub instants : m′ .instants ≡ m .instants + 1
+  pub x : (i : ℕ) → i < p .counts .n → intAt (plain′ .x) i ≡ plainPosition p plain i
+  pub s : (i : ℕ) → i < p .counts .n → intAt (plain′ .s) i ≡ rateOf p (plain′ .q) (plain′ .inputs) i
+  pub d : (i : ℕ) → i < p .counts .n → natAt (plain′ .d) i ≡ dueOf p (plain′ .q) i t (intAt (plain′ .x) i) (intAt (plain′ .s) i)
+  pub clock : plain′ .clock ≡ t
+  pub next : CommandPromise p t (plain′ .next)
+  pub instants : plain′ .instants ≡ plain .instants + 1
 
 -- what is read from any figures: the next instant's tick, the status, the instant itself and its events
-pub record PlainPromise (p : Plan) (m : Plain) : Type 0 where
-  pub tick : NextPromise p (m .d) (m .next) (plainTick p m)
-  pub status : StatusPromise p (m .d) (plainTick p m) (plainPosition p m) (statusNumber (plainStatus p m)) (statusIntegrator (plainStatus p m))
-  pub step : PlanRules p → PlainStepPromise p (plainTick p m) m (plainInstant p m)
-  pub events : PlanRules p → plainStatus p m ≡ Paused → EventsPromise p (m .d) (plainTick p m) (plainPosition p m) (plainEventsOf p m)
+pub record PlainPromise (p : Plan) (plain : Plain) : Type 0 where
+  pub tick : NextPromise p (plain .d) (plain .next) (plainNextTick p plain)
+  pub status : StatusPromise p (plain .d) (plainNextTick p plain) (plainPosition p plain) (statusNumber (plainStatus p plain)) (statusIntegrator (plainStatus p plain))
+  pub step : PlanRules p → PlainStepPromise p (plainNextTick p plain) plain (plainInstant p plain)
+  pub events : PlanRules p → plainStatus p plain ≡ Paused → EventsPromise p (plain .d) (plainNextTick p plain) (plainPosition p plain) (plainEventsOf p plain)
 
 abbrev pub PlainStarts : Type 0
 PlainStarts = (p : Plan) → PlanRules p → PlainStartPromise p (plainStart p)
 
 abbrev pub PlainMeans : Type 0
-PlainMeans = (p : Plan) (m : Plain) → PlainPromise p m
+PlainMeans = (p : Plan) (plain : Plain) → PlainPromise p plain
 
 -- "From Start it takes B instants, or fewer if its status is first 1 or 2": with b for B, and with one more
 pub record PlainRunPromise (p : Plan) (b : ℕ) : Type 0 where

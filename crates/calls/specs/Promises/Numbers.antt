@@ -6,7 +6,7 @@ use mathlib.Core.List.{List}
 use Prim.Native.Nat.{ℕ, _+_, _-_, _*_, _^_, _≤_, _<_}
 use lib.IntN.{ℤ, pos, _+ℤ_, _-ℤ_, _*ℤ_}
 use lib.Signed.{_≤ℤ_, _<ℤ_}
-use Rattle.integers.specs.Division.{floored}
+use Rattle.integers.specs.Division.{floor65536}
 use Rattle.integers.specs.Range.{limited}
 use Rattle.bitset.specs.Counts.{countOf}
 use Rattle.words.specs.Word.{word, signedWord}
@@ -25,8 +25,8 @@ pub record NumbersMean : Type 0 where
   -- never, above every tick
   pub no-tick : never ≡ 2 ^ 32 - 1
   -- "Division by 65,536 is written floor(..), rounding towards minus infinity."
-  pub floor-below : (v : ℤ) → (pos 65536 *ℤ floored v) ≤ℤ v
-  pub floor-above : (v : ℤ) → v <ℤ (pos 65536 *ℤ (floored v +ℤ pos 1))
+  pub floor-below : (v : ℤ) → (pos 65536 *ℤ floor65536 v) ≤ℤ v
+  pub floor-above : (v : ℤ) → v <ℤ (pos 65536 *ℤ (floor65536 v +ℤ pos 1))
   -- limited to lo..hi, and so clipped to ±M
   pub limited-inside : (lo hi z : ℤ) → lo ≤ℤ z → z ≤ℤ hi → limited lo hi z ≡ z
   pub limited-below : (lo hi z : ℤ) → lo ≤ℤ hi → z ≤ℤ lo → limited lo hi z ≡ lo

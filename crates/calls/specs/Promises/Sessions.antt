@@ -13,29 +13,29 @@ use Rattle.machine.specs.declared.State.{State}
 use Rattle.machine.specs.declared.Engine.the-variants.{Lazy, Eager}
 use Rattle.calls.specs.Calls.{loadOf, positionedOf}
 use Rattle.calls.specs.Lists.{Call, afterCalls, budgetSum, joinedBytes, engineAt, AllBy}
-use Rattle.calls.specs.Sessions.{Made, Session, lastState, acceptedSum, writtenBytes, callsOf, madeBy}
+use Rattle.calls.specs.Sessions.{MadeCall, Session, lastState, acceptedSum, writtenBytes, callsOf, sessionOf}
 use Rattle.calls.specs.Promises.Lists.{CallPromise, SameAsPlain, EndAlike, ListPromise}
 use Rattle.calls.specs.declared.Loaded.{Loaded}
 use Rattle.calls.specs.declared.Positioned.{Positioned}
 
-pub record SessionPromise (p : Plan) (st : State) (made : List Made) : Type 0 where
+pub record SessionPromise (p : Plan) (st : State) (made : List MadeCall) : Type 0 where
   -- the outcome is that of the plain machine fed the accepted budgets, and updates have grown as its instants say
   pub state : SameAsPlain p (lastState st made) (plainAfter p (acceptedSum made))
   pub bytes : writtenBytes made ≡ plainEvents p (acceptedSum made)
   pub updates : lastState st made .run .clocks .updates ≡ growthUpTo p (engineAt st (callsOf made)) (plainAfter p (acceptedSum made) .instants)
   -- n times the instants that eager calls took, and over those that lazy calls took the number due or reached
-  pub counted : let engine = engineAt st (callsOf made) in let k = plainAfter p (acceptedSum made) .instants in
-      lastState st made .run .clocks .updates ≡ p .counts .n * eagerInstants engine k + lazyMoves p engine k
+  pub counted : let engine = engineAt st (callsOf made) in let last = plainAfter p (acceptedSum made) .instants in
+      lastState st made .run .clocks .updates ≡ p .counts .n * eagerInstants engine last + lazyMoves p engine last
   -- "any two lists with an equal sum end alike in all of these"
-  pub alike : (others : List Made) → Session st others → acceptedSum others ≡ acceptedSum made
+  pub alike : (others : List MadeCall) → Session st others → acceptedSum others ≡ acceptedSum made
       → EndAlike (lastState st others) (lastState st made) (writtenBytes others) (writtenBytes made)
   -- "Among lists with an equal sum, none has fewer updates than an all-lazy one or more than an all-eager one."
-  pub fewest : (others : List Made) → Session st others → AllBy Lazy (callsOf others) → acceptedSum others ≡ acceptedSum made
+  pub fewest : (others : List MadeCall) → Session st others → AllBy Lazy (callsOf others) → acceptedSum others ≡ acceptedSum made
       → lastState st others .run .clocks .updates ≤ lastState st made .run .clocks .updates
-  pub most : (others : List Made) → Session st others → AllBy Eager (callsOf others) → acceptedSum others ≡ acceptedSum made
+  pub most : (others : List MadeCall) → Session st others → AllBy Eager (callsOf others) → acceptedSum others ≡ acceptedSum made
       → lastState st made .run .clocks .updates ≤ lastState st others .run .clocks .updates
   -- each call's own answer and buffer
-  pub each : (earlier : List Made) (m : Made) (later : List Made) → made ≡ earlier ++ (m ∷ later)
+  pub each : (earlier : List MadeCall) (m : MadeCall) (later : List MadeCall) → made ≡ earlier ++ (m ∷ later)
       → CallPromise p (lastState st earlier) (m .call) (m .answer) (m .buffer)
   -- "the position call for every integrator": what it answers for the last state
   pub position : (i : ℕ) (answer : Positioned) → answer ≡ positionedOf (lastState st made) i → i < p .counts .n
@@ -50,13 +50,13 @@ pub record SessionPromise (p : Plan) (st : State) (made : List Made) : Type 0 wh
 
 abbrev pub EverySession : Type 0
 EverySession =
-    (file : List ℕ) (loaded : Loaded) → loaded ≡ loadOf file → loaded .number ≡ 0 → (made : List Made) → Session (loaded .state) made
+    (file : List ℕ) (loaded : Loaded) → loaded ≡ loadOf file → loaded .number ≡ 0 → (made : List MadeCall) → Session (loaded .state) made
     → SessionPromise (planIn file) (loaded .state) made
 
 -- every list of calls is made so: its session, whose calls are the list
-pub record MadePromise (st : State) (calls : List Call) : Type 0 where
-  pub session : Session st (madeBy st calls)
-  pub same-calls : callsOf (madeBy st calls) ≡ calls
+pub record SessionOfPromise (st : State) (calls : List Call) : Type 0 where
+  pub session : Session st (sessionOf st calls)
+  pub same-calls : callsOf (sessionOf st calls) ≡ calls
 
 abbrev pub SessionsExist : Type 0
-SessionsExist = (st : State) (calls : List Call) → MadePromise st calls
+SessionsExist = (st : State) (calls : List Call) → SessionOfPromise st calls

@@ -10,7 +10,7 @@ use Rattle.plan.specs.Encoding.{encode}
 use Rattle.plan.specs.Idle.{idlePlan}
 use Rattle.plan.specs.declared.Plan.{Plan}
 use Rattle.machine.specs.Start.{startState, idleState}
-use Rattle.machine.specs.Sound.{RunningShaped, Sound}
+use Rattle.machine.specs.Sound.{RunningWidths, Sound}
 use Rattle.machine.specs.SoundTest.{isSound}
 use Rattle.machine.specs.declared.State.{State}
 use Rattle.machine.specs.declared.Engine.{Engine}
@@ -55,7 +55,7 @@ abbrev pub IdleLoaded : Type 0
 IdleLoaded = IdlePromise idlePlan idleState
 
 -- a run keeps the width of the arrays
-abbrev pub RunShaped : Type 0
-RunShaped =
-    (engine : Engine) (st : State) (budget : ℕ) (buffer : List ℕ) → RunningShaped (st .run)
-    → RunningShaped (runOf engine st budget buffer .state .run)
+abbrev pub RunWidths : Type 0
+RunWidths =
+    (engine : Engine) (st : State) (budget : ℕ) (buffer : List ℕ) → RunningWidths (st .run)
+    → RunningWidths (runOf engine st budget buffer .state .run)

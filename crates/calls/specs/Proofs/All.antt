@@ -4,14 +4,14 @@ use Rattle.calls.specs.Proofs.Numbers.{numbers-mean}
 use Rattle.calls.specs.Proofs.Machine.{command-means, next-means, status-means, reach-means, frame, due-least, due-between}
 use Rattle.calls.specs.Proofs.Steps.{values-mean, start-means, steps-mean, run-takes}
 use Rattle.calls.specs.Proofs.Calls.{every-number, accepted, every-buffer, declined}
-use Rattle.calls.specs.Proofs.Files.{every-file, every-view, load-shaped}
+use Rattle.calls.specs.Proofs.Files.{every-file, every-view, load-widths}
 use Rattle.calls.specs.Proofs.Places.{every-header, every-place}
 use Rattle.calls.specs.Proofs.Limits.{limits}
 use Rattle.calls.specs.Proofs.Sound.{sound-means, load-sound, idle-loaded, next-determined}
 use Rattle.calls.specs.Proofs.RoundTrips.{load-then-write, write-then-load}
 use Rattle.calls.specs.Proofs.Events.{events-read}
 use Rattle.calls.specs.Proofs.PlainMachine.{plain-starts, plain-means, plain-takes}
-use Rattle.calls.specs.Proofs.Runs.{run-sound, run-moves, run-shaped}
+use Rattle.calls.specs.Proofs.Runs.{run-sound, run-moves, run-widths}
 use Rattle.calls.specs.Proofs.Folds.{lists-mean, growth-means}
 use Rattle.calls.specs.Proofs.Demand3.{demand-3}
 use Rattle.calls.specs.Proofs.Sessions.{every-session, sessions-exist}
@@ -26,7 +26,7 @@ every-promise =
       every-view = every-view;
       load-then-write = load-then-write;
       write-then-load = write-then-load;
-      load-shaped = load-shaped;
+      load-widths = load-widths;
       values-mean = values-mean;
       due-least = due-least;
       due-between = due-between;
@@ -53,7 +53,7 @@ every-promise =
       idle-loaded = idle-loaded;
       next-determined = next-determined;
       run-moves = run-moves;
-      run-shaped = run-shaped;
+      run-widths = run-widths;
       every-number = every-number;
       accepted = accepted;
       declined = declined;

@@ -17,14 +17,14 @@ use Rattle.plan.specs.Laws.Layout.{length-encode}
 use Rattle.machine.specs.Instant.{positionAt}
 use Rattle.machine.specs.Runs.{positionOf}
 use Rattle.machine.specs.Laws.Lengths.{run-bytes, events-are-bytes}
-use Rattle.machine.specs.Laws.Tested.{sound-means}
-use Rattle.calls.specs.Calls.{over, writeNumber, writeOf, bufferOfWrite, roomOf, declineOf, runNumber, ranState, ranEvents, runOf}
+use Rattle.machine.specs.Laws.SoundTest.{sound-means}
+use Rattle.calls.specs.Calls.{writtenOver, writeNumber, writeOf, bufferOfWrite, bytesNeeded, runNumberIfSound, runNumber, ranState, ranEvents, runOf}
 use Rattle.calls.specs.Calls.{bufferOfRun, positionNumber, positionedOf}
 use Rattle.calls.specs.Promises.Calls.{EveryNumber, Accepted, EveryBuffer, Declined}
 use Rattle.calls.specs.Proofs.CallNumbers.{accept-cases, figure-most, unsound-test, write-zero, run-zero}
 
 pub every-number : EveryNumber
-unfolding writeOf writeNumber runOf runNumber declineOf roomOf positionedOf positionNumber
+unfolding writeOf writeNumber runOf runNumber runNumberIfSound bytesNeeded positionedOf positionNumber
 every-number st buffer =
     record {
       write-unsound = λ u. rw (unsound-test st u);
@@ -50,17 +50,17 @@ accepted st buffer =
 
 -- the buffer of a call whose bytes fit it where it is accepted: as long as it was
 length-then : (number : ℕ) (bytes buffer : List ℕ) → (number ≡ 0 → length bytes ≤ length buffer)
-    → length (cond (eqb number 0) (over bytes buffer) buffer) ≡ length buffer
+    → length (cond (eqb number 0) (writtenOver bytes buffer) buffer) ≡ length buffer
 length-then number bytes buffer h =
     accept-cases {A = List ℕ} (λ b. length b ≡ length buffer) number (λ e. let l = h e in simp (length-append, length-drop) (omega arith)) refl
 
 -- and it stays a buffer of bytes
-bytes-then : (number : ℕ) (bytes buffer : List ℕ) → Bytes bytes → Bytes buffer → Bytes (cond (eqb number 0) (over bytes buffer) buffer)
+bytes-then : (number : ℕ) (bytes buffer : List ℕ) → Bytes bytes → Bytes buffer → Bytes (cond (eqb number 0) (writtenOver bytes buffer) buffer)
 bytes-then number bytes buffer b c =
     accept-cases {A = List ℕ} (λ s. Bytes s) number (λ e. bytes-append b (bytes-drop (length bytes) c)) c
 
 pub every-buffer : EveryBuffer
-unfolding writeOf bufferOfWrite runOf bufferOfRun ranEvents roomOf encode
+unfolding writeOf bufferOfWrite runOf bufferOfRun ranEvents bytesNeeded encode
 every-buffer st buffer =
     let room = length buffer in let size = length-encode (st .plan) in record {
       write-fits = figure-most (writeNumber st room) room (λ e. write-zero st room e .1);

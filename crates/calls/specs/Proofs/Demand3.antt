@@ -6,14 +6,14 @@ use native.Mathlib.Omega.{arith}
 use lib.ListN.{length, take, drop, getD-replicate, take-append-drop}
 use lib.Seq.{length-take-le}
 use Rattle.plan.specs.Format.{planIn}
-use Rattle.plan.specs.Laws.Answers.{accepted-rules}
+use Rattle.plan.specs.Laws.FileRefusals.{accepted-rules}
 use Rattle.plan.specs.Laws.Entries.{file-unused}
 use Rattle.plan.specs.declared.Plan.{Plan}
 use Rattle.machine.specs.Start.{startOf, startState}
 use Rattle.machine.specs.Plain.{plainAfter, plainEvents}
 use Rattle.machine.specs.Updates.{growthUpTo}
 use Rattle.machine.specs.Sound.{SoundRunning}
-use Rattle.machine.specs.Laws.Began.{start-sound}
+use Rattle.machine.specs.Laws.StartSound.{start-sound}
 use Rattle.machine.specs.Laws.Growth.{growth-least, growth-most}
 use Rattle.machine.specs.Laws.Instants.{engineOf, stateAt, growth-mono, growth-ext, growth-eager, growth-parts, run-together, events-next, moved-next, instants-at, updates-at, updates-end}
 use Rattle.machine.specs.Laws.PlainRuns.{takes-most}

@@ -8,15 +8,15 @@ use Rattle.integers.specs.Parts.{∣_∣}
 use Rattle.bitset.specs.Counts.{countOf}
 use Rattle.plan.specs.Numbers.{M}
 use Rattle.plan.specs.Lists.{natAt, intAt}
-use Rattle.plan.specs.Laws.Counts.{Counts, counts-of}
-use Rattle.plan.specs.Laws.Means.{within-size}
+use Rattle.plan.specs.Laws.CountLimits.{CountLimits, count-limits}
+use Rattle.plan.specs.Laws.TestMeanings.{within-size}
 use Rattle.plan.specs.declared.Plan.{Plan}
 use Rattle.machine.specs.Values.{valueWith}
 use Rattle.machine.specs.Reach.{changes, Changed, due, commanded}
-use Rattle.machine.specs.Instant.{positionAt, inputsThen, outputs, tickOf, eventsAt, eventsOf}
+use Rattle.machine.specs.Instant.{positionAt, inputsThen, outputs, nextTickOf, eventsAt, eventsOf}
 use Rattle.machine.specs.Status.{statusAt, statusOf}
 use Rattle.plan.specs.Rules.{PlanRules}
-use Rattle.machine.specs.Laws.Taken.{output-due}
+use Rattle.machine.specs.Laws.InstantFigures.{output-due}
 use Rattle.machine.specs.Laws.EventWords.{length-events, events-tick, events-source, events-value}
 use Rattle.machine.specs.Laws.Inputs.{input-set, output-value, input-value}
 use Rattle.machine.specs.Laws.Reach.{changes-means}
@@ -27,8 +27,8 @@ use Rattle.calls.specs.Promises.Machine.{EventAt, EventsPromise, EventsR
 -- with the due ticks d, the positions at t, the outputs q after it and the input values u before it
 module _ (p : Plan) (ok : PlanRules p) (d : List ℕ) (t : ℕ) (position : ℕ → ℤ) (q u : List ℤ) (paused : statusAt p d t position ≡ Paused)
     (outputs-are : (i : ℕ) → i < p .counts .n → natAt d i ≡ t → intAt q i ≡ position i) where
-  limits : Counts p
-  limits = counts-of p (ok .counts)
+  limits : CountLimits p
+  limits = count-limits p (ok .counts)
 
   abbrev inputs : List ℤ
   inputs = inputsThen p u t
@@ -62,6 +62,6 @@ module _ (p : Plan) (ok : PlanRules p) (d : List ℕ) (t : ℕ) (position : ℕ 
 pub events-read : EventsRead
 unfolding statusOf eventsOf outputs
 events-read p r ok paused =
-    let t = tickOf p r in
+    let t = nextTickOf p r in
     events-promise p ok (r .d) t (positionAt r t) (outputs p r t) (r .inputs) paused
-    (output-due p (counts-of p (ok .counts)) (r .d) t (positionAt r t) (r .q))
+    (output-due p (count-limits p (ok .counts)) (r .d) t (positionAt r t) (r .q))

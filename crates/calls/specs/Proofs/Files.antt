@@ -6,25 +6,25 @@ use mathlib.Core.List.{List}
 use Prim.Native.Nat.{ℕ}
 use native.Mathlib.Omega.{arith}
 use borrow.Author.Tests.{eq-eqb, ne-eqb}
-use Rattle.plan.specs.Format.{Shaped, sectionIn, planIn, part, offsetIn, lengthIn}
+use Rattle.plan.specs.Format.{PlanWidths, sectionIn, planIn, part, offsetIn, lengthIn}
 use Rattle.plan.specs.Refusals.{numberOf, entryOf, isClean, findingOf, accepted}
 use Rattle.plan.specs.Rules.{PlanRules}
-use Rattle.plan.specs.Unused.{PlanUnused}
+use Rattle.plan.specs.Unused.{PlanUnusedZero}
 use Rattle.plan.specs.Encoding.{encode}
 use Rattle.plan.specs.Idle.{idlePlan}
 use Rattle.plan.specs.declared.Plan.{Plan}
-use Rattle.plan.specs.Laws.Answers.{answered}
+use Rattle.plan.specs.Laws.FileRefusals.{answered}
 use Rattle.plan.specs.Laws.Entries.{file-shaped}
 use Rattle.plan.specs.Laws.IdlePlan.{idle-shaped}
 use Rattle.plan.specs.Laws.View.{view-shown, length-shown, view-refused, view-above, start-shown}
-use Rattle.plan.specs.Laws.ReadBack.{plan-back, clean-back}
-use Rattle.plan.specs.Laws.Refused.{plan-rules}
-use Rattle.machine.specs.Sound.{RunningShaped}
+use Rattle.plan.specs.Laws.PlanRoundTrip.{plan-back, clean-back}
+use Rattle.plan.specs.Laws.PlanRefusals.{plan-rules}
+use Rattle.machine.specs.Sound.{RunningWidths}
 use Rattle.machine.specs.Laws.Shapes.{start-shaped}
 use Rattle.machine.specs.Start.{startState, idleState}
 use Rattle.machine.specs.declared.State.{State}
 use Rattle.calls.specs.Calls.{loadOf}
-use Rattle.calls.specs.Promises.Files.{EveryFile, EveryView, LoadShaped}
+use Rattle.calls.specs.Promises.Files.{EveryFile, EveryView, LoadWidths}
 
 -- the number tells whether the file is accepted
 module _ (file : List ℕ) where
@@ -63,14 +63,14 @@ every-view file number = record {
   above = λ h. view-above file number h;
 }
 
-pub load-shaped : LoadShaped
+pub load-widths : LoadWidths
 unfolding startState idleState
-load-shaped file =
-    load-either file (λ st. Shaped (st .plan) × RunningShaped (st .run))
+load-widths file =
+    load-either file (λ st. PlanWidths (st .plan) × RunningWidths (st .run))
     (λ e. (file-shaped file, start-shaped (planIn file) (file-shaped file))) (idle-shaped, start-shaped idlePlan idle-shaped)
 
 -- the file of a plan that keeps the rules is loaded as the plan's start
-pub load-encoded : (p : Plan) → PlanRules p → PlanUnused p → Shaped p
+pub load-encoded : (p : Plan) → PlanRules p → PlanUnusedZero p → PlanWidths p
     → loadOf (encode p) ≡ record { number = 0; entry = 0; state = startState p }
 unfolding loadOf accepted isClean numberOf entryOf
 load-encoded p rules unused shaped =

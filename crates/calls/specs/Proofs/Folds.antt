@@ -7,16 +7,16 @@ use borrow.Author.Tests.{eq-eqb, ne-eqb, le-leb, lt-leb}
 use Rattle.bitset.specs.Counts.{countOf}
 use Rattle.plan.specs.declared.Plan.{Plan}
 use Rattle.machine.specs.Instant.{moves}
-use Rattle.machine.specs.Plain.{plainTick, plainAfter, lazyCount}
+use Rattle.machine.specs.Plain.{plainNextTick, plainAfter, lazyCount}
 use Rattle.machine.specs.Updates.{growth, isEager, eagerInstants, lazyMoves}
 use Rattle.machine.specs.Laws.Instants.{growth-parts}
 use Rattle.machine.specs.declared.Engine.{Engine}
 use Rattle.machine.specs.declared.Engine.the-variants.{Lazy, Eager}
-use Rattle.calls.specs.Lists.{fedBy, budgetSum, engineAt}
+use Rattle.calls.specs.Lists.{acceptedBudget, budgetSum, engineAt}
 use Rattle.calls.specs.Promises.Lists.{ListsMean, GrowthMeans}
 
 pub lists-mean : ListsMean
-unfolding fedBy budgetSum engineAt
+unfolding acceptedBudget budgetSum engineAt
 lists-mean st c calls =
     record {
       accepted-sum = λ e. rw (eq-eqb _ 0 e);
@@ -39,7 +39,7 @@ module _ (p : Plan) (engine : ℕ → Engine) (k : ℕ) where
   one-lazy e = rw e (refl, refl)
 
 pub growth-means : GrowthMeans
-unfolding growth lazyCount moves plainTick eagerInstants lazyMoves countOf
+unfolding growth lazyCount moves plainNextTick eagerInstants lazyMoves countOf
 growth-means p engine k m =
     let next : suc k ≡ k + 1 = omega arith in
     record {

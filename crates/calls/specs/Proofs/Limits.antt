@@ -9,12 +9,12 @@ use lib.ListN.{length}
 use borrow.Author.Tests.{eq-eqb}
 use Rattle.integers.specs.Parts.{∣_∣}
 use Rattle.words.specs.Word.{Bytes}
-use Rattle.plan.specs.Laws.Answers.{number-below, entry-below, accepted-offsets, accepted-sizes}
-use Rattle.plan.specs.Laws.Counts.{Counts, counts-of}
+use Rattle.plan.specs.Laws.FileRefusals.{number-below, entry-below, accepted-offsets, accepted-sizes}
+use Rattle.plan.specs.Laws.CountLimits.{CountLimits, count-limits}
 use Rattle.plan.specs.Laws.Layout.{file-least, file-most}
 use Rattle.plan.specs.Laws.Parts.{offset-lt, length-lt, section-end, length-most, file-limits}
 use Rattle.plan.specs.Laws.View.{length-shown, start-shown}
-use Rattle.machine.specs.Instant.{positionAt, tickOf}
+use Rattle.machine.specs.Instant.{positionAt, nextTickOf}
 use Rattle.machine.specs.Sound.{Sound}
 use Rattle.machine.specs.Status.{statusOf}
 use Rattle.machine.specs.Laws.Lengths.{run-bytes}
@@ -22,7 +22,7 @@ use Rattle.machine.specs.Laws.Positions.{position-size}
 use Rattle.machine.specs.Laws.Status.{number-most, integrator-most}
 use Rattle.machine.specs.declared.State.{State}
 use Rattle.machine.specs.declared.Engine.{Engine}
-use Rattle.calls.specs.Calls.{loadOf, writeNumber, writeOf, roomOf, runNumber, ranState, ranEvents, runOf, positionNumber}
+use Rattle.calls.specs.Calls.{loadOf, writeNumber, writeOf, bytesNeeded, runNumber, ranState, ranEvents, runOf, positionNumber}
 use Rattle.calls.specs.Calls.{positionedOf}
 use Rattle.calls.specs.Limits.{RunLimits, AcceptedLimits, FileLimits, AnswerLimits}
 use Rattle.calls.specs.Promises.Limits.{LimitPromise}
@@ -56,13 +56,13 @@ any-limits file b =
 
 -- ---- what the calls answer
 module _ (st : State) where
-  counts-by : Sound st → Counts (st .plan)
-  counts-by s = counts-of (st .plan) (s .plan .counts)
+  counts-by : Sound st → CountLimits (st .plan)
+  counts-by s = count-limits (st .plan) (s .plan .counts)
 
   run-limits : (engine : Engine) (budget : ℕ) (buffer : List ℕ) → RunLimits (runOf engine st budget buffer)
-  unfolding runOf statusOf roomOf ranEvents
+  unfolding runOf statusOf bytesNeeded ranEvents
   run-limits engine budget buffer =
-      let p = st .plan in let r = ranState engine st budget .run in let t = tickOf p r in
+      let p = st .plan in let r = ranState engine st budget .run in let t = nextTickOf p r in
       let number = runNumber st budget (length buffer) in let tested = run-zero st budget (length buffer) in record {
         number = run-most st budget (length buffer);
         status = figure-most number 2 (λ e. number-most (statusOf p r));

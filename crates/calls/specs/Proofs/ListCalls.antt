@@ -10,7 +10,7 @@ use borrow.Author.Tests.{eq-eqb}
 use Rattle.plan.specs.declared.Plan.{Plan}
 use Rattle.machine.specs.Sound.{SoundRunning}
 use Rattle.machine.specs.declared.Running.{Running}
-use Rattle.calls.specs.Calls.{over, runNumber, ranState, ranEvents, runOf, bufferOfRun}
+use Rattle.calls.specs.Calls.{writtenOver, runNumber, ranState, ranEvents, runOf, bufferOfRun}
 use Rattle.calls.specs.Lists.{Call, answerOf, bufferOf}
 use Rattle.calls.specs.Promises.Lists.{CallPromise}
 use Rattle.calls.specs.Proofs.Calls.{every-number, every-buffer, declined}
@@ -34,6 +34,6 @@ module _ (p : Plan) (r : Running) (ok : SoundRunning p r) where
       }
     where
       kept : (b : Bool) (bytes : List ℕ)
-          → drop (cond b (length bytes) 0) (cond b (over bytes (c .buffer)) (c .buffer)) ≡ drop (cond b (length bytes) 0) (c .buffer)
+          → drop (cond b (length bytes) 0) (cond b (writtenOver bytes (c .buffer)) (c .buffer)) ≡ drop (cond b (length bytes) 0) (c .buffer)
       kept true bytes = drop-append-seam bytes (drop (length bytes) (c .buffer))
       kept false bytes = refl

@@ -4,11 +4,11 @@ use mathlib.Core.List.{List}
 use Prim.Native.Nat.{ℕ, _-_}
 use native.Mathlib.Omega.{arith}
 use lib.IntN.{ℤ}
-use Rattle.plan.specs.Laws.Counts.{counts-of}
+use Rattle.plan.specs.Laws.CountLimits.{count-limits}
 use Rattle.plan.specs.declared.Plan.{Plan}
 use Rattle.machine.specs.Due.{upperLevel, lowerLevel, ticksTo, dueOf}
 use Rattle.machine.specs.Next.{nextTick}
-use Rattle.machine.specs.Instant.{positionAt, slopeThen, takenAt, tickOf, instant}
+use Rattle.machine.specs.Instant.{positionAt, slopeThen, takenAt, nextTickOf, instant}
 use Rattle.machine.specs.Status.{statusNumber, statusIntegrator, statusAt, statusOf}
 use Rattle.machine.specs.Laws.Due.{due-still, due-moving, ticks-least, ticks-rounded, stays-above, stays-below, countdown}
 use Rattle.machine.specs.Laws.Frame.{slope-frame}
@@ -38,12 +38,12 @@ status-promise p d t position =
     }
 
 pub next-means : NextMeans
-unfolding tickOf
+unfolding nextTickOf
 next-means p r = next-promise p (r .d) (r .clocks .next)
 
 pub status-means : StatusMeans
 unfolding statusOf
-status-means p r = status-promise p (r .d) (tickOf p r) (positionAt r (tickOf p r))
+status-means p r = status-promise p (r .d) (nextTickOf p r) (positionAt r (nextTickOf p r))
 
 pub reach-means : ReachMeans
 reach-means p d t i rules =
@@ -52,7 +52,7 @@ reach-means p d t i rules =
 pub frame : Frame
 unfolding instant takenAt slopeThen
 frame p engine r i rules h =
-    let t = tickOf p r in slope-frame p (counts-of p (rules .counts)) r t i (reached-false p (r .d) t i h)
+    let t = nextTickOf p r in slope-frame p (count-limits p (rules .counts)) r t i (reached-false p (r .d) t i h)
 
 pub due-least : DueLeast
 unfolding dueOf upperLevel lowerLevel

@@ -1,7 +1,7 @@
 -- Proof: where each number of a file stands. Assumes nothing.
 use mathlib.Core.Logic.{inl, inr}
 use native.Mathlib.Omega.{arith}
-use Rattle.plan.specs.Laws.Answers.{accepted-sizes}
+use Rattle.plan.specs.Laws.FileRefusals.{accepted-sizes}
 use Rattle.plan.specs.Laws.Places.{header-places, entry-places}
 use Rattle.calls.specs.Promises.Files.{EveryHeader, EveryPlace}
 use Rattle.calls.specs.Proofs.Files.{load-accepted, every-file}

@@ -1,18 +1,18 @@
 -- Proof: the promises about the plain machine: its start, its instants, what is read from it, and how many instants it takes. Assumes
 -- nothing.
 use mathlib.Core.Path.{refl}
-use Rattle.plan.specs.Laws.Counts.{counts-of}
-use Rattle.machine.specs.Plain.{settled, plainStart, plainTick, plainPosition, plainOutputs, plainInstant, plainEventsOf}
+use Rattle.plan.specs.Laws.CountLimits.{count-limits}
+use Rattle.machine.specs.Plain.{withRatesAndDues, plainStart, plainNextTick, plainPosition, plainOutputs, plainInstant, plainEventsOf}
 use Rattle.machine.specs.Plain.{plainStatus, plainFrom, plainEventsFrom, plainAfter, plainEvents}
 use Rattle.machine.specs.Laws.PlainSteps.{began-s, began-d, plain-due, plain-not-due, plain-set, plain-not-set, plain-x, plain-s, plain-d}
 use Rattle.machine.specs.Laws.PlainRuns.{takes-most, takes-all, takes-fewer, paused-before, after-next, events-next, after-same}
-use Rattle.machine.specs.Laws.Taken.{output-due}
+use Rattle.machine.specs.Laws.InstantFigures.{output-due}
 use Rattle.calls.specs.Promises.Machine.{PlainStarts, PlainStepPromise, PlainMeans, PlainTakes}
 use Rattle.calls.specs.Proofs.Machine.{command-means, next-promise, status-promise}
 use Rattle.calls.specs.Proofs.Events.{events-promise}
 
 pub plain-starts : PlainStarts
-unfolding plainStart settled
+unfolding plainStart withRatesAndDues
 plain-starts p rules =
     record {
       x = λ i h. refl;
@@ -26,9 +26,9 @@ plain-starts p rules =
     }
 
 pub plain-means : PlainMeans
-unfolding plainTick plainStatus plainEventsOf plainOutputs plainPosition plainInstant settled
+unfolding plainNextTick plainStatus plainEventsOf plainOutputs plainPosition plainInstant withRatesAndDues
 plain-means p m =
-    let t = plainTick p m in
+    let t = plainNextTick p m in
     record {
       tick = next-promise p (m .d) (m .next);
       status = status-promise p (m .d) t (plainPosition p m);
@@ -50,7 +50,7 @@ plain-means p m =
       };
       events = λ rules paused.
           events-promise p rules (m .d) t (plainPosition p m) (plainOutputs p m) (m .inputs) paused
-          (output-due p (counts-of p (rules .counts)) (m .d) t (plainPosition p m) (m .q));
+          (output-due p (count-limits p (rules .counts)) (m .d) t (plainPosition p m) (m .q));
     }
 
 pub plain-takes : PlainTakes

@@ -7,8 +7,8 @@ use lib.Seq.{take-append-seam}
 use Rattle.words.specs.Word.{Bytes}
 use Rattle.plan.specs.Format.{planIn}
 use Rattle.plan.specs.Encoding.{encode}
-use Rattle.plan.specs.Laws.Answers.{accepted-offsets, accepted-sizes}
-use Rattle.plan.specs.Laws.WrittenBack.{file-back}
+use Rattle.plan.specs.Laws.FileRefusals.{accepted-offsets, accepted-sizes}
+use Rattle.plan.specs.Laws.FileRoundTrip.{file-back}
 use Rattle.machine.specs.Start.{startState}
 use Rattle.machine.specs.Sound.{Sound}
 use Rattle.machine.specs.declared.State.{State}

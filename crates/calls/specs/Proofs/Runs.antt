@@ -8,15 +8,15 @@ use Rattle.calls.specs.Proofs.CallNumbers.{run-zero}
 use borrow.Author.Tests.{eq-eqb}
 use Rattle.plan.specs.declared.Plan.{Plan}
 use Rattle.machine.specs.Status.{statusNumber, statusOf}
-use Rattle.machine.specs.Sound.{RunningShaped, SoundRunning}
+use Rattle.machine.specs.Sound.{RunningWidths, SoundRunning}
 use Rattle.machine.specs.Laws.Shapes.{after-shaped}
 use Rattle.machine.specs.Laws.Status.{zero-paused, is-paused}
 use Rattle.machine.specs.Laws.Runs.{afterBy, clock-moves}
 use Rattle.machine.specs.declared.Running.{Running}
 use Rattle.machine.specs.declared.State.{State}
 use Rattle.calls.specs.Calls.{runNumber, ranState, runOf}
-use Rattle.calls.specs.Lists.{Call, answerOf, fedBy}
-use Rattle.calls.specs.Promises.States.{RunSound, RunMoves, RunShaped}
+use Rattle.calls.specs.Lists.{Call, answerOf, acceptedBudget}
+use Rattle.calls.specs.Promises.States.{RunSound, RunMoves, RunWidths}
 use Rattle.calls.specs.Proofs.CallNumbers.{accept-cases}
 use Rattle.calls.specs.Proofs.Schedule.{at, fed, fed-by, call-after, next-sound}
 use Rattle.calls.specs.Proofs.ListCalls.{call-promise}
@@ -27,15 +27,15 @@ run-sound engine st budget buffer ok =
     let c : Call = record { engine = engine; budget = budget; buffer = buffer } in
     rw (call-after (st .plan) (st .run) c ok) (next-sound (st .plan) (st .run) c ok)
 
-pub run-shaped : RunShaped
+pub run-widths : RunWidths
 unfolding runOf ranState
-run-shaped engine st budget buffer h =
-    accept-cases (λ (s : State). RunningShaped (s .run)) (runNumber st budget (length buffer))
+run-widths engine st budget buffer h =
+    accept-cases (λ (s : State). RunningWidths (s .run)) (runNumber st budget (length buffer))
     (λ e. after-shaped (st .plan) engine budget (st .run) h) h
 
 module _ (p : Plan) (r : Running) (ok : SoundRunning p r) (c : Call) where
   clock-then : answerOf (at p r) c .number ≡ 0 → 1 ≤ c .budget → answerOf (at p r) c .status ≡ 0 → r .clocks .clock < answerOf (at p r) c .state .run .clocks .clock
-  unfolding fedBy
+  unfolding acceptedBudget
   clock-then accepts some paused =
       rw (call-after p r c ok) (by (fed p c) fed-is (rw (call-after p r c ok) at (sym (call-promise p r ok c .status accepts) ∙ paused)))
     where

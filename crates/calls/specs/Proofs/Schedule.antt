@@ -12,13 +12,13 @@ use borrow.Author.Tests.{leb-true, le-leb}
 use Rattle.plan.specs.declared.Plan.{Plan}
 use Rattle.machine.specs.Runs.{after, events}
 use Rattle.machine.specs.Sound.{SoundRunning, Sound}
-use Rattle.machine.specs.Laws.Tested.{sound-means}
+use Rattle.machine.specs.Laws.SoundTest.{sound-means}
 use Rattle.machine.specs.Laws.Runs.{afterBy, eventsBy, after-by, events-by, after-append, events-append, run-sound}
 use Rattle.machine.specs.declared.Running.{Running}
 use Rattle.machine.specs.declared.State.{State}
 use Rattle.machine.specs.declared.Engine.{Engine}
-use Rattle.calls.specs.Calls.{over, roomOf, declineOf, runNumber, ranState, ranEvents, runOf, bufferOfRun}
-use Rattle.calls.specs.Lists.{Call, answerOf, bufferOf, fedBy, afterCalls, budgetSum, joinedBytes}
+use Rattle.calls.specs.Calls.{writtenOver, bytesNeeded, runNumberIfSound, runNumber, ranState, ranEvents, runOf, bufferOfRun}
+use Rattle.calls.specs.Lists.{Call, answerOf, bufferOf, acceptedBudget, afterCalls, budgetSum, joinedBytes}
 
 -- a state of plan p
 abbrev pub at : Plan → Running → State
@@ -26,28 +26,28 @@ at p r = record { plan = p; run = r }
 
 -- ---- one call, on any state: it runs for what it feeds the plain machine
 module _ (p : Plan) (r : Running) (c : Call) where
-  pub call-state : answerOf (at p r) c .state ≡ at p (after p (c .engine) (fedBy (at p r) c) r)
-  unfolding answerOf fedBy runOf ranState after
+  pub call-state : answerOf (at p r) c .state ≡ at p (after p (c .engine) (acceptedBudget (at p r) c) r)
+  unfolding answerOf acceptedBudget runOf ranState after
   call-state = go (eqb (runNumber (at p r) (c .budget) (length (c .buffer))) 0)
     where
       go : (b : Bool) → cond b (at p (after p (c .engine) (c .budget) r)) (at p r) ≡ at p (after p (c .engine) (cond b (c .budget) 0) r)
       go true = refl
       go false = refl
 
-  pub call-bytes : take (answerOf (at p r) c .written) (bufferOf (at p r) c) ≡ events p (c .engine) (fedBy (at p r) c) r
-  unfolding answerOf bufferOf fedBy runOf bufferOfRun ranEvents events
+  pub call-bytes : take (answerOf (at p r) c .written) (bufferOf (at p r) c) ≡ events p (c .engine) (acceptedBudget (at p r) c) r
+  unfolding answerOf bufferOf acceptedBudget runOf bufferOfRun ranEvents events
   call-bytes = go (eqb (runNumber (at p r) (c .budget) (length (c .buffer))) 0)
     where
       bytes : List ℕ
       bytes = events p (c .engine) (c .budget) r
 
-      go : (b : Bool) → take (cond b (length bytes) 0) (cond b (over bytes (c .buffer)) (c .buffer)) ≡ events p (c .engine) (cond b (c .budget) 0) r
+      go : (b : Bool) → take (cond b (length bytes) 0) (cond b (writtenOver bytes (c .buffer)) (c .buffer)) ≡ events p (c .engine) (cond b (c .budget) 0) r
       go true = take-append-seam bytes (drop (length bytes) (c .buffer))
       go false = refl
 
 -- ---- on a sound state the plan and the call alone settle what is accepted
 unfoldable pub fed : Plan → Call → ℕ
-fed p c = cond (eqb (declineOf p (c .budget) (length (c .buffer))) 0) (c .budget) 0
+fed p c = cond (eqb (runNumberIfSound p (c .budget) (length (c .buffer))) 0) (c .budget) 0
 
 unfoldable pub schedule : Plan → List Call → List Engine
 schedule p [] = []
@@ -59,13 +59,13 @@ unfolding schedule
 schedule-length p c calls =
     length-append (replicate (fed p c) (c .engine)) (schedule p calls) ∙ rw (length-replicate (fed p c) (c .engine))
 
-pub run-number : (st : State) (c : Call) → Sound st → answerOf st c .number ≡ declineOf (st .plan) (c .budget) (length (c .buffer))
+pub run-number : (st : State) (c : Call) → Sound st → answerOf st c .number ≡ runNumberIfSound (st .plan) (c .budget) (length (c .buffer))
 unfolding answerOf runOf runNumber
 run-number st c ok = rw (sound-means st .1 ok)
 
 -- a smaller budget is accepted where a larger one is
 pub fed-less : (p : Plan) (c : Call) (b : ℕ) → b ≤ fed p c → fed p (record { engine = c .engine; budget = b; buffer = c .buffer }) ≡ b
-unfolding fed declineOf roomOf
+unfolding fed runNumberIfSound bytesNeeded
 fed-less p c b = go (leb (c .budget) 1024) (leb (c .budget * (p .counts .n + p .counts .m) * 12) (length (c .buffer))) refl refl
   where
     zero-fed : b ≤ 0 → cond (eqb (cond (leb b 1024) (cond (leb (b * (p .counts .n + p .counts .m) * 12) (length (c .buffer))) 0 12) 11) 0) b 0 ≡ b
@@ -89,8 +89,8 @@ fed-less p c b = go (leb (c .budget) 1024) (leb (c .budget * (p .counts .n + p .
 module _ (p : Plan) where
   -- one call from a sound state
   module _ (r : Running) (c : Call) (ok : SoundRunning p r) where
-    pub fed-by : fedBy (at p r) c ≡ fed p c
-    unfolding fedBy fed
+    pub fed-by : acceptedBudget (at p r) c ≡ fed p c
+    unfolding acceptedBudget fed
     fed-by = rw (run-number (at p r) c ok)
 
     pub call-after : answerOf (at p r) c .state ≡ at p (afterBy p (replicate (fed p c) (c .engine)) r)

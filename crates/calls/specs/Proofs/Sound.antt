@@ -2,30 +2,30 @@
 -- command. Assumes nothing.
 use mathlib.Core.Path.{refl, sym, _∙_}
 use Rattle.plan.specs.Format.{planIn}
-use Rattle.plan.specs.Tests.{counts}
+use Rattle.plan.specs.Tests.{countList}
 use Rattle.plan.specs.Encoding.{offsetFrom, offsetOf, fileLength}
 use Rattle.plan.specs.Laws.Layout.{lengthOf}
 use Rattle.plan.specs.Idle.{idlePlan}
-use Rattle.plan.specs.Laws.Answers.{accepted-rules}
+use Rattle.plan.specs.Laws.FileRefusals.{accepted-rules}
 use Rattle.plan.specs.Laws.Entries.{file-unused}
 use Rattle.plan.specs.Laws.IdlePlan.{idle-rules, idle-unused, idle-shaped}
 use Rattle.plan.specs.Laws.Layout.{length-encode}
 use Rattle.machine.specs.Start.{idleState}
 use Rattle.machine.specs.Sound.{Sound}
-use Rattle.machine.specs.Laws.Began.{start-sound, idle-sound}
+use Rattle.machine.specs.Laws.StartSound.{start-sound, idle-sound}
 use Rattle.machine.specs.Laws.Next.{command-is}
 use Rattle.calls.specs.Promises.States.{SoundMeans, LoadSound, IdleLoaded, NextDetermined}
 use Rattle.calls.specs.Proofs.Files.{load-either, load-encoded}
 
 pub sound-means : SoundMeans
-sound-means = Rattle.machine.specs.Laws.Tested.sound-means
+sound-means = Rattle.machine.specs.Laws.SoundTest.sound-means
 
 pub load-sound : LoadSound
 load-sound file =
     load-either file Sound (λ yes. start-sound (planIn file) (accepted-rules file yes) (file-unused file)) idle-sound
 
 pub idle-loaded : IdleLoaded
-unfolding idleState counts offsetFrom lengthOf offsetOf fileLength
+unfolding idleState countList offsetFrom lengthOf offsetOf fileLength
 idle-loaded =
     record {
       start = refl;

@@ -8,12 +8,12 @@ use Rattle.integers.specs.Parts.{∣_∣}
 use Rattle.plan.specs.Numbers.{M}
 use Rattle.plan.specs.Lists.{intAt}
 use Rattle.plan.specs.Rules.{IntegratorRule, PlanRules}
-use Rattle.plan.specs.Laws.Counts.{Counts, counts-of}
-use Rattle.plan.specs.Laws.Means.{within-size}
+use Rattle.plan.specs.Laws.CountLimits.{CountLimits, count-limits}
+use Rattle.plan.specs.Laws.TestMeanings.{within-size}
 use Rattle.plan.specs.declared.Plan.{Plan}
 use Rattle.machine.specs.Due.{upperLevel, lowerLevel}
 use Rattle.machine.specs.Sound.{SoundRunning}
-use Rattle.machine.specs.Laws.Between.{Between}
+use Rattle.machine.specs.Laws.BetweenLevels.{BetweenLevels}
 use Rattle.machine.specs.Laws.Levels.{upper-size, lower-size, inside-size, distance-least, distance-most, ticks-positive, ticks-most}
 use Rattle.machine.specs.Laws.Lengths.{instant-bytes, run-bytes}
 use Rattle.machine.specs.Laws.Next.{command-most}
@@ -23,14 +23,14 @@ use Rattle.machine.specs.Laws.Sizes.{operands-most, value-size, difference-size
 use Rattle.machine.specs.Laws.Soundness.{tick-after}
 use Rattle.machine.specs.Laws.Status.{is-paused, tick-horizon, due-size}
 use Rattle.machine.specs.declared.Running.{Running}
-use Rattle.calls.specs.Calls.{roomOf}
+use Rattle.calls.specs.Calls.{bytesNeeded}
 use Rattle.calls.specs.Limits.{RateLimits, LevelLimits, IntegratorLimits, PrintedLimits, StateLimits}
 
 pub rate-limits : (p : Plan) (q u : List ℤ) → PlanRules p → ((i : ℕ) → i < p .counts .n → ∣ intAt q i ∣ ≤ M) → ((j : ℕ) → j < p .counts .m → ∣ intAt u j ∣ ≤ M)
     → RateLimits p q u
 rate-limits p q u k a b =
     record {
-      sources = (omega (arith, counts-of p (k .counts)), sources-most p k);
+      sources = (omega (arith, count-limits p (k .counts)), sources-most p k);
       operands = operands-most p k;
       values = value-size p q u k a b;
       differences = difference-size p q u k a b;
@@ -41,7 +41,7 @@ rate-limits p q u k a b =
       rate = rate-size p q u k a b;
     }
 
-pub level-limits : (p : Plan) (q : List ℤ) (i : ℕ) (x s : ℤ) → IntegratorRule p i → ∣ intAt q i ∣ ≤ M → Between p q i x → LevelLimits p q i x s
+pub level-limits : (p : Plan) (q : List ℤ) (i : ℕ) (x s : ℤ) → IntegratorRule p i → ∣ intAt q i ∣ ≤ M → BetweenLevels p q i x → LevelLimits p q i x s
 level-limits p q i x s k a b =
     record {
       upper = upper-size p q i k a;
@@ -54,15 +54,15 @@ level-limits p q i x s k a b =
     }
 
 -- the room that a run asks, of a plan that keeps the limits of its counts
-pub room-most : (p : Plan) → Counts p → (budget most : ℕ) → budget ≤ most → roomOf p budget ≤ most * 480
-unfolding roomOf
+pub room-most : (p : Plan) → CountLimits p → (budget most : ℕ) → budget ≤ most → bytesNeeded p budget ≤ most * 480
+unfolding bytesNeeded
 room-most p c budget most h =
     let sources : p .counts .n + p .counts .m ≤ 40 = omega (arith, c) in
     omega (arith, mul-le-mul h sources)
 
 module _ (p : Plan) (r : Running) (sound : SoundRunning p r) where
-  limits : Counts p
-  limits = counts-of p (sound .plan .counts)
+  limits : CountLimits p
+  limits = count-limits p (sound .plan .counts)
 
   integrator-limits : (i : ℕ) → i < p .counts .n → IntegratorLimits p r i
   integrator-limits i h =
@@ -91,7 +91,7 @@ module _ (p : Plan) (r : Running) (sound : SoundRunning p r) where
       }
 
   pub state-limits : StateLimits p r
-  unfolding roomOf
+  unfolding bytesNeeded
   state-limits =
       let instants : r .clocks .instants ≤ 2000000000 = omega (arith, sound .instants, sound .clock, sound .plan .horizon) in record {
         rates = rate-limits p (r .q) (r .inputs) (sound .plan) (λ i h. sound .integrators i h .output)

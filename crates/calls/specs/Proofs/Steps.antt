@@ -1,11 +1,11 @@
 -- Proof: the promises about values, Start, the steps of one instant, and runs. Assumes nothing.
 use mathlib.Core.Path.{refl, sym, _∙_}
-use Rattle.plan.specs.Laws.Counts.{counts-of}
+use Rattle.plan.specs.Laws.CountLimits.{count-limits}
 use Rattle.machine.specs.Start.{startOf, startState}
-use Rattle.machine.specs.Instant.{positionAt, takenAt, tickOf, instant}
+use Rattle.machine.specs.Instant.{positionAt, takenAt, nextTickOf, instant}
 use Rattle.machine.specs.Runs.{after, events}
 use Rattle.machine.specs.Laws.Runs.{run-stopped, run-taken}
-use Rattle.machine.specs.Laws.Began.{start-slope, start-last, start-due}
+use Rattle.machine.specs.Laws.StartSound.{start-slope, start-last, start-due}
 use Rattle.machine.specs.Laws.Steps.{moves-means, due-moves, step-due, step-not-due, step-set, step-not-set, step-x, step-l, step-s, step-d}
 use Rattle.machine.specs.Laws.Steps.{step-not-moved}
 use Rattle.machine.specs.Laws.Values.{integrator-value, input-source, difference-node, product-node, limit-node, high-node, low-node}
@@ -38,7 +38,7 @@ run-takes p engine r =
 pub start-means : StartMeans
 unfolding startState startOf
 start-means p rules =
-    let limits = counts-of p (rules .counts) in (
+    let limits = count-limits p (rules .counts) in (
       refl,
       record {
         x = λ i h. refl;
@@ -57,7 +57,7 @@ start-means p rules =
 pub steps-mean : StepsMean
 unfolding instant takenAt positionAt
 steps-mean p engine r rules =
-    let t = tickOf p r in
+    let t = nextTickOf p r in
     record {
       position = λ i. refl;
       sources =

@@ -4,8 +4,8 @@ use mathlib.Core.Bool.{true}
 use denote.Ref.{now}
 use Rattle.plan.specs.Refusals.{numberOf, accepted}
 use Rattle.plan.specs.Format.{planIn}
-use Rattle.plan.specs.Laws.Answers.{accepted-rules}
-use Rattle.entryrules.specs.Laws.Trying.{not-clean}
+use Rattle.plan.specs.Laws.FileRefusals.{accepted-rules}
+use Rattle.entryrules.specs.Laws.ChecksInOrder.{not-clean}
 use Rattle.planfile.specs.Laws.Reading.{reading-finding, reading-plan, reading-accepts, reading-refuses}
 use Rattle.cup.specs.Laws.Rewriting.{rewrite-refused, rewrite-short, rewrite-done}
 use borrow.Author.Needs.{needs}

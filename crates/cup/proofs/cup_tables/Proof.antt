@@ -8,11 +8,11 @@ use borrow.Author.Tests.{not-true, not-false}
 use Rattle.integers.specs.Parts.{∣_∣}
 use Rattle.plan.specs.Numbers.{M}
 use Rattle.plan.specs.Lists.{intAt}
-use Rattle.plan.specs.Laws.Counts.{Counts, counts-of}
-use Rattle.plan.specs.Laws.Means.{within-size}
+use Rattle.plan.specs.Laws.CountLimits.{CountLimits, count-limits}
+use Rattle.plan.specs.Laws.TestMeanings.{within-size}
 use Rattle.machine.specs.Sound.{Sound}
 use Rattle.machine.specs.SoundTest.{isSound}
-use Rattle.machine.specs.Laws.Tested.{sound-means}
+use Rattle.machine.specs.Laws.SoundTest.{sound-means}
 use Rattle.machine.specs.declared.State.{State}
 use Rattle.values.specs.Laws.SourceValues.{nodes-ready, first-sized, all-nodes}
 use Rattle.rates.specs.Links.{rangesOf}
@@ -39,8 +39,8 @@ module _ (c : tie.Else1) where
   sound : Sound state
   sound = sound-means state .0 is-true
 
-  limits : Counts (state .plan)
-  limits = counts-of (state .plan) (sound .plan .counts)
+  limits : CountLimits (state .plan)
+  limits = count-limits (state .plan) (sound .plan .counts)
 
 link-ranges-requires : tie.Need-link-ranges-requires
 link-ranges-requires c κs = let limits = limits (c .before .before) in (limits .n, limits .links)

@@ -10,7 +10,7 @@ use borrow.Author.Tests.{ltb-true, ltb-false}
 use Rattle.plan.specs.Numbers.{sections}
 use Rattle.plan.specs.Format.{part, sectionIn}
 use Rattle.plan.specs.Refusals.{accepted, sectionOf, sectionStart}
-use Rattle.plan.specs.Laws.Answers.{accepted-sizes}
+use Rattle.plan.specs.Laws.FileRefusals.{accepted-sizes}
 use Rattle.plan.specs.Laws.Parts.{length-entries}
 use Rattle.plan.specs.Laws.View.{view-shown, length-shown, view-refused, view-above, start-shown, start-refused, start-above}
 

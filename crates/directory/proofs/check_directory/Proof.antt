@@ -8,7 +8,7 @@ use Rattle.plan.specs.Numbers.{headerLength}
 use Rattle.plan.specs.Tests.{longEnough, offsetsKept, sizesKept}
 use Rattle.plan.specs.Refusals.{numberOf, isClean, unless, orElse}
 use Rattle.plan.specs.declared.Finding.the-variants.{Offsets, Sizes}
-use Rattle.entryrules.specs.Laws.Trying.{tried, refused, not-clean}
+use Rattle.entryrules.specs.Laws.ChecksInOrder.{tried, refused, not-clean}
 use Rattle.directory.specs.Directory.{directoryFinding}
 use borrow.Author.Needs.{needs}
 use Rattle.directory.proofs.check_directory.Statement.{statement}

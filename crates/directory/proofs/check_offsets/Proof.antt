@@ -11,20 +11,20 @@ use lib.ListN.{length}
 use denote.Ref.{now}
 use Rattle.plan.specs.Numbers.{sections}
 use Rattle.plan.specs.Lists.{every}
-use Rattle.plan.specs.Format.{offsetIn, startIn}
+use Rattle.plan.specs.Format.{offsetIn, requiredOffset}
 use Rattle.plan.specs.Tests.{offsetsKept}
 use Rattle.entryrules.specs.Laws.Testing.{every-none, every-more, every-fails}
 use Rattle.directory.proofs.check_offsets.Statement.{statement}
 use Rattle.directory.proofs.check_offsets.Tie as tie
 
 abbrev Inv-loop : tie.InvT-loop
-Inv-loop file start₀ section₀ start section = (section ≤ sections) × (every (λ k. eqb (offsetIn file k) (startIn file k)) section ≡ true) × (start ≡ startIn file section)
+Inv-loop file start₀ section₀ start section = (section ≤ sections) × (every (λ k. eqb (offsetIn file k) (requiredOffset file k)) section ≡ true) × (start ≡ requiredOffset file section)
 
 abbrev μ-loop : tie.MeasureT-loop
 μ-loop file start₀ section₀ start section = sections - section
 
 loop-holds : tie.Need-loop-holds Inv-loop μ-loop
-unfolding startIn
+unfolding requiredOffset
 loop-holds c = (search needs, every-none _, refl)
 
 offset-in-requires : tie.Need-offset-in-requires Inv-loop μ-loop
@@ -35,7 +35,7 @@ unfolding offsetsKept
 returns c =
     let b = c .before .before .before .loop in
     let file = now (c .before .before .before .before .before .args .file) in
-    let differs = ne-eqb (offsetIn file (b .section)) (startIn file (b .section)) (λ e. omega arith) in
+    let differs = ne-eqb (offsetIn file (b .section)) (requiredOffset file (b .section)) (λ e. omega arith) in
     sym (rw (every-fails _ sections (b .section) (omega arith) differs))
 
 length-in-requires : tie.Need-length-in-requires Inv-loop μ-loop
@@ -51,11 +51,11 @@ loop-less : tie.Need-loop-less Inv-loop μ-loop
 loop-less c = search needs
 
 loop-again : tie.Need-loop-again Inv-loop μ-loop
-unfolding startIn
+unfolding requiredOffset
 loop-again c =
     let b = c .before .before .before .before .loop in
     let file = now (c .before .before .before .before .before .before .args .file) in
-    let same = eq-eqb (offsetIn file (b .section)) (startIn file (b .section)) (omega arith) in
+    let same = eq-eqb (offsetIn file (b .section)) (requiredOffset file (b .section)) (omega arith) in
     (omega arith, every-more _ (b .inv .1) same, rw add-one (omega arith))
 
 -- behind the last section every offset is right, and `start` is where the file is to end

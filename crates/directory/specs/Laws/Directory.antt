@@ -7,11 +7,11 @@ use native.Mathlib.Omega.{arith}
 use Rattle.plan.specs.Format.{planIn}
 use Rattle.plan.specs.Tests.{longEnough, offsetsKept, sizesKept}
 use Rattle.plan.specs.Refusals.{numberOf, isClean, unless, orElse, planFinding, findingOf, accepted}
-use Rattle.plan.specs.Laws.Answers.{accepted-offsets, accepted-sizes}
+use Rattle.plan.specs.Laws.FileRefusals.{accepted-offsets, accepted-sizes}
 use Rattle.plan.specs.Laws.Parts.{file-limits}
-use Rattle.plan.specs.Laws.KeptFile.{long-kept, offsets-kept, sizes-kept}
+use Rattle.plan.specs.Laws.FileTests.{long-kept, offsets-kept, sizes-kept}
 use Rattle.plan.specs.declared.Finding.the-variants.{Clean, Short, Offsets, Sizes}
-use Rattle.entryrules.specs.Laws.Trying.{orElse-join}
+use Rattle.entryrules.specs.Laws.ChecksInOrder.{orElse-join}
 use Rattle.directory.specs.Directory.{directoryFinding, Directory}
 
 -- what the directory finds is what the file is refused for, and else what its plan is refused for

@@ -1,11 +1,11 @@
 -- Laws: what lies ahead of a sound state, by document 01. Assumes nothing.
 use mathlib.Core.Path.{_≡_, refl}
 use Rattle.bitset.specs.Mask.{maskOf}
-use Rattle.plan.specs.Laws.Counts.{counts-of}
+use Rattle.plan.specs.Laws.CountLimits.{count-limits}
 use Rattle.plan.specs.declared.Plan.{Plan}
 use Rattle.machine.specs.Next.{nextTick, commandTick}
 use Rattle.machine.specs.Reach.{isDue}
-use Rattle.machine.specs.Instant.{tickOf}
+use Rattle.machine.specs.Instant.{nextTickOf}
 use Rattle.machine.specs.Status.{statusOf}
 use Rattle.machine.specs.Sound.{SoundRunning}
 use Rattle.machine.specs.declared.Running.{Running}
@@ -13,23 +13,23 @@ use Rattle.timing.specs.Laws.Statuses.{due-ready, status-by-mask}
 use Rattle.engine.specs.Ahead.{tickAhead, dueAhead, aheadOf, AheadReady}
 
 module _ (p : Plan) (r : Running) where
-  tick-ahead : tickAhead (p .counts .n) (p .counts .commands) (p .commands .ticks) (r .x) (r .s) (r .l) (r .d) (r .clocks .next) ≡ tickOf p r
-  unfolding tickAhead tickOf nextTick commandTick
+  tick-ahead : tickAhead (p .counts .n) (p .counts .commands) (p .commands .ticks) (r .x) (r .s) (r .l) (r .d) (r .clocks .next) ≡ nextTickOf p r
+  unfolding tickAhead nextTickOf nextTick commandTick
   tick-ahead = refl
 
-  due-ahead : dueAhead (p .counts .n) (p .counts .commands) (p .commands .ticks) (r .x) (r .s) (r .l) (r .d) (r .clocks .next) ≡ maskOf (isDue (r .d) (tickOf p r)) (p .counts .n)
+  due-ahead : dueAhead (p .counts .n) (p .counts .commands) (p .commands .ticks) (r .x) (r .s) (r .l) (r .d) (r .clocks .next) ≡ maskOf (isDue (r .d) (nextTickOf p r)) (p .counts .n)
   unfolding dueAhead
   due-ahead = rw tick-ahead
 
   pub ahead-ready : SoundRunning p r → AheadReady (p .counts .n) (p .counts .commands) (p .commands .ticks) (r .x) (r .s) (r .l) (r .d) (r .clocks .next)
   ahead-ready ok =
-      let counts = counts-of p (ok .plan .counts) in
+      let counts = count-limits p (ok .plan .counts) in
       record { few = counts .n; listed = counts .commands; positions = rw (tick-ahead, due-ahead) (due-ready p r ok refl refl) }
 
   pub ahead-is : aheadOf (p .horizon) (p .counts .n) (p .counts .commands) (p .commands .ticks) (r .x) (r .s) (r .l) (r .d) (r .clocks .next)
       ≡ record {
-        tick = tickOf p r;
-        due = maskOf (isDue (r .d) (tickOf p r)) (p .counts .n);
+        tick = nextTickOf p r;
+        due = maskOf (isDue (r .d) (nextTickOf p r)) (p .counts .n);
         status = statusOf p r;
       }
   unfolding aheadOf

@@ -43,7 +43,7 @@ zero-bits (negsuc n) f =
 
 pub ruleset comparing = (less, not-less, within-less, within-not-less, zero-bits, lt-ltb, le-ltb, le-leb, lt-leb, eq-eqb, ne-eqb)
 
--- ---- `value_kept` was called with z and answered r
+-- ---- `value_within_m` was called with z and answered r
 pub answered : {z : ℤ} {r : Bool} → SFits w64 z → r ≡ within M (rd z) → r ≡ within M z
 answered f e = e ∙ ap (within M) (toZ-ofZ f)
 

@@ -12,26 +12,26 @@ use borrow.Author.Tests.{ltb-true, ltb-false}
 use mir.Syntax.{w64}
 use mir.Val.{Fits}
 use Rattle.integers.specs.Parts.{∣_∣}
-use Rattle.bitset.specs.Mask.{has, maskOf, each, joinedOf}
+use Rattle.bitset.specs.Mask.{has, maskOf, each, unionShifted}
 use Rattle.bitset.specs.Counts.{countOf}
 use Rattle.bitset.specs.Laws.Bits.{maskOf-lt, maskOf-or}
 use Rattle.bitset.specs.Laws.Counts.{countOf-mask, countOf-le}
 use Rattle.plan.specs.Numbers.{M}
 use Rattle.plan.specs.Lists.{intAt}
 use Rattle.plan.specs.Rules.{PlanRules}
-use Rattle.plan.specs.Laws.Counts.{Counts, counts-of}
-use Rattle.plan.specs.Laws.Means.{within-size}
+use Rattle.plan.specs.Laws.CountLimits.{CountLimits, count-limits}
+use Rattle.plan.specs.Laws.TestMeanings.{within-size}
 use Rattle.plan.specs.Laws.Rows.{length-row, row-unused}
 use Rattle.plan.specs.declared.Plan.{Plan}
 use Rattle.machine.specs.Values.{valueWith, valueOf}
 use Rattle.machine.specs.Next.{nextCommand}
 use Rattle.machine.specs.Reach.{isDue, changes, dependsWith, reached}
 use Rattle.machine.specs.Instant.{inputsThen, outputs, moves, takenAt, instant, eventsOf}
-use Rattle.machine.specs.Sound.{RunningShaped}
+use Rattle.machine.specs.Sound.{RunningWidths}
 use Rattle.machine.specs.Laws.Next.{tick-command}
 use Rattle.machine.specs.Laws.Inputs.{output-value, input-value}
 use Rattle.machine.specs.Laws.Values.{integrator-value, input-source}
-use Rattle.machine.specs.Laws.Taken.{output-kept}
+use Rattle.machine.specs.Laws.InstantFigures.{output-kept}
 use Rattle.machine.specs.Laws.Frame.{input-kept}
 use Rattle.machine.specs.Laws.Soundness.{Takes, takes-next, output-size, input-then-size}
 use Rattle.machine.specs.declared.Running.{Running}
@@ -65,14 +65,14 @@ source-cases n m i P h f g = go (ltb i n) refl
 
 module _ (p : Plan) (r : Running) {t due : ℕ} {ranges reach : List ℕ} {values : List ℤ} {at size : ℕ}
     (ready : InstantReady p ranges reach t due r values at size) where
-  shaped : RunningShaped r
+  shaped : RunningWidths r
   shaped = ready .shaped
 
   rules : PlanRules p
   rules = ready .sound .plan
 
-  pub limits : Counts p
-  limits = counts-of p (rules .counts)
+  pub limits : CountLimits p
+  limits = count-limits p (rules .counts)
 
   takes : Takes p r t
   takes = rw (ready .tick) (takes-next p r (ready .sound) (ready .paused))
@@ -177,7 +177,7 @@ module _ (p : Plan) (r : Running) {t due : ℕ} {ranges reach : List ℕ} {value
     nodes-ready-then = nodes-ready p rules v2 sized
 
     -- ---- 3. and 4.
-    module _ {changed nodes reached-set : ℕ} (changed-is : changed ≡ joinedOf due commanded (p .counts .n))
+    module _ {changed nodes reached-set : ℕ} (changed-is : changed ≡ unionShifted due commanded (p .counts .n))
         (reached-is : reached-set ≡ entriesOf reach changed % 2 ^ 32) (nodes-is : nodes ≡ entriesOf reach changed / 2 ^ 32) where
       changed-then : changed ≡ maskOf (changes p (r .d) t) (p .counts .n + p .counts .m)
       changed-then = changed-is ∙ reaching.joined-changes p (r .d) t due commanded (ready .due-set) (done .commanded-are)

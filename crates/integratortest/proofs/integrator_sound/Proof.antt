@@ -7,7 +7,7 @@ use mathlib.Core.Path.{_≡_, refl, ap}
 use mir.Facts.{toZ-ofZ}
 use Rattle.integers.specs.Laws.Signed64.{rd-add, rd-sub}
 use Rattle.integratortest.specs.Figures.{figuresSound}
-use Rattle.unused.specs.Laws.Chain.{passes, Passed, begin, next, passed-at, fails, last}
+use Rattle.unused.specs.Laws.EarlyReturns.{passes, Passed, begin, next, passed-at, fails, last}
 use Rattle.integratortest.specs.Laws.OneIntegrator.{figureClauses, figure-tests, same-rate, other-rate, lower-fits, upper-fits}
 use Rattle.integratortest.specs.Laws.OneIntegrator.{above-lower, below-upper, due-ready}
 use Rattle.integratortest.proofs.integrator_sound.Statement.{statement}

@@ -17,11 +17,11 @@ use Rattle.integers.specs.Parts.{∣_∣}
 use Rattle.integers.specs.Laws.Parts.{sum, dif, tight, zs}
 use Rattle.integers.specs.Laws.Signed64.{rd, same-bits}
 use Rattle.plan.specs.Lists.{natAt, intAt, every}
-use Rattle.plan.specs.Laws.Means.{Means, zero-means, means-false}
+use Rattle.plan.specs.Laws.TestMeanings.{Means, zero-means, means-false}
 use Rattle.machine.specs.Due.{dueTick}
 use Rattle.timing.specs.Ticks.{DueReady}
 use Rattle.integratortest.specs.Figures.{figuresSound, FiguresReady}
-use Rattle.unused.specs.Laws.Chain.{passes}
+use Rattle.unused.specs.Laws.EarlyReturns.{passes}
 
 -- the tests of integrator i, where the numbers stand in arrays
 abbrev pub figuresIn : (clock : ℕ) (quanta rates x q s : List ℤ) (l d : List ℕ) (i : ℕ) → Bool

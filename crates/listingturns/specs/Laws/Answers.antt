@@ -16,13 +16,13 @@ use Rattle.listingtext.specs.Lines.{linesOf, endLine, refusalLine}
 use Rattle.listingtext.specs.Printed.{Printed}
 use Rattle.listingtext.specs.Laws.Lines.{lines-before}
 use Rattle.listingtext.specs.Laws.Printing.{length-printed, then-text, in-part}
-use Rattle.calls.specs.Calls.{over, loadOf, roomOf, ranState, ranEvents, runOf, bufferOfRun}
+use Rattle.calls.specs.Calls.{writtenOver, loadOf, bytesNeeded, ranState, ranEvents, runOf, bufferOfRun}
 use Rattle.calls.specs.Proofs.All.{every-promise}
 use Rattle.calls.specs.Proofs.StateLimits.{state-limits}
 use Rattle.calls.specs.declared.Loaded.{Loaded}
 use Rattle.calls.specs.declared.Ran.{Ran}
-use Rattle.listingturns.specs.Listing.{eventLines, closing}
-use Rattle.listingturns.specs.Turns.{turnState, turnMore, turnText, turnOf, firstText, firstOf}
+use Rattle.listingturns.specs.Listing.{eventLines, endLineOf}
+use Rattle.listingturns.specs.Turns.{turnState, turnMore, turnText, turnOf, beginText, beginOf}
 use Rattle.listingturns.specs.Laws.Joined.{turns-end}
 use Rattle.listingturns.specs.Laws.Fits.{lines-fit, closing-fits}
 use Rattle.listingturns.specs.declared.Turn.{Turn}
@@ -30,15 +30,15 @@ use Rattle.listingturns.specs.declared.Turn.{Turn}
 -- ---- before the first turn
 module _ (file text : List ℕ) {loaded : Loaded} (e : loaded ≡ loadOf file) where
   abbrev pub FirstAs : Turn → List ℕ → Type 0
-  FirstAs turn after = (turn ≡ firstOf file) × (after ≡ over (firstText file) text)
+  FirstAs turn after = (turn ≡ beginOf file) × (after ≡ writtenOver (beginText file) text)
 
   pub first-accepted : loaded .number ≡ 0 → FirstAs (record { length = 0; more = true; state = loaded .state }) text
-  unfolding firstOf firstText
+  unfolding beginOf beginText
   first-accepted z = let accepts = eq-eqb (loadOf file .number) 0 (rw e at z) in (rw (e, accepts), rw accepts)
 
   pub first-refused : (loaded .number ≡ 0 → ⊥) → {size : ℕ} {after : List ℕ} → Printed (refusalLine (loaded .number) (loaded .entry)) text size after
       → FirstAs (record { length = size; more = false; state = loaded .state }) after
-  unfolding firstOf firstText
+  unfolding beginOf beginText
   first-refused n p =
       let refuses = ne-eqb (loadOf file .number) 0 (rw e at n) in
       let printed = rw e at p in
@@ -49,7 +49,7 @@ module _ (st : State) (ok : Sound st) (buffer : List ℕ) (room : 30720 ≤ leng
     (b : bytes ≡ bufferOfRun Lazy st 64 buffer) where
   -- it is accepted
   accepts : runOf Lazy st 64 buffer .number ≡ 0
-  unfolding roomOf
+  unfolding bytesNeeded
   accepts = every-promise .every-number st buffer .run-accepted Lazy 64 ok (omega arith) (omega (arith, state-limits (st .plan) (st .run) ok .listing))
 
   abbrev events : List ℕ
@@ -67,7 +67,7 @@ module _ (st : State) (ok : Sound st) (buffer : List ℕ) (room : 30720 ≤ leng
   unfolding turnState ranState
   ran-state = rw e (every-promise .accepted st buffer .run Lazy 64 accepts .3)
 
-  pub ran-bytes : bytes ≡ over events buffer
+  pub ran-bytes : bytes ≡ writtenOver events buffer
   unfolding ranEvents
   ran-bytes = rw b (every-promise .accepted st buffer .run Lazy 64 accepts .4)
 
@@ -86,7 +86,7 @@ module _ (st : State) (ok : Sound st) (buffer : List ℕ) (room : 30720 ≤ leng
 
   -- ---- the turn's answer, the buffer of its events and that of its text
   abbrev pub TurnAs : List ℕ → Turn → List ℕ → Type 0
-  TurnAs text turn after = (turn ≡ turnOf st) × ((bytes ≡ over events buffer) × (after ≡ over (turnText st) text))
+  TurnAs text turn after = (turn ≡ turnOf st) × ((bytes ≡ writtenOver events buffer) × (after ≡ writtenOver (turnText st) text))
 
   module _ {text middle : List ℕ} (space : 66600 ≤ length text) {size : ℕ} (p : Printed (linesOf bytes (ran .written / 12)) text size middle) where
     -- status 0: the lines alone
@@ -104,8 +104,8 @@ module _ (st : State) (ok : Sound st) (buffer : List ℕ) (room : 30720 ≤ leng
     abbrev end : List ℕ
     end = endLine (ran .status) (ran .state .run .clocks .clock) (ran .state .run .clocks .instants) (ran .state .run .clocks .updates)
 
-    end-is : end ≡ closing (turnState st .plan) (turnState st .run)
-    unfolding closing
+    end-is : end ≡ endLineOf (turnState st .plan) (turnState st .run)
+    unfolding endLineOf
     end-is = rw (ran-status, ran-state)
 
     pub end-place : size ≤ length middle

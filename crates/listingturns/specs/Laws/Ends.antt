@@ -6,7 +6,7 @@ use Prim.Native.Nat.{ℕ, zero, suc, _+_, _≤_, _<_}
 use native.Mathlib.Omega.{arith}
 use lib.ListN.{replicate, replicate-append-replicate}
 use Rattle.plan.specs.declared.Plan.{Plan}
-use Rattle.machine.specs.Instant.{takenAt, tickOf, instant}
+use Rattle.machine.specs.Instant.{takenAt, nextTickOf, instant}
 use Rattle.machine.specs.Status.{statusOf, isPaused}
 use Rattle.machine.specs.Runs.{after, events}
 use Rattle.machine.specs.Sound.{SoundRunning}
@@ -43,7 +43,7 @@ module _ (p : Plan) (engine : Engine) where
   pub stops : (b : ℕ) (r : Running) → SoundRunning p r → p .horizon ≤ b + r .clocks .clock → statusOf p (after p engine b r) ≡ Paused → ⊥
   unfolding after
   stops zero r ok h e =
-      let l : tickOf p r ≤ p .horizon = tick-horizon p r (is-paused p r e) in omega (arith, tick-after p r ok)
+      let l : nextTickOf p r ≤ p .horizon = tick-horizon p r (is-paused p r e) in omega (arith, tick-after p r ok)
   stops (suc b) r ok h e = go (isPaused p r) refl e (λ t. stops b (instant p engine r) (instant-sound p r ok t engine) (omega (arith, instant-clock r ok)))
     where
       go : (c : Bool) → isPaused p r ≡ c → statusOf p (cond c (after p engine b (instant p engine r)) r) ≡ Paused

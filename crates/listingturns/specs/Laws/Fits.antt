@@ -21,18 +21,18 @@ use Rattle.listingtext.specs.Decimal.{signedDecimal}
 use Rattle.listingtext.specs.Laws.Decimals.{decimal-one, length-decimal, decimal-digits, decimal-first, decimal-read}
 use Rattle.listingtext.specs.Laws.Sizes.{lines-most, end-most, refusal-most}
 use Rattle.listingtext.specs.Lines.{refusalLine}
-use Rattle.calls.specs.Calls.{loadOf, roomOf, ranState, ranEvents}
+use Rattle.calls.specs.Calls.{loadOf, bytesNeeded, ranState, ranEvents}
 use Rattle.calls.specs.Proofs.Limits.{limits}
 use Rattle.calls.specs.Proofs.StateLimits.{state-limits}
-use Rattle.listingturns.specs.Listing.{eventLines, closing}
-use Rattle.listingturns.specs.Turns.{turnState, turnMore, turnText, firstText}
+use Rattle.listingturns.specs.Listing.{eventLines, endLineOf}
+use Rattle.listingturns.specs.Turns.{turnState, turnMore, turnText, beginText}
 use Rattle.listingturns.specs.Promises.{NumberTexts, ListingPromise, TextsFit, LongRefused}
 use Rattle.listingturns.specs.Laws.Joined.{event-list, listing-stops, turns-end, turns-print}
 
 module _ (p : Plan) (r : Running) (ok : SoundRunning p r) where
   -- at most 2,560 events of 12 bytes
   pub bytes-most : length (events p Lazy 64 r) ≤ 30720
-  unfolding roomOf
+  unfolding bytesNeeded
   bytes-most = omega (arith, state-limits p r ok .bytes Lazy 64, state-limits p r ok .listing)
 
   pub lines-fit : length (eventLines (events p Lazy 64 r)) ≤ 66560
@@ -42,8 +42,8 @@ module _ (p : Plan) (r : Running) (ok : SoundRunning p r) where
       let count : length (events p Lazy 64 r) / 12 ≤ list .count = omega (arith, list .size) in
       omega (arith, bytes-most, lines-most (events-are-bytes p Lazy 64 r) (length (events p Lazy 64 r) / 12) (λ i h. list .sources i (omega arith)))
 
-  pub closing-fits : length (closing p r) ≤ 40
-  unfolding closing
+  pub closing-fits : length (endLineOf p r) ≤ 40
+  unfolding endLineOf
   closing-fits =
       let printed = state-limits p r ok .printed in
       let number = statusNumber (statusOf p r) in
@@ -56,12 +56,12 @@ turn-fits st ok = go (turnMore st)
     lines : List ℕ
     lines = eventLines (events (st .plan) Lazy 64 (st .run))
 
-    go : (more : Bool) → length (lines ++ cond more [] (closing (st .plan) (turnState st .run))) ≤ 66600
+    go : (more : Bool) → length (lines ++ cond more [] (endLineOf (st .plan) (turnState st .run))) ≤ 66600
     go true = omega (arith, length-append lines [], lines-fit (st .plan) (st .run) ok)
     go false =
         omega (
           arith,
-          length-append lines (closing (st .plan) (turnState st .run)),
+          length-append lines (endLineOf (st .plan) (turnState st .run)),
           lines-fit (st .plan) (st .run) ok,
           closing-fits (st .plan) (turnState st .run) (turns-end st ok .sound),
         )
@@ -71,8 +71,8 @@ refusal-fits file b =
     let file-limits = limits .files file b in
     refusal-most (loadOf file .number) (loadOf file .entry) (omega (arith, file-limits .number)) (omega (arith, file-limits .entry))
 
-first-fits : (file : List ℕ) → Bytes file → length (firstText file) ≤ 14
-unfolding firstText
+first-fits : (file : List ℕ) → Bytes file → length (beginText file) ≤ 14
+unfolding beginText
 first-fits file b = go (eqb (loadOf file .number) 0)
   where
     go : (accepts : Bool) → length (cond accepts [] (refusalLine (loadOf file .number) (loadOf file .entry))) ≤ 14

@@ -8,7 +8,7 @@ use native.Mathlib.Omega.{arith}
 use lib.Dec.{eqb}
 use lib.ListN.{length, replicate, length-append}
 use Rattle.plan.specs.Lists.{joined}
-use Rattle.plan.specs.Laws.Counts.{counts-of}
+use Rattle.plan.specs.Laws.CountLimits.{count-limits}
 use Rattle.plan.specs.declared.Plan.{Plan}
 use Rattle.machine.specs.Status.{statusOf, isPaused}
 use Rattle.machine.specs.Runs.{after, events}
@@ -23,8 +23,8 @@ use Rattle.listingtext.specs.Lines.{linesOf, refusalLine}
 use Rattle.listingtext.specs.Laws.Lines.{lines-append}
 use Rattle.calls.specs.Calls.{loadOf, ranState, ranEvents}
 use Rattle.calls.specs.Proofs.Sound.{load-sound}
-use Rattle.listingturns.specs.Listing.{eventLines, closing, listedBy, listingOf}
-use Rattle.listingturns.specs.Turns.{turnState, turnMore, turnText, firstText, turnsFrom, printedIn}
+use Rattle.listingturns.specs.Listing.{eventLines, endLineOf, listingOfRun, listingOf}
+use Rattle.listingturns.specs.Turns.{turnState, turnMore, turnText, beginText, turnsFrom, printedIn}
 use Rattle.listingturns.specs.Promises.{ListingStops, TurnsEnd, TurnsPrint}
 use Rattle.listingturns.specs.Laws.EventLists.{EventList, run-list}
 use Rattle.listingturns.specs.Laws.Ends.{after-parts, events-parts, stops, after-enough, events-enough}
@@ -44,16 +44,16 @@ lines-both front rest a b =
 -- ---- the listing from a sound state on
 module _ (p : Plan) (r : Running) (ok : SoundRunning p r) where
   pub event-list : (b : ℕ) → EventList (events p Lazy b r)
-  event-list b = run-list p (omega (arith, counts-of p (ok .plan .counts))) Lazy b r
+  event-list b = run-list p (omega (arith, count-limits p (ok .plan .counts))) Lazy b r
 
   abbrev then : Running
   then = after p Lazy 64 r
 
   -- 64 instants, and the listing from there on
-  pub listed-turn : SoundRunning p then → (b : ℕ) → p .horizon ≤ b + r .clocks .clock → listedBy p b r ≡ eventLines (events p Lazy 64 r) ++ listedBy p b then
-  unfolding listedBy
+  pub listed-turn : SoundRunning p then → (b : ℕ) → p .horizon ≤ b + r .clocks .clock → listingOfRun p b r ≡ eventLines (events p Lazy 64 r) ++ listingOfRun p b then
+  unfolding listingOfRun
   listed-turn next b h =
-      let lists = run-list p (omega (arith, counts-of p (ok .plan .counts))) Lazy in
+      let lists = run-list p (omega (arith, count-limits p (ok .plan .counts))) Lazy in
       rw (
         ← after-enough p Lazy b 64 r ok h,
         ← events-enough p Lazy b 64 r ok h,
@@ -62,11 +62,11 @@ module _ (p : Plan) (r : Running) (ok : SoundRunning p r) where
         events-parts p Lazy 64 b r,
         lines-both (events p Lazy 64 r) (events p Lazy b then) (lists 64 r) (lists b then),
       )
-      (append-assoc (eventLines (events p Lazy 64 r)) (eventLines (events p Lazy b then)) (closing p (after p Lazy b then)))
+      (append-assoc (eventLines (events p Lazy 64 r)) (eventLines (events p Lazy b then)) (endLineOf p (after p Lazy b then)))
 
   -- where the status is 1 or 2 already: the end line
-  pub listed-stopped : (b : ℕ) → (statusOf p r ≡ Paused → ⊥) → listedBy p b r ≡ closing p r
-  unfolding listedBy eventLines linesOf joined
+  pub listed-stopped : (b : ℕ) → (statusOf p r ≡ Paused → ⊥) → listingOfRun p b r ≡ endLineOf p r
+  unfolding listingOfRun eventLines linesOf joined
   listed-stopped b s = let run = run-stopped p Lazy b r s in rw (run .0, run .1)
 
 -- ---- a turn
@@ -87,7 +87,7 @@ turns-end st ok =
 
 -- ---- the turns from a sound state on are the listing from there on, in every budget that is enough
 print-from : (turns : ℕ) (st : State) → Sound st → st .plan .horizon < turns + st .run .clocks .clock → (b : ℕ) → st .plan .horizon ≤ b + st .run .clocks .clock
-    → turnsFrom turns st ≡ listedBy (st .plan) b (st .run)
+    → turnsFrom turns st ≡ listingOfRun (st .plan) b (st .run)
 unfolding turnsFrom turnText turnMore turnState ranState ranEvents
 print-from zero st ok h b l = absurd (omega (arith, ok .clock))
 print-from (suc turns) st ok h b l =
@@ -103,15 +103,15 @@ print-from (suc turns) st ok h b l =
     lines : List ℕ
     lines = eventLines (events p Lazy 64 (st .run))
 
-    go : (more : Bool) → turnMore st ≡ more → (turnMore st ≡ true → turnsFrom turns (turnState st) ≡ listedBy p b (turnState st .run))
-        → (lines ++ cond more [] (closing p (turnState st .run))) ++ cond more (turnsFrom turns (turnState st)) [] ≡ listedBy p b (st .run)
+    go : (more : Bool) → turnMore st ≡ more → (turnMore st ≡ true → turnsFrom turns (turnState st) ≡ listingOfRun p b (turnState st .run))
+        → (lines ++ cond more [] (endLineOf p (turnState st .run))) ++ cond more (turnsFrom turns (turnState st)) [] ≡ listingOfRun p b (st .run)
     go true e ih = rw (append-nil lines, ih e) (sym (listed-turn p (st .run) ok next b l))
     go false e ih =
-        rw (append-nil (lines ++ closing p (turnState st .run)), listed-turn p (st .run) ok next b l)
+        rw (append-nil (lines ++ endLineOf p (turnState st .run)), listed-turn p (st .run) ok next b l)
         (ap (λ end. lines ++ end) (sym (listed-stopped p (turnState st .run) next b (λ paused. true≢false (sym (is-paused p (turnState st .run) paused) ∙ e)))))
 
 pub turns-print : TurnsPrint
-unfolding printedIn firstText listingOf
+unfolding printedIn beginText listingOf
 turns-print file turns h = go (eqb (loadOf file .number) 0)
   where
     st : State
@@ -121,6 +121,6 @@ turns-print file turns h = go (eqb (loadOf file .number) 0)
     refusal = refusalLine (loadOf file .number) (loadOf file .entry)
 
     go : (accepts : Bool) → cond accepts [] refusal ++ cond accepts (turnsFrom turns st) []
-        ≡ cond accepts (listedBy (st .plan) (st .plan .horizon) (st .run)) refusal
+        ≡ cond accepts (listingOfRun (st .plan) (st .plan .horizon) (st .run)) refusal
     go true = print-from turns st (load-sound file) (omega arith) (st .plan .horizon) (omega arith)
     go false = append-nil refusal

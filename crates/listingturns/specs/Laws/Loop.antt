@@ -7,9 +7,9 @@ use native.Mathlib.Omega.{arith}
 use lib.ListN.{length, drop, length-append}
 use Rattle.machine.specs.Sound.{Sound}
 use Rattle.machine.specs.declared.State.{State}
-use Rattle.calls.specs.Calls.{over}
+use Rattle.calls.specs.Calls.{writtenOver}
 use Rattle.calls.specs.Proofs.Sound.{load-sound}
-use Rattle.listingturns.specs.Turns.{turnState, turnMore, turnText, turnOf, firstText, firstOf}
+use Rattle.listingturns.specs.Turns.{turnState, turnMore, turnText, turnOf, beginText, beginOf}
 use Rattle.listingturns.specs.Laws.Joined.{turns-end}
 use Rattle.listingturns.specs.declared.Turn.{Turn}
 
@@ -18,14 +18,14 @@ pub record Ready (turn : Turn) (text : List ℕ) : Type 0 where
   pub sound : Sound (turn .state)
   pub inside : turn .length ≤ length text
 
-over-inside : (text before : List ℕ) {after : List ℕ} → after ≡ over text before → length text ≤ length after
+over-inside : (text before : List ℕ) {after : List ℕ} → after ≡ writtenOver text before → length text ≤ length after
 over-inside text before e = omega (arith, ap length e, length-append text (drop (length text) before))
 
-pub first-ready : (file before : List ℕ) {turn : Turn} {after : List ℕ} → turn ≡ firstOf file → after ≡ over (firstText file) before → Ready turn after
-unfolding firstOf
-first-ready file before t a = record { sound = rw t (load-sound file); inside = rw t (over-inside (firstText file) before a) }
+pub first-ready : (file before : List ℕ) {turn : Turn} {after : List ℕ} → turn ≡ beginOf file → after ≡ writtenOver (beginText file) before → Ready turn after
+unfolding beginOf
+first-ready file before t a = record { sound = rw t (load-sound file); inside = rw t (over-inside (beginText file) before a) }
 
-pub turn-ready : (st : State) (before : List ℕ) {turn : Turn} {after : List ℕ} → Sound st → turn ≡ turnOf st → after ≡ over (turnText st) before
+pub turn-ready : (st : State) (before : List ℕ) {turn : Turn} {after : List ℕ} → Sound st → turn ≡ turnOf st → after ≡ writtenOver (turnText st) before
     → Ready turn after
 unfolding turnOf
 turn-ready st before ok t a = record { sound = rw t (turns-end st ok .sound); inside = rw t (over-inside (turnText st) before a) }

@@ -8,22 +8,22 @@ use lib.IntN.{ℤ, pos, _+ℤ_, _*ℤ_}
 use Rattle.integers.specs.Laws.Parts.{sum, prod, zs}
 use Rattle.plan.specs.Lists.{natAt, intAt, row}
 use Rattle.plan.specs.Laws.Rows.{row-at, row-ext}
-use Rattle.plan.specs.Laws.Counts.{counts-of}
+use Rattle.plan.specs.Laws.CountLimits.{count-limits}
 use Rattle.plan.specs.declared.Plan.{Plan}
 use Rattle.machine.specs.Values.{rateOf}
 use Rattle.machine.specs.Due.{dueOf}
 use Rattle.machine.specs.Start.{startSlope, startDue, startOf}
-use Rattle.machine.specs.Instant.{positionAt, inputsThen, moves, outputs, slopeThen, dueThen, takenAt, tickOf, instant, eventsOf}
+use Rattle.machine.specs.Instant.{positionAt, inputsThen, moves, outputs, slopeThen, dueThen, takenAt, nextTickOf, instant, eventsOf}
 use Rattle.machine.specs.Status.{statusOf}
 use Rattle.machine.specs.Runs.{positionOf}
-use Rattle.machine.specs.Plain.{Plain, settled, plainStart, plainTick, plainPosition, plainOutputs, plainInstant, plainEventsOf}
+use Rattle.machine.specs.Plain.{Plain, withRatesAndDues, plainStart, plainNextTick, plainPosition, plainOutputs, plainInstant, plainEventsOf}
 use Rattle.machine.specs.Plain.{plainStatus}
 use Rattle.machine.specs.Sound.{SoundRunning}
 use Rattle.machine.specs.Laws.Soundness.{covers, tick-after}
 use Rattle.machine.specs.Laws.Next.{tick-due}
 use Rattle.machine.specs.Laws.Status.{status-same}
-use Rattle.machine.specs.Laws.Taken.{x-then}
-use Rattle.machine.specs.Laws.Moved.{slopes-then, dues-then, place-then}
+use Rattle.machine.specs.Laws.InstantFigures.{x-then}
+use Rattle.machine.specs.Laws.InstantByRule.{slopes-then, dues-then, place-then}
 use Rattle.machine.specs.declared.Running.{Running}
 use Rattle.machine.specs.declared.Engine.{Engine}
 
@@ -39,7 +39,7 @@ pub record Agrees (p : Plan) (r : Running) (m : Plain) : Type 0 where
   pub place : (i : ℕ) → i < p .counts .n → positionOf r i ≡ intAt (m .x) i
 
 module _ (p : Plan) (r : Running) (ok : SoundRunning p r) where
-  tick-from : r .clocks .clock ≤ tickOf p r
+  tick-from : r .clocks .clock ≤ nextTickOf p r
   tick-from = omega (arith, tick-after p r ok)
 
   -- a later position, from the one at the clock
@@ -55,24 +55,24 @@ module _ (p : Plan) (r : Running) (ok : SoundRunning p r) where
           omega (arith, zs, prod s (pos (a + b)), prod s (pos a), prod s (pos b), sum x (s *ℤ pos (a + b)), sum x (s *ℤ pos a), sum y (s *ℤ pos b))
 
   module _ (m : Plain) (a : Agrees p r m) where
-    pub same-tick : tickOf p r ≡ plainTick p m
-    unfolding tickOf plainTick
+    pub same-tick : nextTickOf p r ≡ plainNextTick p m
+    unfolding nextTickOf plainNextTick
     same-tick = rw (a .d, a .next)
 
-    pub same-position : (i : ℕ) → i < p .counts .n → positionAt r (tickOf p r) i ≡ plainPosition p m i
+    pub same-position : (i : ℕ) → i < p .counts .n → positionAt r (nextTickOf p r) i ≡ plainPosition p m i
     unfolding plainPosition
-    same-position i h = later (tickOf p r) i tick-from h ∙ rw (same-tick, a .place i h, a .s, a .clock)
+    same-position i h = later (nextTickOf p r) i tick-from h ∙ rw (same-tick, a .place i h, a .s, a .clock)
 
     -- ---- what is read from the state
     pub same-status : statusOf p r ≡ plainStatus p m
     unfolding statusOf plainStatus
-    same-status = status-same p (r .d) (tickOf p r) _ _ same-position ∙ rw (same-tick, a .d)
+    same-status = status-same p (r .d) (nextTickOf p r) _ _ same-position ∙ rw (same-tick, a .d)
 
-    pub same-outputs : outputs p r (tickOf p r) ≡ plainOutputs p m
+    pub same-outputs : outputs p r (nextTickOf p r) ≡ plainOutputs p m
     unfolding outputs plainOutputs
     same-outputs = row-ext (pos 0) 32 (p .counts .n) _ _ (λ i h. rw (same-position i h, same-tick, a .d, a .q))
 
-    pub same-inputs-then : inputsThen p (r .inputs) (tickOf p r) ≡ inputsThen p (m .inputs) (plainTick p m)
+    pub same-inputs-then : inputsThen p (r .inputs) (nextTickOf p r) ≡ inputsThen p (m .inputs) (plainNextTick p m)
     same-inputs-then = rw (same-tick, a .inputs)
 
     pub same-events : eventsOf p r ≡ plainEventsOf p m
@@ -81,9 +81,9 @@ module _ (p : Plan) (r : Running) (ok : SoundRunning p r) where
 
     -- ---- one instant
     abbrev new-slope : ℕ → ℤ
-    new-slope = rateOf p (plainOutputs p m) (inputsThen p (m .inputs) (plainTick p m))
+    new-slope = rateOf p (plainOutputs p m) (inputsThen p (m .inputs) (plainNextTick p m))
 
-    same-slope : (i : ℕ) → slopeThen p r (tickOf p r) i ≡ new-slope i
+    same-slope : (i : ℕ) → slopeThen p r (nextTickOf p r) i ≡ new-slope i
     unfolding slopeThen
     same-slope i = rw (same-outputs, same-inputs-then)
 
@@ -91,17 +91,17 @@ module _ (p : Plan) (r : Running) (ok : SoundRunning p r) where
     new-x = row (pos 0) 32 (p .counts .n) (plainPosition p m)
 
     new-x-at : (i : ℕ) → i < p .counts .n → intAt new-x i ≡ plainPosition p m i
-    new-x-at i h = row-at (pos 0) 32 (p .counts .n) (plainPosition p m) i (counts-of p (ok .plan .counts) .n) h
+    new-x-at i h = row-at (pos 0) 32 (p .counts .n) (plainPosition p m) i (count-limits p (ok .plan .counts) .n) h
 
-    same-due : (i : ℕ) → i < p .counts .n → dueThen p r (tickOf p r) i ≡ dueOf p (plainOutputs p m) i (plainTick p m) (intAt new-x i) (new-slope i)
+    same-due : (i : ℕ) → i < p .counts .n → dueThen p r (nextTickOf p r) i ≡ dueOf p (plainOutputs p m) i (plainNextTick p m) (intAt new-x i) (new-slope i)
     unfolding dueThen
     same-due i h =
-        rw (x-then p (counts-of p (ok .plan .counts)) r (tickOf p r) i h, same-position i h, same-outputs, same-slope i, new-x-at i h, same-tick)
+        rw (x-then p (count-limits p (ok .plan .counts)) r (nextTickOf p r) i h, same-position i h, same-outputs, same-slope i, new-x-at i h, same-tick)
 
     pub agrees-then : (engine : Engine) → Agrees p (instant p engine r) (plainInstant p m)
-    unfolding instant takenAt plainInstant settled positionOf
+    unfolding instant takenAt plainInstant withRatesAndDues positionOf
     agrees-then engine =
-        let t = tickOf p r in
+        let t = nextTickOf p r in
         let who = moves p engine (r .d) t in
         let cover = covers p engine (r .d) t in
         record {
@@ -117,7 +117,7 @@ module _ (p : Plan) (r : Running) (ok : SoundRunning p r) where
 
 -- ---- the start
 pub start-agrees : (p : Plan) → p .counts .n ≤ 32 → Agrees p (startOf p) (plainStart p)
-unfolding startOf startSlope startDue plainStart settled positionOf positionAt
+unfolding startOf startSlope startDue plainStart withRatesAndDues positionOf positionAt
 start-agrees p wide =
     record {
       q = refl;

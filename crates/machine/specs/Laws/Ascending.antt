@@ -9,7 +9,7 @@ use native.Mathlib.Omega.{arith}
 use lib.Dec.{ltb}
 use borrow.Author.Tests.{ltb-true, ltb-false}
 use Rattle.plan.specs.Lists.{natAt}
-use Rattle.plan.specs.Rules.{Ascends}
+use Rattle.plan.specs.Rules.{AscendsAt}
 use Rattle.plan.specs.Laws.Searches.{below-suc}
 
 -- (a, b) stands before (a′, b′)
@@ -22,7 +22,7 @@ before-trans (inl h) (inr k) = inl (omega arith)
 before-trans (inr h) (inl k) = inl (omega arith)
 before-trans (inr h) (inr k) = inr (omega arith, omega arith)
 
-module _ (xs ys : List ℕ) (k : ℕ) (ascends : (e : ℕ) → e < k → Ascends xs ys e) where
+module _ (xs ys : List ℕ) (k : ℕ) (ascends : (e : ℕ) → e < k → AscendsAt xs ys e) where
   pub ascending : (d e : ℕ) → d < e → e < k → Before (natAt xs d) (natAt ys d) (natAt xs e) (natAt ys e)
   ascending d zero h l = absurd (omega arith)
   ascending d (suc e) h l =

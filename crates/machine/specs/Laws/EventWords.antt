@@ -19,7 +19,7 @@ use Rattle.plan.specs.declared.Plan.{Plan}
 use Rattle.machine.specs.Values.{valueWith}
 use Rattle.machine.specs.Reach.{changes}
 use Rattle.machine.specs.Instant.{eventBytes, eventsAt}
-use Rattle.machine.specs.Laws.Chosen.{length-chosen, number-chosen, bytes-chosen}
+use Rattle.machine.specs.Laws.SelectedBlocks.{length-chosen, number-chosen, bytes-chosen}
 
 -- ---- one event
 module _ (t source : ℕ) (value : ℤ) where

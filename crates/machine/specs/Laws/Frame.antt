@@ -8,16 +8,16 @@ use native.Mathlib.Omega.{arith}
 use lib.IntN.{ℤ, pos, _+ℤ_, _*ℤ_}
 use lib.Dec.{ltb, eqb}
 use borrow.Author.Tests.{ltb-true, ltb-false, eqb-true}
-use Rattle.integers.specs.Division.{floored}
+use Rattle.integers.specs.Division.{floor65536}
 use Rattle.plan.specs.Lists.{natAt, intAt, some}
 use Rattle.plan.specs.Laws.Rows.{row-at}
 use Rattle.plan.specs.Laws.Searches.{or-false}
-use Rattle.plan.specs.Laws.Counts.{Counts}
+use Rattle.plan.specs.Laws.CountLimits.{CountLimits}
 use Rattle.plan.specs.declared.Plan.{Plan}
-use Rattle.machine.specs.Values.{nodeOf, valueWith, valueOf, sumOver, rateOf}
+use Rattle.machine.specs.Values.{nodeValue, valueWith, valueOf, sumOver, rateOf}
 use Rattle.machine.specs.Reach.{isDue, setsInput, isCommanded, changes, dependsWith, linkReaches, reached}
 use Rattle.machine.specs.Instant.{inputThen, inputsThen, outputs, slopeThen}
-use Rattle.machine.specs.Laws.Taken.{output-kept}
+use Rattle.machine.specs.Laws.InstantFigures.{output-kept}
 use Rattle.machine.specs.declared.Running.{Running}
 
 -- an input that no command of the tick sets
@@ -37,8 +37,8 @@ choice-kept false f g e = g e
 
 -- a node whose operands keep their values where it uses them
 node-kept : (kind : ℕ) (lo hi : ℤ) {a a₀ b b₀ : ℤ} (onA onB : Bool) → (onA ≡ false → a ≡ a₀) → (onB ≡ false → b ≡ b₀)
-    → (onA || (not (eqb kind 2) && onB)) ≡ false → nodeOf kind lo hi a b ≡ nodeOf kind lo hi a₀ b₀
-unfolding nodeOf
+    → (onA || (not (eqb kind 2) && onB)) ≡ false → nodeValue kind lo hi a b ≡ nodeValue kind lo hi a₀ b₀
+unfolding nodeValue
 node-kept kind lo hi {a} {a₀} {b} {b₀} onA onB f g e = go (eqb kind 2) refl (both .1)
   where
     both : (onA ≡ false) × ((not (eqb kind 2) && onB) ≡ false)
@@ -47,7 +47,7 @@ node-kept kind lo hi {a} {a₀} {b} {b₀} onA onB f g e = go (eqb kind 2) refl 
     left : a ≡ a₀
     left = f (both .0)
 
-    go : (c : Bool) → eqb kind 2 ≡ c → (not c && onB) ≡ false → nodeOf kind lo hi a b ≡ nodeOf kind lo hi a₀ b₀
+    go : (c : Bool) → eqb kind 2 ≡ c → (not c && onB) ≡ false → nodeValue kind lo hi a b ≡ nodeValue kind lo hi a₀ b₀
     go true c d = rw (eqb-true kind 2 c, left)
     go false c d = rw (left, g d)
 
@@ -94,10 +94,10 @@ module _ (p : Plan) (d : List ℕ) (t : ℕ) (q u q₀ u₀ : List ℤ)
 
   pub rate-kept : (i : ℕ) → reached p d t i ≡ false → rateOf p q u i ≡ rateOf p q₀ u₀ i
   unfolding reached rateOf
-  rate-kept i e = ap floored (sum-kept i (p .counts .links) e)
+  rate-kept i e = ap floor65536 (sum-kept i (p .counts .links) e)
 
 -- an integrator that an instant does not reach keeps its rate
-pub slope-frame : (p : Plan) → Counts p → (r : Running) (t i : ℕ) → reached p (r .d) t i ≡ false → slopeThen p r t i ≡ rateOf p (r .q) (r .inputs) i
+pub slope-frame : (p : Plan) → CountLimits p → (r : Running) (t i : ℕ) → reached p (r .d) t i ≡ false → slopeThen p r t i ≡ rateOf p (r .q) (r .inputs) i
 unfolding slopeThen
 slope-frame p limits r t =
     rate-kept p (r .d) t (outputs p r t) (inputsThen p (r .inputs) t) (r .q) (r .inputs) (output-kept p limits r t)

@@ -9,13 +9,13 @@ use borrow.Author.Tests.{eq-eqb, ne-eqb}
 use Rattle.bitset.specs.Counts.{countOf}
 use Rattle.bitset.specs.Laws.Counts.{countOf-ext, countOf-all, countOf-le}
 use Rattle.plan.specs.Lists.{natAt}
-use Rattle.plan.specs.Laws.Counts.{counts-of}
+use Rattle.plan.specs.Laws.CountLimits.{count-limits}
 use Rattle.plan.specs.declared.Plan.{Plan}
-use Rattle.machine.specs.Instant.{moves, takenAt, tickOf, instant}
-use Rattle.machine.specs.Plain.{Plain, plainTick, lazyCount}
+use Rattle.machine.specs.Instant.{moves, takenAt, nextTickOf, instant}
+use Rattle.machine.specs.Plain.{Plain, plainNextTick, lazyCount}
 use Rattle.machine.specs.Updates.{growth, movedNow}
 use Rattle.machine.specs.Sound.{SoundRunning}
-use Rattle.machine.specs.Laws.Taken.{l-at}
+use Rattle.machine.specs.Laws.InstantFigures.{l-at}
 use Rattle.machine.specs.Laws.Soundness.{tick-after}
 use Rattle.machine.specs.Laws.Agreement.{Agrees, same-tick}
 use Rattle.machine.specs.declared.Running.{Running}
@@ -35,11 +35,11 @@ growth-most p Eager m = omega arith
 
 module _ (p : Plan) (r : Running) (ok : SoundRunning p r) (m : Plain) (a : Agrees p r m) (engine : Engine) where
   -- how many the engine moves
-  moved-count : countOf (moves p engine (r .d) (tickOf p r)) (p .counts .n) ≡ growth p engine m
+  moved-count : countOf (moves p engine (r .d) (nextTickOf p r)) (p .counts .n) ≡ growth p engine m
   unfolding growth lazyCount moves
   moved-count = rw (same-tick p r ok m a, a .d) (go engine)
     where
-      go : (e : Engine) → countOf (moves p e (m .d) (plainTick p m)) (p .counts .n) ≡ growth p e m
+      go : (e : Engine) → countOf (moves p e (m .d) (plainNextTick p m)) (p .counts .n) ≡ growth p e m
       go Lazy = refl
       go Eager = countOf-all (p .counts .n)
 
@@ -53,13 +53,13 @@ module _ (p : Plan) (r : Running) (ok : SoundRunning p r) (m : Plain) (a : Agree
   instant-moved = countOf-ext _ _ (p .counts .n) marked ∙ moved-count
     where
       t : ℕ
-      t = tickOf p r
+      t = nextTickOf p r
 
       who : ℕ → Bool
       who = moves p engine (r .d) t
 
       marked : (i : ℕ) → i < p .counts .n → eqb (natAt (takenAt p r t who .l) i) t ≡ who i
-      marked i h = rw (l-at p (counts-of p (ok .plan .counts)) r t who i h) (go (who i))
+      marked i h = rw (l-at p (count-limits p (ok .plan .counts)) r t who i h) (go (who i))
         where
           go : (b : Bool) → eqb (cond b t (natAt (r .l) i)) t ≡ b
           go true = eq-eqb t t refl

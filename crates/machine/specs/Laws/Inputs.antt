@@ -11,8 +11,8 @@ use Rattle.plan.specs.Numbers.{M}
 use Rattle.plan.specs.Lists.{natAt, intAt}
 use Rattle.plan.specs.Rules.{PlanRules}
 use Rattle.plan.specs.Laws.Rows.{row-at}
-use Rattle.plan.specs.Laws.Counts.{counts-of}
-use Rattle.plan.specs.Laws.Means.{Means, means-false, within-size}
+use Rattle.plan.specs.Laws.CountLimits.{count-limits}
+use Rattle.plan.specs.Laws.TestMeanings.{Means, means-false, within-size}
 use Rattle.plan.specs.declared.Plan.{Plan}
 use Rattle.machine.specs.Values.{valueWith}
 use Rattle.machine.specs.Reach.{setsInput}
@@ -28,7 +28,7 @@ command-unique p rules = entry-unique (p .commands .ticks) (p .commands .inputs)
 module _ (p : Plan) (rules : PlanRules p) (u : List ℤ) (t : ℕ) where
   input-then-at : (j : ℕ) → j < p .counts .m → intAt (inputsThen p u t) j ≡ inputThen p u t j (p .counts .commands)
   unfolding inputsThen
-  input-then-at j h = row-at (pos 0) 8 (p .counts .m) _ j (counts-of p (rules .counts) .m) h
+  input-then-at j h = row-at (pos 0) 8 (p .counts .m) _ j (count-limits p (rules .counts) .m) h
 
   -- no other command of the tick sets the input
   sets-once : (j e : ℕ) → e < p .counts .commands → natAt (p .commands .ticks) e ≡ t → natAt (p .commands .inputs) e ≡ j → (k : ℕ) → k < p .counts .commands
@@ -55,7 +55,7 @@ module _ (p : Plan) (rules : PlanRules p) (u : List ℤ) (t : ℕ) where
   pub input-not-set : (j : ℕ) → j < p .counts .m → ((e : ℕ) → e < p .counts .commands → natAt (p .commands .ticks) e ≡ t → natAt (p .commands .inputs) e ≡ j → ⊥)
       → intAt (inputsThen p u t) j ≡ intAt u j
   input-not-set j h none =
-      input-kept p u t j (counts-of p (rules .counts) .m) h (means-false (commanded-means p t j .0) (λ f. none (f .0) (f .1) (f .2) (f .3)))
+      input-kept p u t j (count-limits p (rules .counts) .m) h (means-false (commanded-means p t j .0) (λ f. none (f .0) (f .1) (f .2) (f .3)))
 
   pub inputs-then-size : ((j : ℕ) → j < p .counts .m → ∣ intAt u j ∣ ≤ M) → (j : ℕ) → j < p .counts .m → ∣ intAt (inputsThen p u t) j ∣ ≤ M
   unfolding inputThen

@@ -22,7 +22,7 @@ use Rattle.machine.specs.Laws.Agreement.{Agrees, same-status, start-agre
 use Rattle.machine.specs.Laws.Growth.{instant-updates, instant-moved}
 use Rattle.machine.specs.Laws.PlainRuns.{takes-most, paused-before, taken-so-far, stopped-behind}
 use Rattle.machine.specs.Laws.Runs.{afterBy, eventsBy, after-stopped, after-append, events-append, run-sound, Together, together}
-use Rattle.plan.specs.Laws.Counts.{counts-of}
+use Rattle.plan.specs.Laws.CountLimits.{count-limits}
 use Rattle.machine.specs.declared.Running.{Running}
 use Rattle.machine.specs.declared.Engine.{Engine}
 use Rattle.machine.specs.declared.Engine.the-variants.{Lazy, Eager}
@@ -66,14 +66,14 @@ stateAt p engines k = afterBy p (take k engines) (startOf p)
 
 module _ (p : Plan) (ok : SoundRunning p (startOf p)) (engines : List Engine) where
   pub run-together : Together p engines (startOf p) (plainStart p)
-  run-together = together p engines (startOf p) (plainStart p) ok (start-agrees p (counts-of p (ok .plan .counts) .n))
+  run-together = together p engines (startOf p) (plainStart p) ok (start-agrees p (count-limits p (ok .plan .counts) .n))
 
   -- it agrees with the plain machine at every instant
   state-agrees : (k : ℕ) → k ≤ length engines → Agrees p (stateAt p engines k) (plainAfter p k)
   unfolding stateAt plainAfter
   state-agrees k h =
       rw (length-take-le k engines h) at
-      (together p (take k engines) (startOf p) (plainStart p) ok (start-agrees p (counts-of p (ok .plan .counts) .n)) .agrees)
+      (together p (take k engines) (startOf p) (plainStart p) ok (start-agrees p (count-limits p (ok .plan .counts) .n)) .agrees)
 
   state-sound : (k : ℕ) → SoundRunning p (stateAt p engines k)
   unfolding stateAt

@@ -9,10 +9,10 @@ use Rattle.words.specs.Word.{Bytes}
 use Rattle.words.specs.Laws.Reading.{bytes-append}
 use Rattle.plan.specs.declared.Plan.{Plan}
 use Rattle.machine.specs.Reach.{changes}
-use Rattle.machine.specs.Instant.{inputsThen, outputs, tickOf, instant, eventsOf}
+use Rattle.machine.specs.Instant.{inputsThen, outputs, nextTickOf, instant, eventsOf}
 use Rattle.machine.specs.Status.{isPaused}
 use Rattle.machine.specs.Runs.{events}
-use Rattle.machine.specs.Laws.Chosen.{no-bytes}
+use Rattle.machine.specs.Laws.SelectedBlocks.{no-bytes}
 use Rattle.machine.specs.Laws.EventWords.{length-events, bytes-events}
 use Rattle.machine.specs.declared.Running.{Running}
 use Rattle.machine.specs.declared.Engine.{Engine}
@@ -21,7 +21,7 @@ module _ (p : Plan) where
   pub instant-bytes : (r : Running) → length (eventsOf p r) ≤ (p .counts .n + p .counts .m) * 12
   unfolding eventsOf
   instant-bytes r =
-      let t = tickOf p r in
+      let t = nextTickOf p r in
       omega (
         arith,
         length-events p t (r .d) (outputs p r t) (inputsThen p (r .inputs) t),
@@ -47,5 +47,5 @@ module _ (p : Plan) where
   events-are-bytes engine (suc b) r = go (isPaused p r) (events-are-bytes engine b (instant p engine r))
     where
       go : (c : Bool) → Bytes (events p engine b (instant p engine r)) → Bytes (cond c (eventsOf p r ++ events p engine b (instant p engine r)) [])
-      go true h = bytes-append (bytes-events p (tickOf p r) (r .d) _ _) h
+      go true h = bytes-append (bytes-events p (nextTickOf p r) (r .d) _ _) h
       go false h = no-bytes

@@ -17,7 +17,7 @@ use Rattle.plan.specs.Lists.{intAt}
 use Rattle.plan.specs.Rules.{IntegratorRule}
 use Rattle.plan.specs.declared.Plan.{Plan}
 use Rattle.machine.specs.Due.{upperLevel, lowerLevel, distance, ticksTo}
-use Rattle.machine.specs.Laws.Between.{Between}
+use Rattle.machine.specs.Laws.BetweenLevels.{BetweenLevels}
 use Rattle.machine.specs.Laws.Due.{moving, slope-cases, distance-positive}
 
 pub ticks-positive : (x upper lower s : ℤ) → 1 ≤ ticksTo x upper lower s
@@ -37,7 +37,7 @@ ticks-by-distance x upper lower s h =
     (λ e. rw (ap (λ z. ∣ z ∣) e) (omega (arith, zs, ceil-by-zero d)))
     (λ m. omega (arith, zs, ceil-most d ∣ s ∣ (moving s m)))
 
-pub distance-least : (p : Plan) (q : List ℤ) (i : ℕ) (x : ℤ) → Between p q i x → (s : ℤ)
+pub distance-least : (p : Plan) (q : List ℤ) (i : ℕ) (x : ℤ) → BetweenLevels p q i x → (s : ℤ)
     → pos 1 ≤ℤ distance x (upperLevel p q i) (lowerLevel p q i) s
 distance-least p q i x inside s =
     omega (arith, zs, distance-positive x (upperLevel p q i) (lowerLevel p q i) s (inside .above) (inside .below))
@@ -58,7 +58,7 @@ module _ (p : Plan) (q : List ℤ) (i : ℕ) (rule : IntegratorRule p i) (output
       let a = intAt q i in let b = intAt (p .integrators .quanta) i in
       omega (arith, zs, sum a b, dif a b, dif (a +ℤ b) (a -ℤ b), tight b)
 
-  module _ (x : ℤ) (inside : Between p q i x) where
+  module _ (x : ℤ) (inside : BetweenLevels p q i x) where
     pub inside-size : ∣ x ∣ < 2 ^ 31
     inside-size = omega (arith, zs, upper-size, lower-size, tight x)
 

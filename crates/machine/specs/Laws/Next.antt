@@ -12,7 +12,7 @@ use Rattle.plan.specs.Numbers.{never}
 use Rattle.plan.specs.Lists.{natAt}
 use Rattle.plan.specs.Laws.Searches.{below-suc, First, first, first-unique}
 use Rattle.plan.specs.declared.Plan.{Plan}
-use Rattle.machine.specs.Instant.{tickOf}
+use Rattle.machine.specs.Instant.{nextTickOf}
 use Rattle.machine.specs.declared.Running.{Running}
 use Rattle.machine.specs.Next.{nextCommand, commandTick, leastDue, nextTick}
 
@@ -120,15 +120,15 @@ module _ (p : Plan) (d : List ℕ) (next : ℕ) where
 
 -- ---- by an engine's
 module _ (p : Plan) (r : Running) where
-  pub tick-due : (i : ℕ) → i < p .counts .n → tickOf p r ≤ natAt (r .d) i
-  unfolding tickOf
+  pub tick-due : (i : ℕ) → i < p .counts .n → nextTickOf p r ≤ natAt (r .d) i
+  unfolding nextTickOf
   tick-due = next-due p (r .d) (r .clocks .next)
 
-  pub tick-command : r .clocks .next < p .counts .commands → tickOf p r ≤ natAt (p .commands .ticks) (r .clocks .next)
-  unfolding tickOf
+  pub tick-command : r .clocks .next < p .counts .commands → nextTickOf p r ≤ natAt (p .commands .ticks) (r .clocks .next)
+  unfolding nextTickOf
   tick-command = next-command p (r .d) (r .clocks .next)
 
   pub tick-above : (c : ℕ) → c ≤ never → ((i : ℕ) → i < p .counts .n → c ≤ natAt (r .d) i) → (r .clocks .next < p .counts .commands → c ≤ natAt (p .commands .ticks) (r .clocks .next))
-      → c ≤ tickOf p r
-  unfolding tickOf
+      → c ≤ nextTickOf p r
+  unfolding nextTickOf
   tick-above = next-above p (r .d) (r .clocks .next)

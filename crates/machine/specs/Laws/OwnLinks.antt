@@ -8,8 +8,8 @@ use lib.Dec.{eqb}
 use borrow.Author.Tests.{eqb-true, eqb-false, eq-eqb, ne-eqb}
 use Rattle.bitset.specs.Counts.{countOf}
 use Rattle.plan.specs.Lists.{natAt}
-use Rattle.plan.specs.Rules.{Ascends, PlanRules}
-use Rattle.plan.specs.Laws.Counts.{counts-of}
+use Rattle.plan.specs.Rules.{AscendsAt, PlanRules}
+use Rattle.plan.specs.Laws.CountLimits.{count-limits}
 use Rattle.plan.specs.declared.Plan.{Plan}
 
 -- how many of the first e links are integrator i's
@@ -31,7 +31,7 @@ record Earlier (p : Plan) (i e : ℕ) : Type 0 where
   -- its target is lower: none is the integrator's
   none : natAt (p .links .targets) e < i → ownLinks p i e ≡ 0
 
-next : (p : Plan) (i e : ℕ) → Ascends (p .links .targets) (p .links .sources) (suc e) → Earlier p i e → Earlier p i (suc e)
+next : (p : Plan) (i e : ℕ) → AscendsAt (p .links .targets) (p .links .sources) (suc e) → Earlier p i e → Earlier p i (suc e)
 next p i e order b = go (order e refl)
   where
     lower : natAt (p .links .targets) e < i → ownLinks p i (suc e) ≡ 0
@@ -49,7 +49,7 @@ next p i e order b = go (order e refl)
 
 module _ (p : Plan) (rules : PlanRules p) where
   pub sources-most : p .counts .n + p .counts .m + p .counts .k ≤ 56
-  sources-most = omega (arith, counts-of p (rules .counts))
+  sources-most = omega (arith, count-limits p (rules .counts))
 
   before : (i e : ℕ) → e < p .counts .links → Earlier p i e
   unfolding countOf

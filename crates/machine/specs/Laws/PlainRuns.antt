@@ -8,7 +8,7 @@ use Prim.Native.Nat.{ℕ, zero, suc, _+_, _-_, _≤_, _<_}
 use native.Mathlib.Omega.{arith}
 use native.Mathlib.Nat.{zero-add, suc-add}
 use Rattle.plan.specs.declared.Plan.{Plan}
-use Rattle.machine.specs.Plain.{Plain, settled, plainStart, plainTick, plainPosition, plainInstant, plainEventsOf, plainStatus}
+use Rattle.machine.specs.Plain.{Plain, withRatesAndDues, plainStart, plainNextTick, plainPosition, plainInstant, plainEventsOf, plainStatus}
 use Rattle.machine.specs.Plain.{plainFrom, plainEventsFrom, plainAfter, plainEvents}
 use Rattle.machine.specs.Status.{statusNumber, statusPaused}
 use Rattle.machine.specs.Laws.Status.{paused-true, paused-false, true-paused}
@@ -17,7 +17,7 @@ use Rattle.machine.specs.declared.Status.the-variants.{Paused, Finished,
 
 module _ (p : Plan) where
   instant-counts : (m : Plain) → plainInstant p m .instants ≡ m .instants + 1
-  unfolding plainInstant settled
+  unfolding plainInstant withRatesAndDues
   instant-counts m = refl
 
   pub plain-stopped : (b : ℕ) (m : Plain) → statusPaused (plainStatus p m) ≡ false → plainFrom p b m ≡ m
@@ -82,7 +82,7 @@ module _ (p : Plan) where
 
   -- ---- from Start
   start-counts : plainStart p .instants ≡ 0
-  unfolding plainStart settled
+  unfolding plainStart withRatesAndDues
   start-counts = refl
 
   -- "it takes B instants, or fewer if its status is first 1 or 2"

@@ -12,13 +12,13 @@ use Rattle.integers.specs.Laws.Parts.{sum, prod, tight, zs}
 use Rattle.plan.specs.Numbers.{M, never}
 use Rattle.plan.specs.Lists.{natAt, intAt}
 use Rattle.plan.specs.Rules.{IntegratorRule}
-use Rattle.plan.specs.Laws.Means.{within-size}
+use Rattle.plan.specs.Laws.TestMeanings.{within-size}
 use Rattle.plan.specs.declared.Plan.{Plan}
 use Rattle.machine.specs.Due.{upperLevel, lowerLevel, distance, ticksTo, dueTick, dueOf}
 use Rattle.machine.specs.Instant.{positionAt}
 use Rattle.machine.specs.Runs.{positionOf}
 use Rattle.machine.specs.Sound.{SoundRunning}
-use Rattle.machine.specs.Laws.Between.{Between, near-between}
+use Rattle.machine.specs.Laws.BetweenLevels.{BetweenLevels, near-between}
 use Rattle.machine.specs.Laws.Due.{due-still, due-moving, slope-cases, distance-positive, ticks-rounded, later-above, later-below}
 use Rattle.machine.specs.Laws.Sizes.{rate-size}
 use Rattle.machine.specs.Laws.Levels.{inside-size, distance-most, ticks-most}
@@ -35,7 +35,7 @@ move-most l t x upper lower s above below since early =
     let k : t - l ≤ ticksTo x upper lower s = omega arith in omega (arith, mul-le-mul-left ∣ s ∣ k))
 
 module _ (p : Plan) (r : Running) (sound : SoundRunning p r) (i : ℕ) (used : i < p .counts .n) where
-  pub inside : Between p (r .q) i (intAt (r .x) i)
+  pub inside : BetweenLevels p (r .q) i (intAt (r .x) i)
   inside = near-between p (r .q) i (intAt (r .x) i) .0 (sound .integrators i used .near)
 
   pub due-is : natAt (r .d) i ≡ dueTick (natAt (r .l) i) (intAt (r .x) i) (upperLevel p (r .q) i) (lowerLevel p (r .q) i) (intAt (r .s) i)
@@ -60,7 +60,7 @@ module _ (p : Plan) (r : Running) (sound : SoundRunning p r) (i : ℕ) (used : i
       i)
 
   -- before its due tick it stays strictly between its levels
-  pub stays-inside : (t : ℕ) → r .clocks .clock ≤ t → t < natAt (r .d) i → Between p (r .q) i (positionAt r t i)
+  pub stays-inside : (t : ℕ) → r .clocks .clock ≤ t → t < natAt (r .d) i → BetweenLevels p (r .q) i (positionAt r t i)
   unfolding positionAt
   stays-inside t since early =
       let before = rw due-is at early in

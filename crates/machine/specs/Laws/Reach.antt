@@ -8,7 +8,7 @@ use lib.Dec.{ltb, eqb}
 use borrow.Author.Tests.{ltb-true, ltb-false, lt-ltb, le-ltb, eqb-true, eqb-false, eq-eqb, ne-eqb}
 use Rattle.plan.specs.Lists.{natAt, some}
 use Rattle.plan.specs.Rules.{PlanRules}
-use Rattle.plan.specs.Laws.Means.{Means, means-false, eqb-means, both}
+use Rattle.plan.specs.Laws.TestMeanings.{Means, means-false, eqb-means, both}
 use Rattle.plan.specs.Laws.Searches.{some-found, some-here}
 use Rattle.plan.specs.declared.Plan.{Plan}
 use Rattle.machine.specs.Laws.NodeOrder.{settled-at}

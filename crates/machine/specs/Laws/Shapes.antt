@@ -2,19 +2,19 @@
 use mathlib.Core.Bool.{Bool, true, false, cond}
 use Prim.Native.Nat.{ℕ, zero, suc}
 use lib.IntN.{pos}
-use Rattle.plan.specs.Format.{Shaped}
+use Rattle.plan.specs.Format.{PlanWidths}
 use Rattle.plan.specs.Laws.Rows.{length-row}
 use Rattle.plan.specs.declared.Plan.{Plan}
 use Rattle.machine.specs.Start.{startOf}
 use Rattle.machine.specs.Instant.{inputsThen, outputs, takenAt, instant}
 use Rattle.machine.specs.Status.{isPaused}
 use Rattle.machine.specs.Runs.{after}
-use Rattle.machine.specs.Sound.{RunningShaped}
+use Rattle.machine.specs.Sound.{RunningWidths}
 use Rattle.machine.specs.declared.Running.{Running}
 use Rattle.machine.specs.declared.Engine.{Engine}
 
 module _ (p : Plan) where
-  pub start-shaped : Shaped p → RunningShaped (startOf p)
+  pub start-shaped : PlanWidths p → RunningWidths (startOf p)
   unfolding startOf
   start-shaped s =
       record {
@@ -26,7 +26,7 @@ module _ (p : Plan) where
         inputs = s .firsts;
       }
 
-  pub instant-shaped : (engine : Engine) (r : Running) → RunningShaped (instant p engine r)
+  pub instant-shaped : (engine : Engine) (r : Running) → RunningWidths (instant p engine r)
   unfolding instant takenAt outputs inputsThen
   instant-shaped engine r =
       record {
@@ -38,11 +38,11 @@ module _ (p : Plan) where
         inputs = length-row (pos 0) 8 (p .counts .m) _;
       }
 
-  pub after-shaped : (engine : Engine) (b : ℕ) (r : Running) → RunningShaped r → RunningShaped (after p engine b r)
+  pub after-shaped : (engine : Engine) (b : ℕ) (r : Running) → RunningWidths r → RunningWidths (after p engine b r)
   unfolding after
   after-shaped engine zero r h = h
   after-shaped engine (suc b) r h = go (isPaused p r) (after-shaped engine b (instant p engine r) (instant-shaped engine r))
     where
-      go : (c : Bool) → RunningShaped (after p engine b (instant p engine r)) → RunningShaped (cond c (after p engine b (instant p engine r)) r)
+      go : (c : Bool) → RunningWidths (after p engine b (instant p engine r)) → RunningWidths (cond c (after p engine b (instant p engine r)) r)
       go true ih = ih
       go false ih = h

@@ -12,18 +12,18 @@ use borrow.Author.Tests.{ltb-true, ltb-false, eqb-true, eqb-false}
 use Rattle.integers.specs.Parts.{∣_∣}
 use Rattle.integers.specs.Laws.Parts.{sum}
 use Rattle.integers.specs.Laws.Order.{size-sub, size-mul}
-use Rattle.integers.specs.Division.{floored}
+use Rattle.integers.specs.Division.{floor65536}
 use Rattle.integers.specs.Laws.Division.{floor-size}
 use Rattle.integers.specs.Laws.Range.{limited-size}
 use Rattle.bitset.specs.Counts.{countOf}
 use Rattle.plan.specs.Numbers.{M}
 use Rattle.plan.specs.Lists.{natAt, intAt}
 use Rattle.plan.specs.Rules.{NodeRule, PlanRules}
-use Rattle.plan.specs.Laws.Counts.{Counts, counts-of}
-use Rattle.plan.specs.Laws.Means.{within-size}
+use Rattle.plan.specs.Laws.CountLimits.{CountLimits, count-limits}
+use Rattle.plan.specs.Laws.TestMeanings.{within-size}
 use Rattle.plan.specs.Laws.Small.{node-limits}
 use Rattle.plan.specs.declared.Plan.{Plan}
-use Rattle.machine.specs.Values.{clipped, nodeOf, valueWith, valueOf, sumOver, rateOf}
+use Rattle.machine.specs.Values.{clipped, nodeValue, valueWith, valueOf, sumOver, rateOf}
 use Rattle.machine.specs.Laws.OwnLinks.{ownLinks, own-before}
 
 size-cond : (t : Bool) (x y : ℤ) (b : ℕ) → ∣ x ∣ ≤ b → ∣ y ∣ ≤ b → ∣ cond t x y ∣ ≤ b
@@ -34,19 +34,19 @@ size-cond false x y b h k = k
 clipped-size : (z : ℤ) → ∣ clipped z ∣ ≤ M
 clipped-size z = limited-size (negℤ (pos M)) (pos M) z M (omega arith) (omega arith)
 
-pub node-size : (kind : ℕ) (lo hi a b : ℤ) → ∣ lo ∣ ≤ M → ∣ hi ∣ ≤ M → ∣ nodeOf kind lo hi a b ∣ ≤ M
-unfolding nodeOf
+pub node-size : (kind : ℕ) (lo hi a b : ℤ) → ∣ lo ∣ ≤ M → ∣ hi ∣ ≤ M → ∣ nodeValue kind lo hi a b ∣ ≤ M
+unfolding nodeValue
 node-size kind lo hi a b l h =
     size-cond (eqb kind 0) _ _ M (clipped-size (a -ℤ b))
-    (size-cond (eqb kind 1) _ _ M (clipped-size (floored (a *ℤ b)))
+    (size-cond (eqb kind 1) _ _ M (clipped-size (floor65536 (a *ℤ b)))
     (size-cond (eqb kind 2) _ _ M (limited-size lo hi a M l h)
     (size-cond (leZ b a) _ _ M h l)))
 
 -- of the nodes' operands, whether or not a node's kind uses them
 pub operands-most : (p : Plan) → PlanRules p → (j : ℕ) → j < p .counts .k → (natAt (p .nodes .a) j ≤ 54) × (natAt (p .nodes .b) j ≤ 54)
-operands-most p rules j h = go (counts-of p (rules .counts)) (rules .nodes j h) (eqb (natAt (p .nodes .kinds) j) 2) refl
+operands-most p rules j h = go (count-limits p (rules .counts)) (rules .nodes j h) (eqb (natAt (p .nodes .kinds) j) 2) refl
   where
-    go : Counts p → NodeRule p j → (b : Bool) → eqb (natAt (p .nodes .kinds) j) 2 ≡ b → (natAt (p .nodes .a) j ≤ 54) × (natAt (p .nodes .b) j ≤ 54)
+    go : CountLimits p → NodeRule p j → (b : Bool) → eqb (natAt (p .nodes .kinds) j) 2 ≡ b → (natAt (p .nodes .a) j ≤ 54) × (natAt (p .nodes .b) j ≤ 54)
     go c r true e = omega (arith, r .unused (eqb-true (natAt (p .nodes .kinds) j) 2 e))
     go c r false e = omega (arith, r .right (eqb-false (natAt (p .nodes .kinds) j) 2 e))
 

@@ -12,21 +12,21 @@ use Rattle.bitset.specs.Laws.Counts.{countOf-le}
 use Rattle.plan.specs.Numbers.{M, never}
 use Rattle.plan.specs.Lists.{natAt, intAt}
 use Rattle.plan.specs.Laws.Rows.{row-unused}
-use Rattle.plan.specs.Laws.Counts.{Counts, counts-of}
-use Rattle.plan.specs.Laws.Means.{within-size}
+use Rattle.plan.specs.Laws.CountLimits.{CountLimits, count-limits}
+use Rattle.plan.specs.Laws.TestMeanings.{within-size}
 use Rattle.plan.specs.declared.Plan.{Plan}
 use Rattle.machine.specs.Due.{dueOf}
 use Rattle.machine.specs.Reach.{isDue, reached}
-use Rattle.machine.specs.Instant.{positionAt, inputsThen, moves, outputs, slopeThen, dueThen, takenAt, tickOf, instant}
+use Rattle.machine.specs.Instant.{positionAt, inputsThen, moves, outputs, slopeThen, dueThen, takenAt, nextTickOf, instant}
 use Rattle.machine.specs.Status.{isPaused}
 use Rattle.machine.specs.Sound.{SoundIntegrator, SoundRunning}
-use Rattle.machine.specs.Laws.Between.{near-between, near-itself}
+use Rattle.machine.specs.Laws.BetweenLevels.{near-between, near-itself}
 use Rattle.machine.specs.Laws.Due.{due-ahead}
 use Rattle.machine.specs.Laws.Next.{command-first, tick-due, tick-above}
 use Rattle.machine.specs.Laws.Status.{tick-horizon, due-size}
 use Rattle.machine.specs.Laws.Inputs.{inputs-then-size}
-use Rattle.machine.specs.Laws.Taken.{outputs-at, output-kept, x-at, l-at}
-use Rattle.machine.specs.Laws.Moved.{between-then, not-due, slope-at, due-at, due-by-rule}
+use Rattle.machine.specs.Laws.InstantFigures.{outputs-at, output-kept, x-at, l-at}
+use Rattle.machine.specs.Laws.InstantByRule.{between-then, not-due, slope-at, due-at, due-by-rule}
 use Rattle.machine.specs.declared.Running.{Running}
 use Rattle.machine.specs.declared.Engine.{Engine}
 use Rattle.machine.specs.declared.Engine.the-variants.{Lazy, Eager}
@@ -46,8 +46,8 @@ pub record Takes (p : Plan) (r : Running) (t : ℕ) : Type 0 where
   pub within : (i : ℕ) → i < p .counts .n → isDue (r .d) t i ≡ true → ∣ positionAt r t i ∣ ≤ M
 
 module _ (p : Plan) (r : Running) (ok : SoundRunning p r) (t : ℕ) (takes : Takes p r t) where
-  limits : Counts p
-  limits = counts-of p (ok .plan .counts)
+  limits : CountLimits p
+  limits = count-limits p (ok .plan .counts)
 
   from : r .clocks .clock ≤ t
   from = omega (arith, takes .after)
@@ -136,24 +136,24 @@ module _ (p : Plan) (r : Running) (ok : SoundRunning p r) where
   pub clock-soon : r .clocks .clock < never
   clock-soon = omega (arith, ok .clock, ok .plan .horizon .1)
 
-  pub tick-after : r .clocks .clock < tickOf p r
+  pub tick-after : r .clocks .clock < nextTickOf p r
   tick-after = tick-above p r (suc (r .clocks .clock)) clock-soon (λ i h. ok .integrators i h .ahead) command
     where
       command : r .clocks .next < p .counts .commands → r .clocks .clock < natAt (p .commands .ticks) (r .clocks .next)
       command h = rw (ok .next) (command-first p (r .clocks .clock) (rw (ok .next) at h))
 
   -- where the state is paused, that instant is taken
-  pub takes-next : isPaused p r ≡ true → Takes p r (tickOf p r)
+  pub takes-next : isPaused p r ≡ true → Takes p r (nextTickOf p r)
   unfolding isDue
   takes-next paused =
       record {
         after = tick-after;
         until = tick-horizon p r paused;
         least = tick-due p r;
-        within = λ i h e. due-size p r paused i h (eqb-true (natAt (r .d) i) (tickOf p r) e);
+        within = λ i h e. due-size p r paused i h (eqb-true (natAt (r .d) i) (nextTickOf p r) e);
       }
 
   pub instant-sound : isPaused p r ≡ true → (engine : Engine) → SoundRunning p (instant p engine r)
   unfolding instant
   instant-sound paused engine =
-      let t = tickOf p r in sound-then p r ok t (takes-next paused) (moves p engine (r .d) t) (covers p engine (r .d) t)
+      let t = nextTickOf p r in sound-then p r ok t (takes-next paused) (moves p engine (r .d) t) (covers p engine (r .d) t)

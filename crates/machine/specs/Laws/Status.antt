@@ -17,7 +17,7 @@ use Rattle.plan.specs.Laws.Searches.{First, first, first-unique, first-ext}
 use Rattle.plan.specs.declared.Plan.{Plan}
 use Rattle.machine.specs.Reach.{isDue}
 use Rattle.machine.specs.Status.{statusNumber, statusIntegrator, statusPaused, bars, barring, statusBy, statusAt, statusOf, isPaused}
-use Rattle.machine.specs.Instant.{positionAt, tickOf}
+use Rattle.machine.specs.Instant.{positionAt, nextTickOf}
 use Rattle.machine.specs.declared.Running.{Running}
 use Rattle.machine.specs.declared.Status.{Status}
 use Rattle.machine.specs.declared.Status.the-variants.{Paused, Finished, Range}
@@ -174,10 +174,10 @@ module _ (p : Plan) (r : Running) where
     unfolding isPaused
     paused-status = true-paused (statusOf p r) paused
 
-    pub tick-horizon : tickOf p r ≤ p .horizon
+    pub tick-horizon : nextTickOf p r ≤ p .horizon
     unfolding statusOf
-    tick-horizon = paused-horizon p (r .d) (tickOf p r) (positionAt r (tickOf p r)) paused-status
+    tick-horizon = paused-horizon p (r .d) (nextTickOf p r) (positionAt r (nextTickOf p r)) paused-status
 
-    pub due-size : (i : ℕ) → i < p .counts .n → natAt (r .d) i ≡ tickOf p r → ∣ positionAt r (tickOf p r) i ∣ ≤ M
+    pub due-size : (i : ℕ) → i < p .counts .n → natAt (r .d) i ≡ nextTickOf p r → ∣ positionAt r (nextTickOf p r) i ∣ ≤ M
     unfolding statusOf
-    due-size = paused-size p (r .d) (tickOf p r) (positionAt r (tickOf p r)) paused-status
+    due-size = paused-size p (r .d) (nextTickOf p r) (positionAt r (nextTickOf p r)) paused-status

@@ -6,16 +6,16 @@ use mathlib.Core.List.{List}
 use Prim.Native.Nat.{ℕ, _<_}
 use Rattle.plan.specs.Lists.{natAt, intAt}
 use Rattle.plan.specs.Rules.{PlanRules}
-use Rattle.plan.specs.Laws.Counts.{Counts, counts-of}
-use Rattle.plan.specs.Laws.Means.{Means, means-false, eqb-means, either}
+use Rattle.plan.specs.Laws.CountLimits.{CountLimits, count-limits}
+use Rattle.plan.specs.Laws.TestMeanings.{Means, means-false, eqb-means, either}
 use Rattle.plan.specs.declared.Plan.{Plan}
 use Rattle.machine.specs.Values.{rateOf}
 use Rattle.machine.specs.Due.{dueOf}
 use Rattle.machine.specs.Reach.{isDue}
-use Rattle.machine.specs.Instant.{positionAt, moves, Moves, outputs, slopeThen, dueThen, takenAt, tickOf, instant}
+use Rattle.machine.specs.Instant.{positionAt, moves, Moves, outputs, slopeThen, dueThen, takenAt, nextTickOf, instant}
 use Rattle.machine.specs.Laws.Inputs.{input-set, input-not-set}
 use Rattle.machine.specs.Laws.Reach.{reach-means}
-use Rattle.machine.specs.Laws.Taken.{output-due, output-not-due, x-then, x-at, l-at, s-at, d-at}
+use Rattle.machine.specs.Laws.InstantFigures.{output-due, output-not-due, x-then, x-at, l-at, s-at, d-at}
 use Rattle.machine.specs.declared.Running.{Running}
 use Rattle.machine.specs.declared.Engine.{Engine}
 use Rattle.machine.specs.declared.Engine.the-variants.{Lazy, Eager}
@@ -31,11 +31,11 @@ due-moves p Lazy d t i e = inl e
 due-moves p Eager d t i e = tt
 
 module _ (p : Plan) (rules : PlanRules p) (engine : Engine) (r : Running) where
-  limits : Counts p
-  limits = counts-of p (rules .counts)
+  limits : CountLimits p
+  limits = count-limits p (rules .counts)
 
   abbrev t : ℕ
-  t = tickOf p r
+  t = nextTickOf p r
 
   abbrev then : Running
   then = instant p engine r

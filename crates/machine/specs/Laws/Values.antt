@@ -7,7 +7,7 @@ use native.Mathlib.Omega.{arith}
 use lib.IntN.{ℤ, pos, negℤ, _+ℤ_, _-ℤ_, _*ℤ_, +ℤ-idr}
 use lib.Signed.{_≤ℤ_, _<ℤ_}
 use borrow.Author.Tests.{eq-eqb, ne-eqb}
-use Rattle.integers.specs.Division.{floored}
+use Rattle.integers.specs.Division.{floor65536}
 use Rattle.integers.specs.Laws.Division.{floor-law}
 use Rattle.integers.specs.Laws.Order.{leZ-true, leZ-false}
 use Rattle.integers.specs.Range.{limited}
@@ -15,7 +15,7 @@ use Rattle.plan.specs.Numbers.{M}
 use Rattle.plan.specs.Lists.{natAt, intAt}
 use Rattle.plan.specs.Rules.{PlanRules}
 use Rattle.plan.specs.declared.Plan.{Plan}
-use Rattle.machine.specs.Values.{nodeOf, valueWith, valueOf, sumOver, rateOf}
+use Rattle.machine.specs.Values.{nodeValue, valueWith, valueOf, sumOver, rateOf}
 use Rattle.machine.specs.Laws.Inputs.{output-value, input-value}
 use Rattle.machine.specs.Laws.NodeOrder.{settled-at, node-at}
 
@@ -64,7 +64,7 @@ module _ (p : Plan) (q u : List ℤ) where
 
     -- what its kind makes of the values of A and B as they are when it is worked out
     pub worked-out : valueOf p q u own
-        ≡ nodeOf (natAt (p .nodes .kinds) j) (intAt (p .nodes .lows) j) (intAt (p .nodes .highs) j)
+        ≡ nodeValue (natAt (p .nodes .kinds) j) (intAt (p .nodes .lows) j) (intAt (p .nodes .highs) j)
         (valueWith p q u j (natAt (p .nodes .a) j)) (valueWith p q u j (natAt (p .nodes .b) j))
     unfolding valueOf valueWith
     worked-out = node-at (p .counts .n + p .counts .m) (valueWith p q u) _ (λ j i. refl) j (p .counts .k) h
@@ -76,21 +76,21 @@ module _ (p : Plan) (q u : List ℤ) where
     right n = sym (value-settled j (natAt (p .nodes .b) j) (omega arith) (rules .nodes j h .right n))
 
     pub difference-node : natAt (p .nodes .kinds) j ≡ 0 → valueOf p q u own ≡ limited (negℤ (pos M)) (pos M) (a -ℤ b)
-    unfolding nodeOf
+    unfolding nodeValue
     difference-node e = worked-out ∙ rw (left, right (λ t. omega arith), e)
 
-    pub product-node : natAt (p .nodes .kinds) j ≡ 1 → valueOf p q u own ≡ limited (negℤ (pos M)) (pos M) (floored (a *ℤ b))
-    unfolding nodeOf
+    pub product-node : natAt (p .nodes .kinds) j ≡ 1 → valueOf p q u own ≡ limited (negℤ (pos M)) (pos M) (floor65536 (a *ℤ b))
+    unfolding nodeValue
     product-node e = worked-out ∙ rw (left, right (λ t. omega arith), e)
 
     pub limit-node : natAt (p .nodes .kinds) j ≡ 2 → valueOf p q u own ≡ limited (intAt (p .nodes .lows) j) (intAt (p .nodes .highs) j) a
-    unfolding nodeOf
+    unfolding nodeValue
     limit-node e = worked-out ∙ rw (left, e)
 
     pub high-node : natAt (p .nodes .kinds) j ≡ 3 → b ≤ℤ a → valueOf p q u own ≡ intAt (p .nodes .highs) j
-    unfolding nodeOf
+    unfolding nodeValue
     high-node e le = worked-out ∙ rw (left, right (λ t. omega arith), e, leZ-true b a .1 le)
 
     pub low-node : natAt (p .nodes .kinds) j ≡ 3 → a <ℤ b → valueOf p q u own ≡ intAt (p .nodes .lows) j
-    unfolding nodeOf
+    unfolding nodeValue
     low-node e lt = worked-out ∙ rw (left, right (λ t. omega arith), e, leZ-false b a .1 lt)

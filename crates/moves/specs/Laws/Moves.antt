@@ -13,13 +13,13 @@ use Rattle.bitset.specs.Mask.{has, maskOf, each}
 use Rattle.bitset.specs.Laws.Bits.{has-high, maskOf-lt}
 use Rattle.plan.specs.Numbers.{M}
 use Rattle.plan.specs.Lists.{natAt, intAt, row}
-use Rattle.plan.specs.Laws.Counts.{Counts, counts-of}
+use Rattle.plan.specs.Laws.CountLimits.{CountLimits, count-limits}
 use Rattle.plan.specs.declared.Plan.{Plan}
 use Rattle.machine.specs.Values.{valueOf}
 use Rattle.machine.specs.Instant.{positionAt, inputsThen, outputs, slopeThen, xThen, dueThen, takenAt}
-use Rattle.machine.specs.Sound.{SoundRunning, RunningShaped}
+use Rattle.machine.specs.Sound.{SoundRunning, RunningWidths}
 use Rattle.machine.specs.Laws.Values.{integrator-value}
-use Rattle.machine.specs.Laws.Taken.{x-then}
+use Rattle.machine.specs.Laws.InstantFigures.{x-then}
 use Rattle.machine.specs.Laws.Soundness.{Takes}
 use Rattle.machine.specs.declared.Running.{Running}
 use Rattle.rates.specs.Links.{rangesOf}
@@ -28,7 +28,7 @@ use Rattle.timing.specs.Laws.Statuses.{ready-at}
 use Rattle.timing.specs.Laws.Dues.{due-ready-then, due-is-then}
 use Rattle.moves.specs.Motion.{Motion, motion, placeOf, slopeOf, dueFrom, afterMove, AllMovable}
 use Rattle.moves.specs.Laws.Moving.{Figures, figuresAt, Full, movedFigures, move-full, move-own, move-others}
-use Rattle.steps.specs.Laws.Walks.{Stores, Walked, walked, row-is}
+use Rattle.steps.specs.Laws.MaskLoops.{Stores, Visited, visited, row-is}
 
 -- what is in the mask of a test is below its end
 mask-member : (p : ℕ → Bool) (n i : ℕ) → has (maskOf p n) i ≡ true → i < n
@@ -73,8 +73,8 @@ module _ (quanta : List ℤ) (sources : List ℕ) (coefficients : List ℤ) (ran
       after : Motion
       after = each move (has (maskOf moved n)) 32 m
 
-      w : Walked figuresAt figures Full moved n m after
-      w = walked figures-stored moved m full n 32 few few
+      w : Visited figuresAt figures Full moved n m after
+      w = visited figures-stored moved m full n 32 few few
 
       past : (i : ℕ) → n ≤ i → figuresAt after i ≡ record { x = pos 0; s = pos 0; l = 0; d = 0 }
       past i h = w .past i h ∙ unused i h
@@ -85,8 +85,8 @@ module _ (quanta : List ℤ) (sources : List ℕ) (coefficients : List ℤ) (ran
 -- ---- at an instant; `values` holds the values of all sources there
 module _ (p : Plan) (r : Running) (sound : SoundRunning p r) (t : ℕ) (takes : Takes p r t) (values : List ℤ)
     (same : (i : ℕ) → i < p .counts .n + p .counts .m + p .counts .k → intAt values i ≡ valueOf p (outputs p r t) (inputsThen p (r .inputs) t) i) (moved : ℕ → Bool) where
-  limits : Counts p
-  limits = counts-of p (sound .plan .counts)
+  limits : CountLimits p
+  limits = count-limits p (sound .plan .counts)
 
   abbrev before : Motion
   before = motion (r .x) (r .s) (r .l) (r .d)
@@ -130,7 +130,7 @@ module _ (p : Plan) (r : Running) (sound : SoundRunning p r) (t : ℕ) (takes : 
   figures-then i h true = rw (slope i h, output i h, x-then p limits r t i h, ← due-is-then p limits r t i h)
   figures-then i h false = refl
 
-  pub moved-figures : RunningShaped r
+  pub moved-figures : RunningWidths r
       → each (afterMove (p .integrators .quanta) (p .links .sources) (p .links .coefficients) (rangesOf p) t values) (has (maskOf moved (p .counts .n))) 32 before
       ≡ motion (takenAt p r t moved .x) (takenAt p r t moved .s) (takenAt p r t moved .l) (takenAt p r t moved .d)
   unfolding takenAt

@@ -9,22 +9,22 @@ use lib.ListN.{length, getD}
 use Rattle.integers.specs.Parts.{∣_∣}
 use Rattle.plan.specs.Numbers.{largestCounts}
 use Rattle.plan.specs.Lists.{natAt, intAt}
-use Rattle.plan.specs.Format.{countIn, columnOf, columnIn, planIn, Shaped}
-use Rattle.plan.specs.Unused.{UnusedNat, UnusedInt, PlanUnused, unusedNat, unusedInt, planUnused}
+use Rattle.plan.specs.Format.{countIn, columnOf, columnIn, planIn, PlanWidths}
+use Rattle.plan.specs.Unused.{NatsZeroFrom, IntsZeroFrom, PlanUnusedZero, natsZeroFrom, intsZeroFrom, planUnusedZero}
 use Rattle.plan.specs.declared.Plan.{Plan}
 use Rattle.plan.specs.Laws.Rows.{row-unused, length-row}
 use Rattle.plan.specs.Laws.Searches.{all-from}
-use Rattle.plan.specs.Laws.Means.{Means, eqb-means, zero-means, both}
+use Rattle.plan.specs.Laws.TestMeanings.{Means, eqb-means, zero-means, both}
 
 -- ---- the tests
-pub unused-nat : (k : ℕ) (xs : List ℕ) → Means (unusedNat k xs) (UnusedNat k xs)
-unfolding unusedNat
+pub unused-nat : (k : ℕ) (xs : List ℕ) → Means (natsZeroFrom k xs) (NatsZeroFrom k xs)
+unfolding natsZeroFrom
 unused-nat k xs =
     let all = all-from (λ x. eqb x 0) 0 refl k xs in
     (λ t i h. eqb-means (natAt xs i) 0 .0 (all .0 t i h), λ u. all .1 (λ i h. eqb-means (natAt xs i) 0 .1 (u i h)))
 
-pub unused-int : (k : ℕ) (xs : List ℤ) → Means (unusedInt k xs) (UnusedInt k xs)
-unfolding unusedInt
+pub unused-int : (k : ℕ) (xs : List ℤ) → Means (intsZeroFrom k xs) (IntsZeroFrom k xs)
+unfolding intsZeroFrom
 unused-int k xs =
     let all = all-from (λ z. eqb ∣ z ∣ 0) (pos 0) refl k xs in
     (λ t i h. zero-means (intAt xs i) .0 (all .0 t i h), λ u. all .1 (λ i h. zero-means (intAt xs i) .1 (u i h)))
@@ -33,8 +33,8 @@ infixl 5 _and_
 _and_ : {P Q : Type 0} → P → Q → P × Q
 p and q = (p, q)
 
-pub plan-unused : (p : Plan) → Means (planUnused p) (PlanUnused p)
-unfolding planUnused
+pub plan-unused : (p : Plan) → Means (planUnusedZero p) (PlanUnusedZero p)
+unfolding planUnusedZero
 plan-unused p =
     let first = both (both (unused-int _ (p .integrators .starts)) (unused-int _ (p .integrators .quanta))) (unused-int _ (p .inputs .firsts)) in
     let sides = both (both (both first (unused-nat _ (p .nodes .kinds))) (unused-nat _ (p .nodes .a))) (unused-nat _ (p .nodes .b)) in
@@ -73,7 +73,7 @@ module _ (file : List ℕ) where
     unfolding columnOf columnIn
     column-length k column = length-row z (natAt largestCounts k) (countIn file k) _
 
-  pub file-unused : PlanUnused (planIn file)
+  pub file-unused : PlanUnusedZero (planIn file)
   unfolding planIn
   file-unused = record {
     starts = column-unused (pos 0) _ 0 0;
@@ -92,7 +92,7 @@ module _ (file : List ℕ) where
     values = column-unused (pos 0) _ 4 2;
   }
 
-  pub file-shaped : Shaped (planIn file)
+  pub file-shaped : PlanWidths (planIn file)
   unfolding planIn
   file-shaped = record {
     starts = column-length (pos 0) _ 0 0;

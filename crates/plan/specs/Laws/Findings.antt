@@ -8,7 +8,7 @@ use borrow.Author.Tests.{ltb-true, ltb-false, eqb-true, eq-eqb, ne-eqb}
 use Rattle.plan.specs.Refusals.{numberOf, entryOf, isClean, unless, orElse, firstFinding}
 use Rattle.plan.specs.declared.Finding.{Finding}
 use Rattle.plan.specs.declared.Finding.the-variants.{Clean, Short, Offsets, Sizes, Horizon, Integrator, Input, Node, Link, Command}
-use Rattle.plan.specs.Laws.Means.{Means, both}
+use Rattle.plan.specs.Laws.TestMeanings.{Means, both}
 
 -- the finding f of the entries from i up to j, by the rule R of refusal number k
 pub data Judged (R : ℕ → Type 0) (k i j : ℕ) (f : Finding) : Type 0 where

@@ -11,7 +11,7 @@ use Rattle.words.specs.Laws.Flat.{length-flat, flat-append, word-flat}
 use Rattle.plan.specs.Numbers.{sections, entrySizes, headerLength}
 use Rattle.plan.specs.Lists.{natAt, joined}
 use Rattle.plan.specs.Format.{part}
-use Rattle.plan.specs.Tests.{counts}
+use Rattle.plan.specs.Tests.{countList}
 use Rattle.plan.specs.Rules.{CountsRule}
 use Rattle.plan.specs.Encoding.{lengthFrom, offsetFrom, offsetOf, fileLength, headerWords, integratorWords, inputWords, nodeWords, linkWords}
 use Rattle.plan.specs.Encoding.{commandWords, fileWords, encode}
@@ -29,7 +29,7 @@ each-section P a b c d e (suc (suc (suc (suc (suc k))))) h = absurd (omega arith
 
 -- the length of section k of a plan's file
 unfoldable pub lengthOf : Plan → ℕ → ℕ
-lengthOf p k = lengthFrom (counts p) k
+lengthOf p k = lengthFrom (countList p) k
 
 -- the words of an entry: how many by section, and which
 abbrev pub entryWidths : List ℕ
@@ -43,7 +43,7 @@ module _ (p : Plan) where
   entryWords k = getD (integratorWords p ∷ inputWords p ∷ nodeWords p ∷ linkWords p ∷ commandWords p ∷ []) k (λ _. [])
 
   unfoldable pub sectionWords : ℕ → List ℕ
-  sectionWords k = joined (entryWords k) (natAt (counts p) k)
+  sectionWords k = joined (entryWords k) (natAt (countList p) k)
 
   -- the words of the file up to section k
   unfoldable pub wordsTo : ℕ → List ℕ
@@ -66,7 +66,7 @@ module _ (p : Plan) where
   pub length-section : (k : ℕ) → k < sections → 4 * length (sectionWords k) ≡ lengthOf p k
   unfolding sectionWords lengthOf
   length-section k h =
-      let l = length-joined (entryWords k) (natAt entryWidths k) (natAt (counts p) k) (λ i g. length-entry k i h) in
+      let l = length-joined (entryWords k) (natAt entryWidths k) (natAt (countList p) k) (λ i g. length-entry k i h) in
       rw (l, size-width k h) (omega arith)
 
   pub length-header : 4 * length (headerWords p) ≡ headerLength
@@ -85,7 +85,7 @@ module _ (p : Plan) where
       omega (arith, length-section k h)
 
   pub words-to : fileWords p ≡ wordsTo sections
-  unfolding fileWords wordsTo joined sectionWords entryWords counts
+  unfolding fileWords wordsTo joined sectionWords entryWords countList
   words-to = simp append-assoc
 
   pub length-encode : length (encode p) ≡ fileLength p
@@ -112,18 +112,18 @@ module _ (p : Plan) where
       (take-at here rest (lengthOf p k) (length-flat (sectionWords k) ∙ length-section k h))
 
   -- word c of entry i in its section, and in the file
-  module _ (k i c : ℕ) (h : k < sections) (l : i < natAt (counts p) k) (g : c < natAt entryWidths k) where
+  module _ (k i c : ℕ) (h : k < sections) (l : i < natAt (countList p) k) (g : c < natAt entryWidths k) where
     pub section-word : getD (sectionWords k) (natAt entryWidths k * i + c) 0 ≡ getD (entryWords k i) c 0
     unfolding sectionWords
     section-word =
         let e = length-joined (entryWords k) (natAt entryWidths k) i (λ j t. length-entry k j h) in
         let d = length-entry k i h in
-        rw (← e) (getD-joined (entryWords k) (natAt (counts p) k) i c 0 l (omega arith))
+        rw (← e) (getD-joined (entryWords k) (natAt (countList p) k) i c 0 l (omega arith))
 
     section-inside : natAt entryWidths k * i + c < length (sectionWords k)
     unfolding sectionWords
     section-inside =
-        let e = length-joined (entryWords k) (natAt entryWidths k) (natAt (counts p) k) (λ j t. length-entry k j h) in
+        let e = length-joined (entryWords k) (natAt entryWidths k) (natAt (countList p) k) (λ j t. length-entry k j h) in
         omega (arith, mul-le-mul-left (natAt entryWidths k) l)
 
     -- read from the section's bytes
@@ -145,11 +145,11 @@ module _ (p : Plan) where
   -- ---- limits
   module _ (r : CountsRule p) where
     pub file-least : 52 ≤ fileLength p
-    unfolding fileLength offsetFrom offsetOf lengthOf counts
+    unfolding fileLength offsetFrom offsetOf lengthOf countList
     file-least = omega (arith, r 0 (omega arith))
 
     pub file-most : fileLength p ≤ 4492
-    unfolding fileLength offsetFrom offsetOf lengthOf counts
+    unfolding fileLength offsetFrom offsetOf lengthOf countList
     file-most = omega (arith, r 0 (omega arith), r 1 (omega arith), r 2 (omega arith), r 3 (omega arith), r 4 (omega arith))
 
   -- no offset and no end of a section lies behind the file's end

@@ -15,7 +15,7 @@ use Rattle.words.specs.Word.{wordOf}
 use Rattle.words.specs.Laws.Signs.{unsigned-lt}
 use Rattle.plan.specs.Numbers.{M, sections}
 use Rattle.plan.specs.Lists.{natAt, intAt, joined}
-use Rattle.plan.specs.Tests.{counts}
+use Rattle.plan.specs.Tests.{countList}
 use Rattle.plan.specs.Rules.{Within, NodeRule, PlanRules}
 use Rattle.plan.specs.Encoding.{pairEntry, offsetOf, headerWords, integratorWords, inputWords, nodeWords, linkWords, commandWords}
 use Rattle.plan.specs.Laws.Layout.{lengthOf}
@@ -80,14 +80,14 @@ module _ (p : Plan) (j : ℕ) (r : NodeRule p j) where
 module _ (p : Plan) (r : PlanRules p) where
   header-small : Small (headerWords p)
   unfolding headerWords offsetOf lengthOf
-  header-small = (omega (arith, r .horizon), small-joined (pairEntry (counts p)) sections pair)
+  header-small = (omega (arith, r .horizon), small-joined (pairEntry (countList p)) sections pair)
     where
       pair : (k : ℕ) → k < sections → Small (offsetOf p k ∷ lengthOf p k ∷ [])
       pair k h = omega (arith, offset-most p k h, file-most p (r .counts))
 
-  pub entry-small : (k i : ℕ) → k < sections → i < natAt (counts p) k → Small (entryWords p k i)
-  unfolding counts entryWords integratorWords inputWords nodeWords linkWords commandWords
-  entry-small k i = each-section (λ k. i < natAt (counts p) k → Small (entryWords p k i)) integrator input node link command k
+  pub entry-small : (k i : ℕ) → k < sections → i < natAt (countList p) k → Small (entryWords p k i)
+  unfolding countList entryWords integratorWords inputWords nodeWords linkWords commandWords
+  entry-small k i = each-section (λ k. i < natAt (countList p) k → Small (entryWords p k i)) integrator input node link command k
     where
       integrator : i < p .counts .n → Small (integratorWords p i)
       integrator l =
@@ -122,4 +122,4 @@ module _ (p : Plan) (r : PlanRules p) where
   file-small =
       rw (words-to p)
       (small-append (headerWords p) (joined (sectionWords p) sections) header-small
-      (small-joined (sectionWords p) sections (λ k h. small-joined (entryWords p k) (natAt (counts p) k) (λ i l. entry-small k i h l))))
+      (small-joined (sectionWords p) sections (λ k h. small-joined (entryWords p k) (natAt (countList p) k) (λ i l. entry-small k i h l))))

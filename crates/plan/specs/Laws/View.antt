@@ -8,7 +8,7 @@ use borrow.Author.Tests.{lt-ltb, le-ltb}
 use Rattle.plan.specs.Numbers.{sections}
 use Rattle.plan.specs.Format.{offsetIn, lengthIn, sectionIn}
 use Rattle.plan.specs.Refusals.{accepted, sectionOf, sectionStart}
-use Rattle.plan.specs.Laws.Answers.{accepted-offsets}
+use Rattle.plan.specs.Laws.FileRefusals.{accepted-offsets}
 use Rattle.plan.specs.Laws.Parts.{length-section-in}
 
 module _ (file : List ℕ) (number : ℕ) where

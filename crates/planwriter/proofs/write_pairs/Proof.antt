@@ -9,12 +9,12 @@ use Rattle.plan.specs.Lists.{joined}
 use Rattle.plan.specs.Encoding.{pairEntry}
 use Rattle.planwriter.specs.Laws.Header.{offset-limit, length-limit}
 use Rattle.words.specs.Laws.Putting.{length-behind}
-use Rattle.sectionwriters.specs.Laws.Writing.{Begun, none, all, entry}
+use Rattle.sectionwriters.specs.Laws.Writing.{BeginsWith, none, all, entry}
 use Rattle.planwriter.proofs.write_pairs.Statement.{statement}
 use Rattle.planwriter.proofs.write_pairs.Tie as tie
 
 abbrev Inv-loop : tie.InvT-loop
-Inv-loop buf₀ counts section₀ buf section = (section ≤ sections) × Begun (joined (pairEntry counts) section) buf₀ buf
+Inv-loop buf₀ counts section₀ buf section = (section ≤ sections) × BeginsWith (joined (pairEntry counts) section) buf₀ buf
 
 abbrev μ-loop : tie.MeasureT-loop
 μ-loop buf₀ counts section₀ buf section = sections - section

@@ -5,13 +5,13 @@ use Prim.Native.Nat.{ℕ}
 use native.Mathlib.Omega.{arith}
 use denote.Ref.{now}
 use borrow.Author.Needs.{needs}
-use Rattle.plan.specs.Tests.{counts}
+use Rattle.plan.specs.Tests.{countList}
 use Rattle.plan.specs.Encoding.{integratorWords, inputWords, nodeWords, linkWords, commandWords}
-use Rattle.plan.specs.Laws.Counts.{counts-of}
+use Rattle.plan.specs.Laws.CountLimits.{count-limits}
 use Rattle.plan.specs.Laws.Layout.{entryWords, sectionWords}
-use Rattle.planwriter.specs.Header.{Limited}
-use Rattle.planwriter.specs.Laws.Header.{limited}
-use Rattle.planwriter.specs.Laws.Stages.{fitting, Stage, inside, section-room, next, header-room, headed, filed, short}
+use Rattle.planwriter.specs.Header.{CountsWithinLimits}
+use Rattle.planwriter.specs.Laws.Header.{counts-within-limits}
+use Rattle.planwriter.specs.Laws.SectionWriting.{fitting, WrittenUpTo, inside, section-room, next, header-room, headed, filed, short}
 use Rattle.words.specs.Laws.Putting.{back}
 use Rattle.planwriter.proofs.write_plan.Statement.{statement}
 use Rattle.planwriter.proofs.write_plan.Tie as tie
@@ -80,59 +80,59 @@ buffer-commands c =
     back (buffer-links (before-commands c)) at (c .write-commands .last .0)
 
 -- ---- what is written in it
-stage-header : (c : tie.After-write-header) → let a = entry-header c .args in Stage (a .t1) (now (a .buf)) 0 (buffer-header c)
-unfolding counts
+stage-header : (c : tie.After-write-header) → let a = entry-header c .args in WrittenUpTo (a .t1) (now (a .buf)) 0 (buffer-header c)
+unfolding countList
 stage-header c =
     let a = entry-header c .args in
     let tested = c .before .before .before in
     headed (a .t1) (now (a .buf)) (tested .before .section-offset .ensures) (omega (arith, tested .if1 .left)) (c .write-header .ensures)
 
-stage-integrators : (c : tie.After-write-integrators) → let a = entry-integrators c .args in Stage (a .t1) (now (a .buf)) 1 (buffer-integrators c)
-unfolding counts sectionWords entryWords integratorWords
+stage-integrators : (c : tie.After-write-integrators) → let a = entry-integrators c .args in WrittenUpTo (a .t1) (now (a .buf)) 1 (buffer-integrators c)
+unfolding countList sectionWords entryWords integratorWords
 stage-integrators c =
     let offset = c .before .before .before .before .before .section-offset2 .ensures in
     next (stage-header (before-integrators c)) (omega arith) offset (c .write-integrators .ensures)
 
-stage-inputs : (c : tie.After-write-inputs) → let a = entry-inputs c .args in Stage (a .t1) (now (a .buf)) 2 (buffer-inputs c)
-unfolding counts sectionWords entryWords inputWords
+stage-inputs : (c : tie.After-write-inputs) → let a = entry-inputs c .args in WrittenUpTo (a .t1) (now (a .buf)) 2 (buffer-inputs c)
+unfolding countList sectionWords entryWords inputWords
 stage-inputs c =
     let offset = c .before .before .before .before .section-offset3 .ensures in
     next (stage-integrators (before-inputs c)) (omega arith) offset (c .write-inputs .ensures)
 
-stage-nodes : (c : tie.After-write-nodes) → let a = entry-nodes c .args in Stage (a .t1) (now (a .buf)) 3 (buffer-nodes c)
-unfolding counts sectionWords entryWords nodeWords
+stage-nodes : (c : tie.After-write-nodes) → let a = entry-nodes c .args in WrittenUpTo (a .t1) (now (a .buf)) 3 (buffer-nodes c)
+unfolding countList sectionWords entryWords nodeWords
 stage-nodes c =
     let offset = c .before .before .before .before .before .before .before .before .section-offset4 .ensures in
     next (stage-inputs (before-nodes c)) (omega arith) offset (c .write-nodes .ensures)
 
-stage-links : (c : tie.After-write-links) → let a = entry-links c .args in Stage (a .t1) (now (a .buf)) 4 (buffer-links c)
-unfolding counts sectionWords entryWords linkWords
+stage-links : (c : tie.After-write-links) → let a = entry-links c .args in WrittenUpTo (a .t1) (now (a .buf)) 4 (buffer-links c)
+unfolding countList sectionWords entryWords linkWords
 stage-links c =
     let offset = c .before .before .before .before .before .before .section-offset5 .ensures in
     next (stage-nodes (before-links c)) (omega arith) offset (c .write-links .ensures)
 
-stage-commands : (c : tie.After-write-commands) → let a = entry-commands c .args in Stage (a .t1) (now (a .buf)) 5 (buffer-commands c)
-unfolding counts sectionWords entryWords commandWords
+stage-commands : (c : tie.After-write-commands) → let a = entry-commands c .args in WrittenUpTo (a .t1) (now (a .buf)) 5 (buffer-commands c)
+unfolding countList sectionWords entryWords commandWords
 stage-commands c =
     let offset = c .before .before .before .before .before .before .section-offset6 .ensures in
     next (stage-links (before-commands c)) (omega arith) offset (c .write-commands .ensures)
 
 -- ---- the needs
-limits : (c : tie.Start) → Limited (counts (c .args .t1))
-limits c = limited (c .args .t1) (c .pre .counts)
+limits : (c : tie.Start) → CountsWithinLimits (countList (c .args .t1))
+limits c = counts-within-limits (c .args .t1) (c .pre .counts)
 
 section-offset-requires : tie.Need-section-offset-requires
-unfolding counts
+unfolding countList
 section-offset-requires c κs = (omega arith, limits (c .before .before))
 
 returns : tie.Need-returns
-unfolding counts
+unfolding countList
 returns c =
     let a = c .before .before .before .before .args in
     short (a .t1) (now (a .buf)) (c .before .section-offset .ensures) (omega (arith, c .if1 .taken))
 
 write-header-requires : tie.Need-write-header-requires
-unfolding counts
+unfolding countList
 write-header-requires c κs =
     let tested = c .before .before in
     let start = tested .before .before .before .before in
@@ -141,11 +141,11 @@ write-header-requires c κs =
     (room, limits start)
 
 section-offset-requires-2 : tie.Need-section-offset-requires-2
-unfolding counts
+unfolding countList
 section-offset-requires-2 c κs = (omega arith, limits (entry-header (c .before .before .before)))
 
 sub-write-integrators : tie.Need-sub-write-integrators
-unfolding counts
+unfolding countList
 sub-write-integrators c = inside (stage-header (c .before .before .before .before)) (omega arith) (c .section-offset2 .ensures)
 
 part-write-integrators-start : tie.Need-part-write-integrators-start
@@ -155,7 +155,7 @@ part-write-integrators-end : tie.Need-part-write-integrators-end
 part-write-integrators-end c = search needs
 
 write-integrators-requires : tie.Need-write-integrators-requires
-unfolding counts
+unfolding countList
 write-integrators-requires c κs =
     let offset = c .before .before .before .before in
     let before = offset .before .before .before .before in
@@ -163,14 +163,14 @@ write-integrators-requires c κs =
     let p = start .args .t1 in
     let room = section-room (stage-header before) (omega arith) (offset .section-offset2 .ensures) in
     let f = fitting p (start .pre) in
-    ((counts-of p (start .pre .counts) .n, room), (f .starts, f .quanta))
+    ((count-limits p (start .pre .counts) .n, room), (f .starts, f .quanta))
 
 section-offset-requires-3 : tie.Need-section-offset-requires-3
-unfolding counts
+unfolding countList
 section-offset-requires-3 c κs = (omega arith, limits (entry-integrators (c .before .before .before)))
 
 sub-write-inputs : tie.Need-sub-write-inputs
-unfolding counts
+unfolding countList
 sub-write-inputs c = inside (stage-integrators (c .before .before .before .before)) (omega arith) (c .section-offset3 .ensures)
 
 part-write-inputs-start : tie.Need-part-write-inputs-start
@@ -180,7 +180,7 @@ part-write-inputs-end : tie.Need-part-write-inputs-end
 part-write-inputs-end c = search needs
 
 write-inputs-requires : tie.Need-write-inputs-requires
-unfolding counts
+unfolding countList
 write-inputs-requires c κs =
     let offset = c .before .before .before in
     let before = offset .before .before .before .before in
@@ -188,14 +188,14 @@ write-inputs-requires c κs =
     let p = start .args .t1 in
     let room = section-room (stage-integrators before) (omega arith) (offset .section-offset3 .ensures) in
     let f = fitting p (start .pre) in
-    ((counts-of p (start .pre .counts) .m, room), f .firsts)
+    ((count-limits p (start .pre .counts) .m, room), f .firsts)
 
 section-offset-requires-4 : tie.Need-section-offset-requires-4
-unfolding counts
+unfolding countList
 section-offset-requires-4 c κs = (omega arith, limits (entry-inputs (c .before .before .before)))
 
 sub-write-nodes : tie.Need-sub-write-nodes
-unfolding counts
+unfolding countList
 sub-write-nodes c = inside (stage-inputs (c .before .before .before .before)) (omega arith) (c .section-offset4 .ensures)
 
 part-write-nodes-start : tie.Need-part-write-nodes-start
@@ -205,7 +205,7 @@ part-write-nodes-end : tie.Need-part-write-nodes-end
 part-write-nodes-end c = search needs
 
 write-nodes-requires : tie.Need-write-nodes-requires
-unfolding counts
+unfolding countList
 write-nodes-requires c κs =
     let offset = c .before .before .before .before .before .before .before in
     let before = offset .before .before .before .before in
@@ -213,14 +213,14 @@ write-nodes-requires c κs =
     let p = start .args .t1 in
     let room = section-room (stage-inputs before) (omega arith) (offset .section-offset4 .ensures) in
     let f = fitting p (start .pre) in
-    ((counts-of p (start .pre .counts) .k, room), (f .kinds, f .a, f .b, f .lows, f .highs))
+    ((count-limits p (start .pre .counts) .k, room), (f .kinds, f .a, f .b, f .lows, f .highs))
 
 section-offset-requires-5 : tie.Need-section-offset-requires-5
-unfolding counts
+unfolding countList
 section-offset-requires-5 c κs = (omega arith, limits (entry-nodes (c .before .before .before)))
 
 sub-write-links : tie.Need-sub-write-links
-unfolding counts
+unfolding countList
 sub-write-links c = inside (stage-nodes (c .before .before .before .before)) (omega arith) (c .section-offset5 .ensures)
 
 part-write-links-start : tie.Need-part-write-links-start
@@ -230,7 +230,7 @@ part-write-links-end : tie.Need-part-write-links-end
 part-write-links-end c = search needs
 
 write-links-requires : tie.Need-write-links-requires
-unfolding counts
+unfolding countList
 write-links-requires c κs =
     let offset = c .before .before .before .before .before in
     let before = offset .before .before .before .before in
@@ -238,14 +238,14 @@ write-links-requires c κs =
     let p = start .args .t1 in
     let room = section-room (stage-nodes before) (omega arith) (offset .section-offset5 .ensures) in
     let f = fitting p (start .pre) in
-    ((counts-of p (start .pre .counts) .links, room), (f .targets, f .sources, f .coefficients))
+    ((count-limits p (start .pre .counts) .links, room), (f .targets, f .sources, f .coefficients))
 
 section-offset-requires-6 : tie.Need-section-offset-requires-6
-unfolding counts
+unfolding countList
 section-offset-requires-6 c κs = (omega arith, limits (entry-links (c .before .before .before)))
 
 sub-write-commands : tie.Need-sub-write-commands
-unfolding counts
+unfolding countList
 sub-write-commands c = inside (stage-links (c .before .before .before .before)) (omega arith) (c .section-offset6 .ensures)
 
 part-write-commands-start : tie.Need-part-write-commands-start
@@ -255,7 +255,7 @@ part-write-commands-end : tie.Need-part-write-commands-end
 part-write-commands-end c = search needs
 
 write-commands-requires : tie.Need-write-commands-requires
-unfolding counts
+unfolding countList
 write-commands-requires c κs =
     let offset = c .before .before .before .before .before in
     let before = offset .before .before .before .before in
@@ -263,13 +263,13 @@ write-commands-requires c κs =
     let p = start .args .t1 in
     let room = section-room (stage-links before) (omega arith) (offset .section-offset6 .ensures) in
     let f = fitting p (start .pre) in
-    ((counts-of p (start .pre .counts) .commands, room), (f .ticks, f .inputs, f .values))
+    ((count-limits p (start .pre .counts) .commands, room), (f .ticks, f .inputs, f .values))
 
 same-length : tie.Need-same-length
 same-length c = stage-commands (c .before .before) .begun .size
 
 returns-2 : tie.Need-returns-2
-unfolding counts
+unfolding countList
 returns-2 c =
     let done = c .before .before in
     let header = before-integrators (before-inputs (before-nodes (before-links (before-commands done)))) in

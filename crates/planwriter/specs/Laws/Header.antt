@@ -5,12 +5,12 @@ use Prim.Native.Nat.{ℕ, zero, suc, _+_, _*_, _≤_, _<_}
 use native.Mathlib.Numerals.{add-one}
 use native.Mathlib.Omega.{arith}
 use Rattle.plan.specs.Numbers.{sections, headerLength}
-use Rattle.plan.specs.Tests.{counts}
+use Rattle.plan.specs.Tests.{countList}
 use Rattle.plan.specs.Rules.{CountsRule}
 use Rattle.plan.specs.Laws.Layout.{each-section}
 use Rattle.plan.specs.declared.Plan.{Plan}
 use Rattle.plan.specs.Encoding.{lengthFrom, offsetFrom}
-use Rattle.planwriter.specs.Header.{Limited}
+use Rattle.planwriter.specs.Header.{CountsWithinLimits}
 
 module _ (cs : List ℕ) where
   -- the first offset, and each next one in the code's form
@@ -22,7 +22,7 @@ module _ (cs : List ℕ) where
   unfolding offsetFrom
   offset-more k = rw add-one
 
-  module _ (l : Limited cs) where
+  module _ (l : CountsWithinLimits cs) where
     -- the largest section is that of 256 links
     pub length-limit : (k : ℕ) → k < sections → lengthFrom cs k ≤ 3072
     length-limit =
@@ -37,5 +37,5 @@ module _ (cs : List ℕ) where
 
 -- the counts of a plan
 module _ (p : Plan) where
-  pub limited : CountsRule p → Limited (counts p)
-  limited r k h = r k h .1
+  pub counts-within-limits : CountsRule p → CountsWithinLimits (countList p)
+  counts-within-limits r k h = r k h .1

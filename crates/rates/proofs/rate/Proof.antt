@@ -6,7 +6,7 @@ use borrow.Author.Needs.{needs, sfits-of}
 use mir.Syntax.{w64}
 use mir.Val.{SFits, toZ, ofZ}
 use mir.Facts.{toZ-ofZ}
-use Rattle.integers.specs.Division.{floored}
+use Rattle.integers.specs.Division.{floor65536}
 use Rattle.integers.specs.Laws.Signed64.{reads}
 use Rattle.plan.specs.Lists.{natAt}
 use Rattle.rates.specs.Links.{term, sumFrom, rangeRate}
@@ -78,7 +78,7 @@ returns c =
     let s = c .before .before .before in let l = c .before .before .loop in
     let fits = sum-fits (s .pre) (l .e) (omega arith) (omega arith) in let end : l .e ≡ s .args .to = omega arith in
     let whole : SFits w64 (c .floor-65536 .result) = sfits-of (c .floor-65536 .ok) in
-    toZ-ofZ whole ∙ c .floor-65536 .ensures ∙ ap floored (ap (toZ w64) (l .inv .2) ∙ toZ-ofZ fits) ∙ rw end
+    toZ-ofZ whole ∙ c .floor-65536 .ensures ∙ ap floor65536 (ap (toZ w64) (l .inv .2) ∙ toZ-ofZ fits) ∙ rw end
 
 pub rate-spec : {M : Type 1} → statement M
 rate-spec =

@@ -12,18 +12,18 @@ use lib.Dec.{eqb}
 use borrow.Author.Tests.{leb-true, leb-false, eqb-true, eqb-false, eq-eqb, ne-eqb}
 use Rattle.integers.specs.Parts.{∣_∣}
 use Rattle.integers.specs.Laws.Parts.{sum, zs}
-use Rattle.integers.specs.Division.{floored}
+use Rattle.integers.specs.Division.{floor65536}
 use Rattle.plan.specs.Numbers.{M}
 use Rattle.plan.specs.Lists.{natAt, intAt, row}
 use Rattle.plan.specs.Rules.{PlanRules}
-use Rattle.plan.specs.Laws.Counts.{counts-of}
-use Rattle.plan.specs.Laws.Means.{within-size}
+use Rattle.plan.specs.Laws.CountLimits.{count-limits}
+use Rattle.plan.specs.Laws.TestMeanings.{within-size}
 use Rattle.plan.specs.Laws.Rows.{row-at, row-ext}
 use Rattle.plan.specs.declared.Plan.{Plan}
 use Rattle.machine.specs.Values.{valueOf, sumOver, rateOf}
 use Rattle.machine.specs.Laws.Ascending.{Before, ascending}
 use Rattle.machine.specs.Laws.OwnLinks.{sources-most}
-use Rattle.rates.specs.Links.{firstLink, rangesOf, term, sumFrom, rangeRate, Rated, AllRated}
+use Rattle.rates.specs.Links.{firstLink, rangesOf, term, sumFrom, rangeRate, RateReady, RatesReady}
 use Rattle.rates.specs.Laws.Ranges.{first-link, first-most, first-ascends}
 
 -- of a plan: link e's term, and where integrator i's range begins
@@ -81,19 +81,19 @@ module _ (p : Plan) (rules : PlanRules p) where
   -- ---- the table of ranges
   pub ranges-at : (i : ℕ) → i ≤ p .counts .n → natAt (rangesOf p) i ≡ firstLink (p .links .targets) (p .counts .links) i
   unfolding rangesOf
-  ranges-at i h = row-at 0 33 (p .counts .n + 1) (firstLink (p .links .targets) (p .counts .links)) i (omega (arith, counts-of p (rules .counts))) (omega arith)
+  ranges-at i h = row-at 0 33 (p .counts .n + 1) (firstLink (p .links .targets) (p .counts .links)) i (omega (arith, count-limits p (rules .counts))) (omega arith)
 
-  pub own-rated : (values : List ℤ) → ((i : ℕ) → ∣ intAt values i ∣ ≤ M) → AllRated (p .counts .n) (rangesOf p) (p .links .sources) (p .links .coefficients) values
+  pub own-rated : (values : List ℤ) → ((i : ℕ) → ∣ intAt values i ∣ ≤ M) → RatesReady (p .counts .n) (rangesOf p) (p .links .sources) (p .links .coefficients) values
   own-rated values sized i h = rw (ranges-at i (omega arith), ranges-at (i + 1) (omega arith)) rated
     where
       last : (e : ℕ) → e < begin p (i + 1) → e < p .counts .links
       last e l = omega (arith, first-most (p .links .targets) (p .counts .links) (i + 1))
 
-      rated : Rated (p .links .sources) (p .links .coefficients) values (begin p i) (begin p (i + 1))
+      rated : RateReady (p .links .sources) (p .links .coefficients) values (begin p i) (begin p (i + 1))
       rated =
           record {
             order = first-ascends (p .links .targets) (p .counts .links) i;
-            few = omega (arith, first-most (p .links .targets) (p .counts .links) (i + 1), counts-of p (rules .counts));
+            few = omega (arith, first-most (p .links .targets) (p .counts .links) (i + 1), count-limits p (rules .counts));
             known = λ e l. omega (arith, rules .links e (last e l) .source, sources-most p rules);
             small = λ e l. within-size 16777216 (intAt (p .links .coefficients) e) .0 (rules .links e (last e l) .coefficient);
             sized = sized;
@@ -138,7 +138,7 @@ module _ (p : Plan) (rules : PlanRules p) where
     pub own-rate : (i : ℕ) → i < p .counts .n
         → rangeRate (p .links .sources) (p .links .coefficients) values (natAt (rangesOf p) i) (natAt (rangesOf p) (i + 1)) ≡ rateOf p q u i
     unfolding rangeRate rateOf
-    own-rate i h = rw (ranges-at i (omega arith), ranges-at (i + 1) (omega arith)) (ap floored (own-sum i))
+    own-rate i h = rw (ranges-at i (omega arith), ranges-at (i + 1) (omega arith)) (ap floor65536 (own-sum i))
 
     pub own-rates : row (pos 0) 32 (p .counts .n) (λ i. rangeRate (p .links .sources) (p .links .coefficients) values (natAt (rangesOf p) i) (natAt (rangesOf p) (i + 1)))
         ≡ row (pos 0) 32 (p .counts .n) (rateOf p q u)

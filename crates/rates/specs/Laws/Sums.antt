@@ -12,9 +12,9 @@ use Rattle.integers.specs.Laws.Parts.{sum, zs}
 use Rattle.integers.specs.Laws.Order.{size-mul}
 use Rattle.plan.specs.Numbers.{M}
 use Rattle.plan.specs.Lists.{natAt, intAt}
-use Rattle.rates.specs.Links.{term, sumFrom, Rated}
+use Rattle.rates.specs.Links.{term, sumFrom, RateReady}
 
-module _ {sources : List ℕ} {coefficients values : List ℤ} {from to : ℕ} (r : Rated sources coefficients values from to) where
+module _ {sources : List ℕ} {coefficients values : List ℤ} {from to : ℕ} (r : RateReady sources coefficients values from to) where
   -- ---- the operands
   pub coefficient-fits : (e : ℕ) → e < to → SFits w64 (intAt coefficients e)
   coefficient-fits e h = omega (arith, zs, r .small e h)

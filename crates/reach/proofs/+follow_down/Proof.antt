@@ -1,15 +1,15 @@
--- `reach::follow_down` meets its contract: node j - 1 is handed down, then the nodes below it. The measure is j. Assumes nothing.
+-- `reach::follow_down` meets its contract: node j - 1 first, then the nodes below it. The measure is j. Assumes nothing.
 use mathlib.Core.Path.{_≡_}
 use Prim.Native.Nat.{ℕ, _+_, _-_, _<_}
 use native.Mathlib.Omega.{arith}
 use borrow.Fn.Kinds.{In}
 use borrow.Fn.PlainCycle.{Measures, is, falls, and}
 use Rattle.reach.specs.Table.{followedDown}
-use Rattle.reach.specs.Laws.Turns.{followed-more}
+use Rattle.reach.specs.Laws.TableLoops.{followed-more}
 use Rattle.reach.proofs.follow_down.Reads as follow-down
 use Rattle.reach.proofs.follow_down.Kinds as follow-down-kinds
 use Rattle.reach.proofs.+follow_down.Lts-follow_down as lts
-use Rattle.reach.proofs.hand_down.Reads as hand-down-reads
+use Rattle.reach.proofs.add_to_operands.Reads as add-to-operands-reads
 use Rattle.reach.proofs.+follow_down.{statement}
 use Rattle.reach.proofs.+follow_down.Tie.{close}
 
@@ -22,14 +22,14 @@ follow-down-at t = and 2 follow-down-kinds.ps (is 2 follow-down-kinds.ps μ-foll
 -- what the two calls ask and answer
 abbrev claims : ℕ → lts.Claims
 claims t =
-    (hand-down-reads.Asked, hand-down-reads.Learnt, and 2 follow-down-kinds.ps (falls 2 follow-down-kinds.ps _<_ μ-follow-down t) follow-down.Pre, follow-down.Post)
+    (add-to-operands-reads.Asked, add-to-operands-reads.Learnt, and 2 follow-down-kinds.ps (falls 2 follow-down-kinds.ps _<_ μ-follow-down t) follow-down.Pre, follow-down.Post)
 
 module _ (t : ℕ) where
-  sub-hand-down : lts.Need-sub-hand-down (claims t) (follow-down-at t) follow-down.Post
-  sub-hand-down c = omega arith
+  sub-add-to-operands : lts.Need-sub-add-to-operands (claims t) (follow-down-at t) follow-down.Post
+  sub-add-to-operands c = omega arith
 
-  hand-down-requires : lts.Need-hand-down-requires (claims t) (follow-down-at t) follow-down.Post
-  hand-down-requires c κs =
+  add-to-operands-requires : lts.Need-add-to-operands-requires (claims t) (follow-down-at t) follow-down.Post
+  add-to-operands-requires c κs =
       let s = c .before .before in let w = s .pre .1 .1 in let last : s .args .j - 1 + 1 ≡ s .args .j = omega arith in
       (omega arith, rw last w)
 
@@ -46,7 +46,7 @@ module _ (t : ℕ) where
   returns : lts.Need-returns (claims t) (follow-down-at t) follow-down.Post
   returns c =
       let a = c .before .before .before .before .before .args in
-      rw (c .follow-down .ensures, c .before .before .hand-down .ensures)
+      rw (c .follow-down .ensures, c .before .before .add-to-operands .ensures)
       (followed-more (a .kinds .now) (a .a .now) (a .b .now) (a .base) (a .table .now) (a .j) (omega arith))
 
   returns-2 : lts.Need-returns-2 (claims t) (follow-down-at t) follow-down.Post
@@ -56,8 +56,8 @@ module _ (t : ℕ) where
 pub +follow-down-spec : {M : Type 1} → statement M
 +follow-down-spec =
     close μ-follow-down λ t. lts.spec (claims t) (follow-down-at t) follow-down.Post
-    (sub-hand-down t)
-    (hand-down-requires t)
+    (sub-add-to-operands t)
+    (add-to-operands-requires t)
     (sub-follow-down t)
     (follow-down-requires t)
     (returns t)

@@ -2,13 +2,13 @@
 use mathlib.Core.Path.{_≡_, refl, ap, _∙_}
 use Prim.Native.Nat.{_≤_, _+_, _-_}
 use native.Mathlib.Omega.{arith}
-use Rattle.reach.specs.Table.{marked, ownNodes}
-use Rattle.reach.specs.Laws.Turns.{marked-more}
+use Rattle.reach.specs.Table.{marked, ownEntries}
+use Rattle.reach.specs.Laws.TableLoops.{marked-more}
 use Rattle.reach.proofs.own_entries.Statement.{statement}
 use Rattle.reach.proofs.own_entries.Tie as tie
 
 abbrev Inv-loop : tie.InvT-loop
-Inv-loop base k table₀ j₀ table j = (j ≤ k) × (table ≡ ownNodes base table₀ j)
+Inv-loop base k table₀ j₀ table j = (j ≤ k) × (table ≡ ownEntries base table₀ j)
 
 abbrev μ-loop : tie.MeasureT-loop
 μ-loop base k table₀ j₀ table j = k - j
@@ -20,17 +20,17 @@ loop-holds c = (omega arith, refl)
 add-source : tie.Need-add-source Inv-loop μ-loop
 add-source c = omega arith
 
-mul-with64 : tie.Need-mul-with64 Inv-loop μ-loop
-mul-with64 c = omega arith
+mul-with-bit64 : tie.Need-mul-with-bit64 Inv-loop μ-loop
+mul-with-bit64 c = omega arith
 
-element-copy-out-with64 : tie.Need-element-copy-out-with64 Inv-loop μ-loop
-element-copy-out-with64 c = omega arith
+element-copy-out-with-bit64 : tie.Need-element-copy-out-with-bit64 Inv-loop μ-loop
+element-copy-out-with-bit64 c = omega arith
 
-add-with64 : tie.Need-add-with64 Inv-loop μ-loop
-add-with64 c = omega arith
+add-with-bit64 : tie.Need-add-with-bit64 Inv-loop μ-loop
+add-with-bit64 c = omega arith
 
-with64-requires : tie.Need-with64-requires Inv-loop μ-loop
-with64-requires c κs = omega arith
+with-bit64-requires : tie.Need-with-bit64-requires Inv-loop μ-loop
+with-bit64-requires c κs = omega arith
 
 mul-table : tie.Need-mul-table Inv-loop μ-loop
 mul-table c = omega arith
@@ -47,12 +47,12 @@ loop-less c = omega arith
 loop-again : tie.Need-loop-again Inv-loop μ-loop
 loop-again c =
     let a = c .before .before .before .before .args in let l = c .before .before .before .loop in
-    (omega arith, marked-more (λ j. a .base + j) (λ j. 32 + j) (a .table .now) (l .table) (l .j) _ (l .inv .1) (c .with64 .ensures))
+    (omega arith, marked-more (λ j. a .base + j) (λ j. 32 + j) (a .table .now) (l .table) (l .j) _ (l .inv .1) (c .with-bit64 .ensures))
 
 returns : tie.Need-returns Inv-loop μ-loop
 returns c =
     let l = c .before .loop in let a = c .before .before .args in let all : l .j ≡ a .k = omega arith in
-    l .inv .1 ∙ ap (ownNodes (a .base) (a .table .now)) all
+    l .inv .1 ∙ ap (ownEntries (a .base) (a .table .now)) all
 
 pub own-entries-spec : {M : Type 1} → statement M
 own-entries-spec =
@@ -62,10 +62,10 @@ own-entries-spec =
     μ-loop
     loop-holds
     add-source
-    mul-with64
-    element-copy-out-with64
-    add-with64
-    with64-requires
+    mul-with-bit64
+    element-copy-out-with-bit64
+    add-with-bit64
+    with-bit64-requires
     mul-table
     element-write-table
     add-j

@@ -12,7 +12,7 @@ use borrow.Author.Tests.{eq-eqb, ne-eqb}
 use Rattle.bitset.specs.Mask.{has, each, union}
 use Rattle.bitset.specs.Laws.Bits.{has-none, has-or, has-with}
 use Rattle.plan.specs.Lists.{natAt, some}
-use Rattle.reach.specs.Table.{marked, added, handedDown, entriesOf, Wired}
+use Rattle.reach.specs.Table.{marked, addedTo, addedToOperands, entriesOf, OperandsReady}
 use Rattle.reach.specs.Laws.Some.{some-ext, some-none, some-also}
 
 -- bit b stands in the entry of a source that is in `sources`
@@ -75,7 +75,7 @@ module _ (place bit : ℕ → ℕ) (table : List ℕ) where
       ∙ or-assoc (inEntries table sources b) (some (λ f. sources (place f) && eqb b (bit f)) e) (sources (place e) && eqb b (bit e))
 
 added-entries : (table : List ℕ) (sources : ℕ → Bool) (b a entry : ℕ) → length table ≡ 64 → a < 64
-    → inEntries (added table a entry) sources b ≡ (inEntries table sources b || (sources a && has entry b))
+    → inEntries (addedTo table a entry) sources b ≡ (inEntries table sources b || (sources a && has entry b))
 added-entries table sources b a entry len h = stored table sources b a _ (has entry b) len h (has-or (natAt table a) entry b)
 
 -- a source more, if c
@@ -87,26 +87,26 @@ with-source table sources b a c h out =
 
 -- ---- a node's entry handed down to the operands that it uses
 module _ (kinds a b : List ℕ) (base : ℕ) where
-  pub handed-length : (j : ℕ) (table : List ℕ) → length (handedDown kinds a b base j table) ≡ length table
-  unfolding handedDown
-  handed-length j table = go (eqb (natAt kinds j) 2) _ _ (simp length-set) (simp length-set)
+  pub operands-length : (j : ℕ) (table : List ℕ) → length (addedToOperands kinds a b base j table) ≡ length table
+  unfolding addedToOperands
+  operands-length j table = go (eqb (natAt kinds j) 2) _ _ (simp length-set) (simp length-set)
     where
       go : (two : Bool) (x y : List ℕ) → length x ≡ length table → length y ≡ length table → length (cond two x y) ≡ length table
       go true x y e f = e
       go false x y e f = f
 
   -- the same as looking at node j too: it is one of the sources if an operand that it uses is
-  pub handed-entries : (k : ℕ) → Wired a b base k
+  pub operands-entries : (k : ℕ) → OperandsReady a b base k
       → (table : List ℕ) (sources : ℕ → Bool) (bit j : ℕ) → length table ≡ 64 → j < k → sources (base + j) ≡ false
-      → inEntries (handedDown kinds a b base j table) sources bit
+      → inEntries (addedToOperands kinds a b base j table) sources bit
       ≡ inEntries table
       (λ i. cond (eqb i (base + j)) (sources (natAt a j) || (not (eqb (natAt kinds j) 2) && sources (natAt b j))) (sources i)) bit
-  unfolding handedDown
-  handed-entries k wired table sources bit j len h out =
-      let l = natAt a j in let r = natAt b j in let entry = natAt table (base + j) in let left = added table l entry in
+  unfolding addedToOperands
+  operands-entries k wired table sources bit j len h out =
+      let l = natAt a j in let r = natAt b j in let entry = natAt table (base + j) in let left = addedTo table l entry in
       let one = added-entries table sources bit l entry len (omega (arith, wired .room, wired .left j h)) in
       let two = added-entries left sources bit r entry (length-set table l _ ∙ len) (omega (arith, wired .room, wired .right j h)) in
-      go (eqb (natAt kinds j) 2) left (added left r entry) (inEntries table sources bit) (sources l) (sources r) (has entry bit) one
+      go (eqb (natAt kinds j) 2) left (addedTo left r entry) (inEntries table sources bit) (sources l) (sources r) (has entry bit) one
       (two ∙ ap (λ x. x || (sources r && has entry bit)) one)
       ∙ sym (with-source table sources bit (base + j) _ (omega (arith, wired .room)) out)
     where

@@ -10,18 +10,18 @@ use lib.Dec.{ltb, eqb}
 use lib.ListN.{length, replicate, length-replicate}
 use lib.Pow.{pow-pos}
 use borrow.Author.Tests.{eqb-true, eqb-false, eq-eqb, ne-eqb, ltb-true, ltb-false, lt-ltb, le-ltb}
-use Rattle.bitset.specs.Mask.{has, maskOf, joinedOf}
+use Rattle.bitset.specs.Mask.{has, maskOf, unionShifted}
 use Rattle.bitset.specs.Laws.Bits.{has-high, has-shr, has-maskOf, maskOf-lt, maskOf-ext}
 use Rattle.plan.specs.Lists.{natAt, some}
 use Rattle.plan.specs.Rules.{PlanRules}
-use Rattle.plan.specs.Laws.Counts.{counts-of}
+use Rattle.plan.specs.Laws.CountLimits.{count-limits}
 use Rattle.plan.specs.declared.Plan.{Plan}
 use Rattle.machine.specs.Reach.{isDue, isCommanded, changes, dependsWith, linkReaches, reached}
-use Rattle.reach.specs.Table.{linked, ownNodes, followedDown, tableFrom, reachTable, entriesOf, Linked, Wired}
+use Rattle.reach.specs.Table.{linkEntries, ownEntries, followedDown, tableFrom, reachTable, entriesOf, LinksReady, OperandsReady}
 use Rattle.reach.specs.Laws.Some.{some-ext, some-none, some-only}
 use Rattle.reach.specs.Laws.Masks.{mask-is, has-low, joined-is}
 use Rattle.reach.specs.Laws.Entries.{inEntries, entries-of-has, entries-ext, entries-none, marked-length, marked-entries}
-use Rattle.reach.specs.Laws.Entries.{handed-length, handed-entries}
+use Rattle.reach.specs.Laws.Entries.{operands-length, operands-entries}
 
 -- numbers that differ
 other : (c : Bool) (x y : ℕ) → (x ≡ y → ⊥) → (c && eqb x y) ≡ false
@@ -37,21 +37,21 @@ exchanged c x y = go (eqb x y) refl
 
 module _ (p : Plan) (rules : PlanRules p) where
   -- ---- what `reach_table` asks; kind 2's B is 0, and there is an integrator 0
-  pub table-wired : Wired (p .nodes .a) (p .nodes .b) (p .counts .n + p .counts .m) (p .counts .k)
+  pub table-wired : OperandsReady (p .nodes .a) (p .nodes .b) (p .counts .n + p .counts .m) (p .counts .k)
   table-wired =
       record {
-        room = omega (arith, counts-of p (rules .counts));
+        room = omega (arith, count-limits p (rules .counts));
         left = λ j h. rules .nodes j h .left;
         right = λ j h. below j h (eqb (natAt (p .nodes .kinds) j) 2) refl;
       }
     where
       below : (j : ℕ) → j < p .counts .k → (two : Bool) → eqb (natAt (p .nodes .kinds) j) 2 ≡ two → natAt (p .nodes .b) j < p .counts .n + p .counts .m + j
-      below j h true e = omega (arith, counts-of p (rules .counts) .n-least, rules .nodes j h .unused (eqb-true (natAt (p .nodes .kinds) j) 2 e))
+      below j h true e = omega (arith, count-limits p (rules .counts) .n-least, rules .nodes j h .unused (eqb-true (natAt (p .nodes .kinds) j) 2 e))
       below j h false e = rules .nodes j h .right (eqb-false (natAt (p .nodes .kinds) j) 2 e)
 
-  pub table-linked : Linked (p .links .targets) (p .links .sources) (p .counts .links)
+  pub table-linked : LinksReady (p .links .targets) (p .links .sources) (p .counts .links)
   table-linked =
-      let counts = counts-of p (rules .counts) in
+      let counts = count-limits p (rules .counts) in
       record {
         few = counts .links;
         target = λ e h. omega (arith, counts, rules .links e h .target);
@@ -60,13 +60,13 @@ module _ (p : Plan) (rules : PlanRules p) where
 
   -- ---- before any entry is handed down
   abbrev own : List ℕ
-  own = ownNodes (p .counts .n + p .counts .m) (linked (p .links .targets) (p .links .sources) (p .counts .links)) (p .counts .k)
+  own = ownEntries (p .counts .n + p .counts .m) (linkEntries (p .links .targets) (p .links .sources) (p .counts .links)) (p .counts .k)
 
-  linked-length : length (linked (p .links .targets) (p .links .sources) (p .counts .links)) ≡ 64
+  linked-length : length (linkEntries (p .links .targets) (p .links .sources) (p .counts .links)) ≡ 64
   linked-length = marked-length (natAt (p .links .sources)) (natAt (p .links .targets)) (replicate 64 0) (p .counts .links) ∙ length-replicate {A = ℕ} 64 0
 
   own-length : length own ≡ 64
-  own-length = marked-length (λ j. p .counts .n + p .counts .m + j) (λ j. 32 + j) (linked (p .links .targets) (p .links .sources) (p .counts .links)) (p .counts .k) ∙ linked-length
+  own-length = marked-length (λ j. p .counts .n + p .counts .m + j) (λ j. 32 + j) (linkEntries (p .links .targets) (p .links .sources) (p .counts .links)) (p .counts .k) ∙ linked-length
 
   module _ (chosen : ℕ → Bool) where
     abbrev linkHas : ℕ → ℕ → Bool
@@ -78,7 +78,7 @@ module _ (p : Plan) (rules : PlanRules p) where
     -- a bit is a link's or a node's
     own-has : (b : ℕ) → inEntries own chosen b ≡ (some (linkHas b) (p .counts .links) || some (nodeHas b) (p .counts .k))
     own-has b =
-        marked-entries (λ j. p .counts .n + p .counts .m + j) (λ j. 32 + j) (linked (p .links .targets) (p .links .sources) (p .counts .links)) chosen b (p .counts .k) linked-length
+        marked-entries (λ j. p .counts .n + p .counts .m + j) (λ j. 32 + j) (linkEntries (p .links .targets) (p .links .sources) (p .counts .links)) chosen b (p .counts .k) linked-length
         (λ j h. omega (arith, table-wired .room))
         ∙ ap (λ x. x || some (nodeHas b) (p .counts .k))
         (marked-entries (natAt (p .links .sources)) (natAt (p .links .targets)) (replicate 64 0) chosen b (p .counts .links) (length-replicate {A = ℕ} 64 0)
@@ -124,8 +124,8 @@ module _ (p : Plan) (rules : PlanRules p) where
     unfolding followedDown dependsWith
     followed-has zero b table h len = refl
     followed-has (suc j) b table h len =
-        followed-has j b _ (omega arith) (handed-length (p .nodes .kinds) (p .nodes .a) (p .nodes .b) (p .counts .n + p .counts .m) j table ∙ len)
-        ∙ handed-entries (p .nodes .kinds) (p .nodes .a) (p .nodes .b) (p .counts .n + p .counts .m) (p .counts .k) table-wired table (dependsWith p d t j) b j len h
+        followed-has j b _ (omega arith) (operands-length (p .nodes .kinds) (p .nodes .a) (p .nodes .b) (p .counts .n + p .counts .m) j table ∙ len)
+        ∙ operands-entries (p .nodes .kinds) (p .nodes .a) (p .nodes .b) (p .counts .n + p .counts .m) (p .counts .k) table-wired table (dependsWith p d t j) b j len h
         (not-yet j (p .counts .n + p .counts .m + j) (omega arith))
 
     not-reached : (i : ℕ) → p .counts .n ≤ i → reached p d t i ≡ false
@@ -159,7 +159,7 @@ module _ (p : Plan) (rules : PlanRules p) where
 
       pub reached-mask : entriesOf (reachTable p) changed % 2 ^ 32 ≡ maskOf (reached p d t) (p .counts .n)
       reached-mask =
-          mask-is (entries % 2 ^ 32) (p .counts .n) (reached p d t) (λ i h. low-has i (omega (arith, counts-of p (rules .counts) .n)))
+          mask-is (entries % 2 ^ 32) (p .counts .n) (reached p d t) (λ i h. low-has i (omega (arith, count-limits p (rules .counts) .n)))
           (λ i h. above i h (ltb i 32) refl)
         where
           above : (i : ℕ) → p .counts .n ≤ i → (b : Bool) → ltb i 32 ≡ b → has (entries % 2 ^ 32) i ≡ false
@@ -176,7 +176,7 @@ module _ (p : Plan) (rules : PlanRules p) where
 
 -- what the engine hands over: the due integrators and the commanded inputs, joined
 pub joined-changes : (p : Plan) (d : List ℕ) (t due commanded : ℕ) → due ≡ maskOf (isDue d t) (p .counts .n)
-    → commanded ≡ maskOf (isCommanded p t) (p .counts .m) → joinedOf due commanded (p .counts .n) ≡ maskOf (changes p d t) (p .counts .n + p .counts .m)
+    → commanded ≡ maskOf (isCommanded p t) (p .counts .m) → unionShifted due commanded (p .counts .n) ≡ maskOf (changes p d t) (p .counts .n + p .counts .m)
 unfolding changes
 joined-changes p d t due commanded e f =
     rw (e, f)

@@ -8,12 +8,12 @@ use borrow.Author.Needs.{needs}
 use Rattle.plan.specs.Lists.{joined}
 use Rattle.plan.specs.Encoding.{tripleEntry}
 use Rattle.words.specs.Laws.Putting.{length-behind}
-use Rattle.sectionwriters.specs.Laws.Writing.{rd-at, rd-small, Begun, none, all, entry}
+use Rattle.sectionwriters.specs.Laws.Writing.{rd-at, rd-small, BeginsWith, none, all, entry}
 use Rattle.sectionwriters.proofs.write_commands.Statement.{statement}
 use Rattle.sectionwriters.proofs.write_commands.Tie as tie
 
 abbrev Inv-loop : tie.InvT-loop
-Inv-loop buf₀ commands ticks inputs values e₀ buf e = (e ≤ commands) × Begun (joined (tripleEntry ticks inputs values) e) buf₀ buf
+Inv-loop buf₀ commands ticks inputs values e₀ buf e = (e ≤ commands) × BeginsWith (joined (tripleEntry ticks inputs values) e) buf₀ buf
 
 abbrev μ-loop : tie.MeasureT-loop
 μ-loop buf₀ commands ticks inputs values e₀ buf e = commands - e

@@ -8,12 +8,12 @@ use borrow.Author.Needs.{needs}
 use Rattle.plan.specs.Lists.{joined}
 use Rattle.plan.specs.Encoding.{inputEntry}
 use Rattle.words.specs.Laws.Putting.{length-behind}
-use Rattle.sectionwriters.specs.Laws.Writing.{rd-at, rd-small, Begun, none, all, entry}
+use Rattle.sectionwriters.specs.Laws.Writing.{rd-at, rd-small, BeginsWith, none, all, entry}
 use Rattle.sectionwriters.proofs.write_inputs.Statement.{statement}
 use Rattle.sectionwriters.proofs.write_inputs.Tie as tie
 
 abbrev Inv-loop : tie.InvT-loop
-Inv-loop buf₀ m firsts j₀ buf j = (j ≤ m) × Begun (joined (inputEntry firsts) j) buf₀ buf
+Inv-loop buf₀ m firsts j₀ buf j = (j ≤ m) × BeginsWith (joined (inputEntry firsts) j) buf₀ buf
 
 abbrev μ-loop : tie.MeasureT-loop
 μ-loop buf₀ m firsts j₀ buf j = m - j

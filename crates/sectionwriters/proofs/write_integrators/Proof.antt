@@ -8,12 +8,12 @@ use borrow.Author.Needs.{needs}
 use Rattle.plan.specs.Lists.{joined}
 use Rattle.plan.specs.Encoding.{integratorEntry}
 use Rattle.words.specs.Laws.Putting.{length-behind}
-use Rattle.sectionwriters.specs.Laws.Writing.{rd-at, rd-small, Begun, none, all, entry}
+use Rattle.sectionwriters.specs.Laws.Writing.{rd-at, rd-small, BeginsWith, none, all, entry}
 use Rattle.sectionwriters.proofs.write_integrators.Statement.{statement}
 use Rattle.sectionwriters.proofs.write_integrators.Tie as tie
 
 abbrev Inv-loop : tie.InvT-loop
-Inv-loop buf₀ n starts quanta i₀ buf i = (i ≤ n) × Begun (joined (integratorEntry starts quanta) i) buf₀ buf
+Inv-loop buf₀ n starts quanta i₀ buf i = (i ≤ n) × BeginsWith (joined (integratorEntry starts quanta) i) buf₀ buf
 
 abbrev μ-loop : tie.MeasureT-loop
 μ-loop buf₀ n starts quanta i₀ buf i = n - i

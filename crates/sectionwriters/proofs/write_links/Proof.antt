@@ -8,12 +8,12 @@ use borrow.Author.Needs.{needs}
 use Rattle.plan.specs.Lists.{joined}
 use Rattle.plan.specs.Encoding.{tripleEntry}
 use Rattle.words.specs.Laws.Putting.{length-behind}
-use Rattle.sectionwriters.specs.Laws.Writing.{rd-at, rd-small, Begun, none, all, entry}
+use Rattle.sectionwriters.specs.Laws.Writing.{rd-at, rd-small, BeginsWith, none, all, entry}
 use Rattle.sectionwriters.proofs.write_links.Statement.{statement}
 use Rattle.sectionwriters.proofs.write_links.Tie as tie
 
 abbrev Inv-loop : tie.InvT-loop
-Inv-loop buf₀ links targets sources coefficients e₀ buf e = (e ≤ links) × Begun (joined (tripleEntry targets sources coefficients) e) buf₀ buf
+Inv-loop buf₀ links targets sources coefficients e₀ buf e = (e ≤ links) × BeginsWith (joined (tripleEntry targets sources coefficients) e) buf₀ buf
 
 abbrev μ-loop : tie.MeasureT-loop
 μ-loop buf₀ links targets sources coefficients e₀ buf e = links - e

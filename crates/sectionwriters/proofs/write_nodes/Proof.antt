@@ -8,12 +8,12 @@ use borrow.Author.Needs.{needs}
 use Rattle.plan.specs.Lists.{joined}
 use Rattle.plan.specs.Encoding.{nodeEntry}
 use Rattle.words.specs.Laws.Putting.{length-behind}
-use Rattle.sectionwriters.specs.Laws.Writing.{rd-at, rd-small, Begun, none, all, entry}
+use Rattle.sectionwriters.specs.Laws.Writing.{rd-at, rd-small, BeginsWith, none, all, entry}
 use Rattle.sectionwriters.proofs.write_nodes.Statement.{statement}
 use Rattle.sectionwriters.proofs.write_nodes.Tie as tie
 
 abbrev Inv-loop : tie.InvT-loop
-Inv-loop buf₀ k kinds a b lows highs j₀ buf j = (j ≤ k) × Begun (joined (nodeEntry kinds a b lows highs) j) buf₀ buf
+Inv-loop buf₀ k kinds a b lows highs j₀ buf j = (j ≤ k) × BeginsWith (joined (nodeEntry kinds a b lows highs) j) buf₀ buf
 
 abbrev μ-loop : tie.MeasureT-loop
 μ-loop buf₀ k kinds a b lows highs j₀ buf j = k - j

@@ -2,8 +2,8 @@
 use mathlib.Core.Path.{sym, _∙_}
 use denote.Ref.{now}
 use borrow.Author.Needs.{needs}
-use Rattle.plan.specs.Laws.Answers.{accepted-rules}
-use Rattle.entryrules.specs.Laws.Trying.{not-clean}
+use Rattle.plan.specs.Laws.FileRefusals.{accepted-rules}
+use Rattle.entryrules.specs.Laws.ChecksInOrder.{not-clean}
 use Rattle.planfile.specs.Laws.Reading.{reading-finding, reading-plan, reading-accepts, reading-refuses}
 use Rattle.machine.specs.Start.{startState}
 use Rattle.simulator.specs.Laws.Answers.{load-refused, load-accepted}

@@ -4,7 +4,7 @@ use mathlib.Core.Path.{sym, _∙_}
 use denote.Ref.{now}
 use Rattle.plan.specs.Laws.View.{view-shown, view-refused, view-above, start-shown, start-refused, start-above}
 use Rattle.directory.specs.Laws.Directory.{directory-accepted}
-use Rattle.entryrules.specs.Laws.Trying.{not-clean}
+use Rattle.entryrules.specs.Laws.ChecksInOrder.{not-clean}
 use Rattle.directory.specs.Laws.Pointers.{further-none}
 use Rattle.planfile.specs.Laws.Reading.{reading-accepts, reading-refuses}
 use borrow.Author.Needs.{needs}

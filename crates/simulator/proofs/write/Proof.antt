@@ -4,7 +4,7 @@ use mathlib.Core.Bool.{true}
 use borrow.Author.Needs.{needs}
 use borrow.Author.Tests.{not-true, not-false}
 use Rattle.machine.specs.SoundTest.{isSound}
-use Rattle.machine.specs.Laws.Tested.{sound-means}
+use Rattle.machine.specs.Laws.SoundTest.{sound-means}
 use Rattle.simulator.specs.Laws.Answers.{write-unsound, write-short, write-whole}
 use Rattle.simulator.proofs.write.Statement.{statement}
 use Rattle.simulator.proofs.write.Tie as tie

@@ -18,7 +18,7 @@ use Rattle.planwriter.specs.declared.PlanWritten.{PlanWritten}
 use Rattle.planwriter.specs.declared.PlanWritten.the-variants.{Short, Length}
 use Rattle.machine.specs.Start.{startState, idleState}
 use Rattle.machine.specs.SoundTest.{isSound}
-use Rattle.machine.specs.Laws.Tested.{sound-means}
+use Rattle.machine.specs.Laws.SoundTest.{sound-means}
 use Rattle.machine.specs.declared.State.{State}
 use Rattle.machine.specs.Instant.{positionAt}
 use Rattle.machine.specs.Status.{statusNumber, statusIntegrator}
@@ -27,9 +27,9 @@ use Rattle.machine.specs.declared.Engine.{Engine}
 use Rattle.timing.specs.Ticks.{PositionReady}
 use Rattle.timing.specs.Laws.Statuses.{ready-at}
 use Rattle.steps.specs.Events.{putAt}
-use Rattle.engine.specs.Running.{endedOf, RunReady}
+use Rattle.engine.specs.RunAnswer.{endedOf, RunReady}
 use Rattle.engine.specs.declared.runs.Ended.{Ended}
-use Rattle.calls.specs.Calls.{loadOf, writeNumber, writeOf, bufferOfWrite, roomOf, declineOf, runNumber, ranState, ranEvents}
+use Rattle.calls.specs.Calls.{loadOf, writeNumber, writeOf, bufferOfWrite, bytesNeeded, runNumberIfSound, runNumber, ranState, ranEvents}
 use Rattle.calls.specs.Calls.{runOf, bufferOfRun, positionNumber, positionedOf}
 use Rattle.calls.specs.declared.Loaded.{Loaded}
 use Rattle.calls.specs.declared.Written.{Written}
@@ -81,12 +81,12 @@ module _ (engine : Engine) (st : State) (budget : ℕ) (buffer : List ℕ) where
 
   module _ (yes : isSound st ≡ true) where
     pub run-above : 1024 < budget → RanAs (declinedWith 11 st) buffer
-    unfolding runOf bufferOfRun runNumber declineOf
+    unfolding runOf bufferOfRun runNumber runNumberIfSound
     run-above h = let above = lt-leb budget 1024 h in (rw (yes, above), rw (yes, above))
 
     module _ (few : budget ≤ 1024) where
       pub run-short : length buffer < budget * (st .plan .counts .n + st .plan .counts .m) * 12 → RanAs (declinedWith 12 st) buffer
-      unfolding runOf bufferOfRun runNumber declineOf roomOf
+      unfolding runOf bufferOfRun runNumber runNumberIfSound bytesNeeded
       run-short h =
           let within = le-leb budget 1024 few in let short = lt-leb (budget * (st .plan .counts .n + st .plan .counts .m) * 12) (length buffer) h in
           (rw (yes, within, short), rw (yes, within, short))
@@ -106,7 +106,7 @@ module _ (engine : Engine) (st : State) (budget : ℕ) (buffer : List ℕ) where
               written = ended .written;
               state = record { plan = st .plan; run = ended .run };
             }) after
-        unfolding runOf bufferOfRun runNumber declineOf roomOf ranState ranEvents endedOf putAt
+        unfolding runOf bufferOfRun runNumber runNumberIfSound bytesNeeded ranState ranEvents endedOf putAt
         run-accepted e s i a =
             let within = le-leb budget 1024 few in
             let enough = le-leb (budget * (st .plan .counts .n + st .plan .counts .m) * 12) (length buffer) room in

@@ -7,18 +7,18 @@ use mathlib.Core.Path.{_≡_, refl}
 use Rattle.plan.specs.Lists.{every}
 use Rattle.plan.specs.Tests.{countsKept}
 use Rattle.plan.specs.Refusals.{isClean, planFinding}
-use Rattle.plan.specs.Unused.{planUnused}
-use Rattle.plan.specs.Laws.Refused.{plan-rules}
+use Rattle.plan.specs.Unused.{planUnusedZero}
+use Rattle.plan.specs.Laws.PlanRefusals.{plan-rules}
 use Rattle.machine.specs.SoundTest.{planSound, runningSound, isSound}
 use Rattle.entryrules.specs.Laws.Testing.{held, failed}
-use Rattle.unused.specs.Laws.Chain.{passes, Passed, begin, next, passed-at, fails, last}
+use Rattle.unused.specs.Laws.EarlyReturns.{passes, Passed, begin, next, passed-at, fails, last}
 use Rattle.soundness.proofs.is_sound.Statement.{statement}
 use Rattle.soundness.proofs.is_sound.Tie as tie
 
 -- the tests in their order, of the state at the entry
 abbrev tests : tie.Start → List Bool
 tests c =
-    let p = c .args .st .plan in (countsKept p && isClean (planFinding p)) ∷ planUnused p ∷ runningSound p (c .args .st .run) ∷ []
+    let p = c .args .st .plan in (countsKept p && isClean (planFinding p)) ∷ planUnusedZero p ∷ runningSound p (c .args .st .run) ∷ []
 
 all-of : (c : tie.Start) → passes (tests c) 3 ≡ isSound (c .args .st)
 unfolding passes every isSound planSound

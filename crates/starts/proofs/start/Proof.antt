@@ -2,7 +2,7 @@
 use mathlib.Core.Path.{_≡_}
 use lib.IntN.{pos}
 use Rattle.plan.specs.Lists.{row}
-use Rattle.plan.specs.Laws.Counts.{counts-of}
+use Rattle.plan.specs.Laws.CountLimits.{count-limits}
 use Rattle.machine.specs.Next.{nextCommand}
 use Rattle.machine.specs.Start.{startSlope}
 use Rattle.starts.specs.Laws.Starts.{start-nodes-ready, start-rates-ready, start-slopes, start-dues-ready, start-dues, start-is}
@@ -22,17 +22,17 @@ entry c = c .before .before .before .before .before .before .before .before .bef
 source-values-requires : tie.Need-source-values-requires
 source-values-requires c κs =
     let b = c .before .before .before .before .before .before .before .before in let p = b .args .t1 in
-    let counts = counts-of p (b .pre .counts) in (counts .n, counts .m, start-nodes-ready p (b .pre))
+    let counts = count-limits p (b .pre .counts) in (counts .n, counts .m, start-nodes-ready p (b .pre))
 
 link-ranges-requires : tie.Need-link-ranges-requires
 link-ranges-requires c κs =
     let b = entry (c .before .before) in
-    let counts = counts-of (b .args .t1) (b .pre .counts) in (counts .n, counts .links)
+    let counts = count-limits (b .args .t1) (b .pre .counts) in (counts .n, counts .links)
 
 rates-requires : tie.Need-rates-requires
 rates-requires c κs =
     let l = c .before .before .before .before .before in let v = valued l in let b = entry v in let p = b .args .t1 in
-    (counts-of p (b .pre .counts) .n, start-rates-ready p (b .pre) (v .source-values .ensures) (l .link-ranges .ensures))
+    (count-limits p (b .pre .counts) .n, start-rates-ready p (b .pre) (v .source-values .ensures) (l .link-ranges .ensures))
 
 -- the slopes that `rates` gives
 slopes : (c : tie.After-rates) → let p = entry (valued (ranged c)) .args .t1 in c .rates .result ≡ row (pos 0) 32 (p .counts .n) (startSlope p)
@@ -40,22 +40,22 @@ slopes c =
     let l = ranged c in let v = valued l in let b = entry v in
     start-slopes (b .args .t1) (b .pre) (v .source-values .ensures) (l .link-ranges .ensures) (c .rates .ensures)
 
-first-dues-requires : tie.Need-first-dues-requires
-first-dues-requires c κs =
+start-dues-requires : tie.Need-start-dues-requires
+start-dues-requires c κs =
     let r = c .before .before .before .before in let b = entry (valued (ranged r)) in let p = b .args .t1 in
-    (counts-of p (b .pre .counts) .n, start-dues-ready p (b .pre) (slopes r))
+    (count-limits p (b .pre .counts) .n, start-dues-ready p (b .pre) (slopes r))
 
 next-command-requires : tie.Need-next-command-requires
 next-command-requires c κs =
     let b = entry (valued (ranged (c .before .before .before .before .before .before .before))) in
-    counts-of (b .args .t1) (b .pre .counts) .commands
+    count-limits (b .args .t1) (b .pre .counts) .commands
 
 returns : tie.Need-returns
 unfolding nextCommand
 returns c =
     let d = c .before .before .before .before .before in let r = d .before .before .before .before .before in
     let b = entry (valued (ranged r)) in let p = b .args .t1 in
-    start-is p (slopes r) (start-dues p (b .pre) (slopes r) (d .first-dues .ensures)) (c .before .before .next-command .ensures)
+    start-is p (slopes r) (start-dues p (b .pre) (slopes r) (d .start-dues .ensures)) (c .before .before .next-command .ensures)
 
 pub start-spec : {M : Type 1} → statement M
 start-spec =
@@ -64,6 +64,6 @@ start-spec =
     source-values-requires
     link-ranges-requires
     rates-requires
-    first-dues-requires
+    start-dues-requires
     next-command-requires
     returns)

@@ -11,17 +11,17 @@ use Rattle.bitset.specs.Mask.{each}
 use Rattle.plan.specs.Numbers.{M}
 use Rattle.plan.specs.Lists.{natAt, intAt, row}
 use Rattle.plan.specs.Rules.{PlanRules}
-use Rattle.plan.specs.Laws.Counts.{counts-of}
-use Rattle.plan.specs.Laws.Means.{within-size}
+use Rattle.plan.specs.Laws.CountLimits.{count-limits}
+use Rattle.plan.specs.Laws.TestMeanings.{within-size}
 use Rattle.plan.specs.Laws.Rows.{table-ext, row-at, row-ext, row-none}
 use Rattle.plan.specs.declared.Plan.{Plan}
 use Rattle.machine.specs.Due.{dueTick}
 use Rattle.machine.specs.Next.{nextCommand}
 use Rattle.machine.specs.Start.{startSlope, startDue, startOf}
 use Rattle.machine.specs.declared.Running.{Running}
-use Rattle.values.specs.Sources.{valuesOf, firstValues, nodeStep, NodesReady}
+use Rattle.values.specs.Sources.{valuesOf, outputAndInputValues, nodeStep, NodesReady}
 use Rattle.values.specs.Laws.SourceValues.{nodes-ready, first-sized, values-at, values-sized, all-nodes}
-use Rattle.rates.specs.Links.{firstLink, rangesOf, rangeRate, AllRated}
+use Rattle.rates.specs.Links.{firstLink, rangesOf, rangeRate, RatesReady}
 use Rattle.rates.specs.Laws.OwnRange.{own-rated, own-rates}
 use Rattle.timing.specs.Laws.Dues.{due-ready-start, due-is-start}
 use Rattle.starts.specs.Starting.{StartsReady}
@@ -43,13 +43,13 @@ module _ (p : Plan) (rules : PlanRules p) where
   inputs j h = within-size M (intAt (p .inputs .firsts) j) .0 (rules .inputs j h)
 
   -- ---- the values of sources
-  pub start-nodes-ready : NodesReady (p .nodes .a) (p .nodes .b) (p .nodes .lows) (p .nodes .highs) (firstValues (p .counts .n) (p .counts .m) (p .integrators .starts) (p .inputs .firsts)) (p .counts .n + p .counts .m) (p .counts .k)
+  pub start-nodes-ready : NodesReady (p .nodes .a) (p .nodes .b) (p .nodes .lows) (p .nodes .highs) (outputAndInputValues (p .counts .n) (p .counts .m) (p .integrators .starts) (p .inputs .firsts)) (p .counts .n + p .counts .m) (p .counts .k)
   start-nodes-ready = nodes-ready p rules _ (first-sized p (p .integrators .starts) (p .inputs .firsts) rules outputs inputs)
 
   -- ---- the slopes
   module _ {values : List ℤ} {ranges : List ℕ}
       (worked : values ≡ each (nodeStep (p .nodes .kinds) (p .nodes .a) (p .nodes .b) (p .nodes .lows) (p .nodes .highs) (p .counts .n + p .counts .m)) (λ _. true) (p .counts .k)
-      (firstValues (p .counts .n) (p .counts .m) (p .integrators .starts) (p .inputs .firsts)))
+      (outputAndInputValues (p .counts .n) (p .counts .m) (p .integrators .starts) (p .inputs .firsts)))
       (found : ranges ≡ row 0 33 (p .counts .n + 1) (firstLink (p .links .targets) (p .counts .links))) where
     values-are : values ≡ valuesOf p (p .integrators .starts) (p .inputs .firsts)
     values-are = worked ∙ all-nodes p (p .integrators .starts) (p .inputs .firsts) rules
@@ -58,7 +58,7 @@ module _ (p : Plan) (rules : PlanRules p) where
     unfolding rangesOf
     ranges-are = found
 
-    pub start-rates-ready : AllRated (p .counts .n) ranges (p .links .sources) (p .links .coefficients) values
+    pub start-rates-ready : RatesReady (p .counts .n) ranges (p .links .sources) (p .links .coefficients) values
     start-rates-ready = rw (values-are, ranges-are) (own-rated p rules _ (values-sized p (p .integrators .starts) (p .inputs .firsts) rules outputs inputs))
 
     pub start-slopes : {s : List ℤ}
@@ -70,7 +70,7 @@ module _ (p : Plan) (rules : PlanRules p) where
   -- ---- the due ticks
   module _ {s : List ℤ} (slopes : s ≡ row (pos 0) 32 (p .counts .n) (startSlope p)) where
     slope-at : (i : ℕ) → i < p .counts .n → intAt s i ≡ startSlope p i
-    slope-at i h = rw slopes (row-at (pos 0) 32 (p .counts .n) (startSlope p) i (counts-of p (rules .counts) .n) h)
+    slope-at i h = rw slopes (row-at (pos 0) 32 (p .counts .n) (startSlope p) i (count-limits p (rules .counts) .n) h)
 
     pub start-dues-ready : StartsReady (p .counts .n) (p .integrators .starts) (p .integrators .quanta) s
     start-dues-ready i h = rw (slope-at i h) (due-ready-start p i rules h)

@@ -18,8 +18,8 @@ use Rattle.bitset.specs.Mask.{has, maskOf}
 use Rattle.bitset.specs.Laws.Bits.{has-none, has-with, with-lt, mask-ext, maskOf-lt, has-maskOf}
 use Rattle.plan.specs.Lists.{natAt, intAt, some}
 use Rattle.plan.specs.Rules.{PlanRules}
-use Rattle.plan.specs.Laws.Counts.{counts-of}
-use Rattle.plan.specs.Laws.Means.{means-false}
+use Rattle.plan.specs.Laws.CountLimits.{count-limits}
+use Rattle.plan.specs.Laws.TestMeanings.{means-false}
 use Rattle.plan.specs.Laws.Rows.{row-at}
 use Rattle.plan.specs.Laws.Searches.{below-suc}
 use Rattle.plan.specs.declared.Plan.{Plan}
@@ -111,7 +111,7 @@ module _ (p : Plan) (rules : PlanRules p) (u values : List ℤ) (t : ℕ) (wide 
       let k = natAt (p .commands .inputs) (o .next) in
       let v = intAt (p .commands .values) (o .next) in
       let rule = rules .commands (o .next) h in
-      let limits = counts-of p (rules .counts) in
+      let limits = count-limits p (rules .counts) in
       record {
         most = omega arith;
         earlier = λ d l. let b : d < suc e = omega arith in below-suc (λ d. natAt (p .commands .ticks) d ≤ t) b (w .earlier d) (omega arith);
@@ -212,7 +212,7 @@ module _ (p : Plan) (rules : PlanRules p) (u values : List ℤ) where
     commands-done : Obeyed p u values t o
     unfolding inputsThen
     commands-done =
-        let limits = counts-of p (rules .counts) in
+        let limits = count-limits p (rules .counts) in
         record {
           commanded-are =
               mask-ext (p .counts .m) (o .commanded) (maskOf (isCommanded p t) (p .counts .m)) (w .small) (maskOf-lt (isCommanded p t) (p .counts .m))
@@ -248,7 +248,7 @@ module _ {p : Plan} {u values : List ℤ} {t : ℕ} {o : AfterCommands} (done : 
 pub commands-in-range : (p : Plan) → PlanRules p → (next clock : ℕ) → next ≡ nextCommand p clock
     → CommandsInRange (p .counts .n) (p .counts .commands) (p .commands .inputs) next
 commands-in-range p rules next clock e =
-    let limits = counts-of p (rules .counts) in
+    let limits = count-limits p (rules .counts) in
     record {
       order = rw e (command-most p clock);
       few = limits .commands;

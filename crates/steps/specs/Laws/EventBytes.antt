@@ -16,7 +16,7 @@ use Rattle.bitset.specs.Laws.Counts.{countOf-le}
 use Rattle.plan.specs.Numbers.{M}
 use Rattle.plan.specs.Lists.{intAt, joined}
 use Rattle.plan.specs.Rules.{PlanRules}
-use Rattle.plan.specs.Laws.Counts.{counts-of}
+use Rattle.plan.specs.Laws.CountLimits.{count-limits}
 use Rattle.plan.specs.declared.Plan.{Plan}
 use Rattle.machine.specs.Values.{valueWith}
 use Rattle.machine.specs.Reach.{changes}
@@ -48,7 +48,7 @@ module _ (p : Plan) (rules : PlanRules p) (d : List ℕ) (t : ℕ) (q u values :
   pub events-are : eventsIn changed t values ≡ eventsAt p t d q u
   unfolding eventsIn eventsAt
   events-are =
-      let limits = counts-of p (rules .counts) in
+      let limits = count-limits p (rules .counts) in
       let all : p .counts .n + p .counts .m + (64 - (p .counts .n + p .counts .m)) ≡ 64 = omega arith in
       ap (joined written) (sym all) ∙ joined-cut written (p .counts .n + p .counts .m) (64 - (p .counts .n + p .counts .m)) (λ i h. rw (changed-above i h))
       ∙ joined-ext written (λ i. cond (changes p d t i) (eventBytes t i (valueWith p q u zero i)) []) (p .counts .n + p .counts .m)

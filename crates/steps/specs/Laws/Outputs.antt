@@ -9,14 +9,14 @@ use lib.Seq.{getD-set-same, getD-set-other}
 use Rattle.bitset.specs.Mask.{has, maskOf, each}
 use Rattle.plan.specs.Lists.{intAt}
 use Rattle.plan.specs.Numbers.{sourceWidth}
-use Rattle.plan.specs.Laws.Counts.{Counts}
+use Rattle.plan.specs.Laws.CountLimits.{CountLimits}
 use Rattle.plan.specs.declared.Plan.{Plan}
 use Rattle.machine.specs.Reach.{isDue}
 use Rattle.machine.specs.Instant.{positionAt, outputs}
-use Rattle.machine.specs.Laws.Taken.{outputs-at}
+use Rattle.machine.specs.Laws.InstantFigures.{outputs-at}
 use Rattle.machine.specs.declared.Running.{Running}
 use Rattle.steps.specs.Outputs.{afterOutput}
-use Rattle.steps.specs.Laws.Walks.{Stores, Walked, walked}
+use Rattle.steps.specs.Laws.MaskLoops.{Stores, Visited, visited}
 
 -- ---- one output
 abbrev taken : (r : Running) (t i : ℕ) (before : ℤ) → ℤ
@@ -35,12 +35,12 @@ output-stored r t =
     }
 
 -- ---- all of the due ones
-module _ (p : Plan) (limits : Counts p) (r : Running) (t due : ℕ) (due-set : due ≡ maskOf (isDue (r .d) t) (p .counts .n)) (before : List ℤ)
+module _ (p : Plan) (limits : CountLimits p) (r : Running) (t due : ℕ) (due-set : due ≡ maskOf (isDue (r .d) t) (p .counts .n)) (before : List ℤ)
     (full : Full before) (values : List ℤ) (walk : values ≡ each (afterOutput t (r .x) (r .s) (r .l)) (has due) 32 before) where
-  all-stored : Walked intAt (taken r t) Full (isDue (r .d) t) (p .counts .n) before values
+  all-stored : Visited intAt (taken r t) Full (isDue (r .d) t) (p .counts .n) before values
   all-stored =
       rw (walk, due-set)
-      (walked (output-stored r t) (isDue (r .d) t) before full (p .counts .n) 32 (limits .n) (omega (arith, limits .n)))
+      (visited (output-stored r t) (isDue (r .d) t) before full (p .counts .n) 32 (limits .n) (omega (arith, limits .n)))
 
   pub values-full : length values ≡ sourceWidth
   values-full = all-stored .full

@@ -9,24 +9,24 @@ use Rattle.integers.specs.Parts.{∣_∣}
 use Rattle.plan.specs.Numbers.{M}
 use Rattle.plan.specs.Lists.{natAt, intAt}
 use Rattle.plan.specs.Rules.{PlanRules}
-use Rattle.plan.specs.Laws.Counts.{Counts}
-use Rattle.plan.specs.Laws.Means.{within-size}
+use Rattle.plan.specs.Laws.CountLimits.{CountLimits}
+use Rattle.plan.specs.Laws.TestMeanings.{within-size}
 use Rattle.plan.specs.declared.Plan.{Plan}
 use Rattle.machine.specs.Values.{rateOf}
 use Rattle.machine.specs.Due.{upperLevel, lowerLevel, dueTick, dueOf}
 use Rattle.machine.specs.Start.{startSlope, startDue}
 use Rattle.machine.specs.Instant.{positionAt, inputsThen, outputs, slopeThen, dueThen}
 use Rattle.machine.specs.Sound.{SoundRunning}
-use Rattle.machine.specs.Laws.Between.{Between, near-between, near-itself}
+use Rattle.machine.specs.Laws.BetweenLevels.{BetweenLevels, near-between, near-itself}
 use Rattle.machine.specs.Laws.Sizes.{rate-most}
-use Rattle.machine.specs.Laws.Taken.{x-then}
+use Rattle.machine.specs.Laws.InstantFigures.{x-then}
 use Rattle.machine.specs.Laws.Soundness.{Takes, output-size, input-then-size, near-output}
 use Rattle.machine.specs.declared.Running.{Running}
 use Rattle.timing.specs.Ticks.{DueReady}
 
 -- with outputs q and input values u within ±M, from a tick up to the horizon, for x strictly between the levels
 pub due-ready : (p : Plan) → PlanRules p → (q u : List ℤ) → ((i : ℕ) → i < p .counts .n → ∣ intAt q i ∣ ≤ M) → ((j : ℕ) → j < p .counts .m → ∣ intAt u j ∣ ≤ M)
-    → (from : ℕ) → from ≤ p .horizon → (i : ℕ) → i < p .counts .n → (x : ℤ) → Between p q i x
+    → (from : ℕ) → from ≤ p .horizon → (i : ℕ) → i < p .counts .n → (x : ℤ) → BetweenLevels p q i x
     → DueReady from x (intAt q i) (intAt (p .integrators .quanta) i) (rateOf p q u i)
 unfolding upperLevel lowerLevel
 due-ready p rules q u outputs inputs from early i used x inside =
@@ -73,7 +73,7 @@ module _ (p : Plan) (r : Running) (ok : SoundRunning p r) where
       t (takes .until) i used (positionAt r t i)
       (near-between p (outputs p r t) i (positionAt r t i) .0 (near-output p r ok t takes i used))
 
-pub due-is-then : (p : Plan) → Counts p → (r : Running) (t i : ℕ) → i < p .counts .n
+pub due-is-then : (p : Plan) → CountLimits p → (r : Running) (t i : ℕ) → i < p .counts .n
     → dueTick t (positionAt r t i) (intAt (outputs p r t) i +ℤ intAt (p .integrators .quanta) i) (intAt (outputs p r t) i -ℤ intAt (p .integrators .quanta) i) (slopeThen p r t i)
     ≡ dueThen p r t i
 unfolding dueThen dueOf upperLevel lowerLevel

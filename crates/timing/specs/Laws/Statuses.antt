@@ -12,7 +12,7 @@ use Rattle.plan.specs.Lists.{natAt, intAt, firstFrom}
 use Rattle.plan.specs.Laws.Searches.{first-ext}
 use Rattle.plan.specs.declared.Plan.{Plan}
 use Rattle.machine.specs.Reach.{isDue}
-use Rattle.machine.specs.Instant.{positionAt, tickOf}
+use Rattle.machine.specs.Instant.{positionAt, nextTickOf}
 use Rattle.machine.specs.Status.{bars, barring, statusBy, statusAt, statusOf}
 use Rattle.machine.specs.Sound.{SoundRunning}
 use Rattle.machine.specs.Laws.Levels.{inside-size}
@@ -55,7 +55,7 @@ module _ (p : Plan) (r : Running) where
       record { ready = λ i b. let h = due-bit t i (rw e at b) in ready-at ok t since i (h .0) (omega (arith, h .1)) }
 
   -- at the next instant, which lies past the clock
-  pub due-ready : SoundRunning p r → {t due : ℕ} → t ≡ tickOf p r → due ≡ maskOf (isDue (r .d) t) (p .counts .n)
+  pub due-ready : SoundRunning p r → {t due : ℕ} → t ≡ nextTickOf p r → due ≡ maskOf (isDue (r .d) t) (p .counts .n)
       → DuePositionsReady due t (r .x) (r .s) (r .l)
   due-ready ok e = due-ready-from ok (omega (arith, tick-after p r ok))
 
@@ -66,7 +66,7 @@ module _ (p : Plan) (r : Running) where
   barring-by-mask t e = rw e (first-ext _ _ 0 (p .counts .n) (λ i h. rw (has-maskOf (isDue (r .d) t) (p .counts .n) i (omega arith))))
 
   -- what `status_at` says for the mask of the due ones
-  pub status-by-mask : {t due : ℕ} → t ≡ tickOf p r → due ≡ maskOf (isDue (r .d) t) (p .counts .n)
+  pub status-by-mask : {t due : ℕ} → t ≡ nextTickOf p r → due ≡ maskOf (isDue (r .d) t) (p .counts .n)
       → statusBy (p .horizon) (p .counts .n) t (firstFrom (barsIn due t (r .x) (r .s) (r .l)) 0 (p .counts .n)) ≡ statusOf p r
   unfolding statusAt statusOf
   status-by-mask e d = rw (barring-by-mask _ d, e)

@@ -13,7 +13,7 @@ use lib.Signed.{leZ}
 use Rattle.integers.specs.Laws.Parts.{zs}
 use Rattle.integers.specs.Laws.Signed64.{fits-sub, fits-mul, sized}
 use Rattle.plan.specs.Numbers.{M}
-use Rattle.machine.specs.Values.{nodeOf}
+use Rattle.machine.specs.Values.{nodeValue}
 use Rattle.values.proofs.node_value.Statement.{statement}
 use Rattle.values.proofs.node_value.Tie as tie
 
@@ -31,7 +31,7 @@ clip-requires : tie.Need-clip-requires
 clip-requires c κs = search needs
 
 returns : tie.Need-returns
-unfolding nodeOf
+unfolding nodeValue
 returns c =
     let s = c .before .before in let a = s .fits .a in let b = s .fits .b in let f = difference-fits s in
     toZ-ofZ (sfits-of (c .clip .ok)) ∙ c .clip .ensures ∙ simp (toZ-ofZ, c .before .if1 .taken)
@@ -46,7 +46,7 @@ clip-requires-2 : tie.Need-clip-requires-2
 clip-requires-2 c κs = search needs
 
 returns-2 : tie.Need-returns-2
-unfolding nodeOf
+unfolding nodeValue
 returns-2 c =
     let s = c .before .before .before .before in let a = s .fits .a in let b = s .fits .b in let f = product-fits s in
     toZ-ofZ (sfits-of (c .clip2 .ok)) ∙ c .clip2 .ensures
@@ -56,13 +56,13 @@ limit-requires : tie.Need-limit-requires
 limit-requires c κs = search needs
 
 returns-3 : tie.Need-returns-3
-unfolding nodeOf
+unfolding nodeValue
 returns-3 c =
     let s = c .before .before .before .before in let a = s .fits .a in let lo = s .fits .lo in let hi = s .fits .hi in
     toZ-ofZ (sfits-of (c .limit .ok)) ∙ c .limit .ensures ∙ simp (toZ-ofZ, c .before .if3 .taken)
 
 returns-4 : tie.Need-returns-4
-unfolding nodeOf
+unfolding nodeValue
 returns-4 c =
     let s = c .before .before .before .before in let a = s .fits .a in let b = s .fits .b in
     let test : leZ (s .args .b) (s .args .a) ≡ true = omega (arith, zs, simp toZ-ofZ at (c .if4 .taken)) in
@@ -75,7 +75,7 @@ returns-4 c =
     )
 
 returns-5 : tie.Need-returns-5
-unfolding nodeOf
+unfolding nodeValue
 returns-5 c =
     let s = c .before .before .before .before in let a = s .fits .a in let b = s .fits .b in
     let test : leZ (s .args .b) (s .args .a) ≡ false = omega (arith, zs, simp toZ-ofZ at (c .if4 .left)) in

@@ -17,30 +17,30 @@ use Rattle.bitset.specs.Mask.{each}
 use Rattle.plan.specs.Numbers.{M}
 use Rattle.plan.specs.Lists.{natAt, intAt, row}
 use Rattle.plan.specs.Rules.{NodeRule, PlanRules}
-use Rattle.plan.specs.Laws.Counts.{Counts, counts-of}
-use Rattle.plan.specs.Laws.Means.{within-size}
+use Rattle.plan.specs.Laws.CountLimits.{CountLimits, count-limits}
+use Rattle.plan.specs.Laws.TestMeanings.{within-size}
 use Rattle.plan.specs.Laws.Rows.{length-row, row-at, row-unused}
 use Rattle.plan.specs.Laws.Small.{node-limits}
 use Rattle.plan.specs.declared.Plan.{Plan}
-use Rattle.machine.specs.Values.{nodeOf, valueWith, valueOf}
+use Rattle.machine.specs.Values.{nodeValue, valueWith, valueOf}
 use Rattle.machine.specs.Laws.Sizes.{value-size}
 use Rattle.machine.specs.Laws.Values.{value-settled, worked-out}
-use Rattle.values.specs.Sources.{valuesOf, firstValues, nodeFrom, nodeStep, NodesReady}
+use Rattle.values.specs.Sources.{valuesOf, outputAndInputValues, nodeFrom, nodeStep, NodesReady}
 use Rattle.values.specs.Laws.NodeSteps.{step-length, step-own, step-other}
 
 -- all sources have room in the array
 room : (p : Plan) → PlanRules p → p .counts .n + p .counts .m + p .counts .k ≤ 64
-room p rules = go (counts-of p (rules .counts))
+room p rules = go (count-limits p (rules .counts))
   where
-    go : Counts p → p .counts .n + p .counts .m + p .counts .k ≤ 64
+    go : CountLimits p → p .counts .n + p .counts .m + p .counts .k ≤ 64
     go c = omega arith
 
 -- both operands stand below their node, also the 0 that names nothing
 operands-below : (p : Plan) → PlanRules p → (j : ℕ) → j < p .counts .k
     → (natAt (p .nodes .a) j < p .counts .n + p .counts .m + j) × (natAt (p .nodes .b) j < p .counts .n + p .counts .m + j)
-operands-below p rules j h = go (counts-of p (rules .counts)) (rules .nodes j h) (eqb (natAt (p .nodes .kinds) j) 2) refl
+operands-below p rules j h = go (count-limits p (rules .counts)) (rules .nodes j h) (eqb (natAt (p .nodes .kinds) j) 2) refl
   where
-    go : Counts p → NodeRule p j → (b : Bool) → eqb (natAt (p .nodes .kinds) j) 2 ≡ b
+    go : CountLimits p → NodeRule p j → (b : Bool) → eqb (natAt (p .nodes .kinds) j) 2 ≡ b
         → (natAt (p .nodes .a) j < p .counts .n + p .counts .m + j) × (natAt (p .nodes .b) j < p .counts .n + p .counts .m + j)
     go c r true e = (r .left, omega (arith, r .unused (eqb-true (natAt (p .nodes .kinds) j) 2 e)))
     go c r false e = (r .left, r .right (eqb-false (natAt (p .nodes .kinds) j) 2 e))
@@ -50,7 +50,7 @@ pub nodes-ready : (p : Plan) → PlanRules p → (values : List ℤ) → ((i : �
     → NodesReady (p .nodes .a) (p .nodes .b) (p .nodes .lows) (p .nodes .highs) values (p .counts .n + p .counts .m) (p .counts .k)
 nodes-ready p rules values sized =
     record {
-      few = counts-of p (rules .counts) .k;
+      few = count-limits p (rules .counts) .k;
       room = room p rules;
       left = λ j h. omega (arith, operands-below p rules j h .0, room p rules);
       right = λ j h. omega (arith, operands-below p rules j h .1, room p rules);
@@ -80,8 +80,8 @@ module _ (p : Plan) (q u : List ℤ) (rules : PlanRules p) where
   values-unused i h = row-unused (pos 0) 64 (p .counts .n + p .counts .m + p .counts .k) (valueOf p q u) i h
 
   module _ (outputs : (i : ℕ) → i < p .counts .n → ∣ intAt q i ∣ ≤ M) (inputs : (j : ℕ) → j < p .counts .m → ∣ intAt u j ∣ ≤ M) where
-    pub first-sized : (i : ℕ) → ∣ intAt (firstValues (p .counts .n) (p .counts .m) q u) i ∣ ≤ M
-    unfolding firstValues
+    pub first-sized : (i : ℕ) → ∣ intAt (outputAndInputValues (p .counts .n) (p .counts .m) q u) i ∣ ≤ M
+    unfolding outputAndInputValues
     first-sized = row-sized (p .counts .n + p .counts .m) _ (omega (arith, room p rules)) (λ i h. go i h (ltb i (p .counts .n)) refl)
       where
         go : (i : ℕ) → i < p .counts .n + p .counts .m → (b : Bool) → ltb i (p .counts .n) ≡ b → ∣ cond b (intAt q i) (intAt u (i - p .counts .n)) ∣ ≤ M
@@ -101,11 +101,11 @@ module _ (p : Plan) (q u : List ℤ) (rules : PlanRules p) where
 
   -- a node's value by those of its operands
   node-by-operands : (j : ℕ) → j < p .counts .k
-      → nodeOf (natAt (p .nodes .kinds) j) (intAt (p .nodes .lows) j) (intAt (p .nodes .highs) j) (valueOf p q u (natAt (p .nodes .a) j)) (valueOf p q u (natAt (p .nodes .b) j))
+      → nodeValue (natAt (p .nodes .kinds) j) (intAt (p .nodes .lows) j) (intAt (p .nodes .highs) j) (valueOf p q u (natAt (p .nodes .a) j)) (valueOf p q u (natAt (p .nodes .b) j))
       ≡ valueOf p q u (base + j)
   node-by-operands j h =
       let below = operands-below p rules j h in
-      ap₂ (nodeOf (natAt (p .nodes .kinds) j) (intAt (p .nodes .lows) j) (intAt (p .nodes .highs) j)) (value-settled p q u j (natAt (p .nodes .a) j) (omega arith) (below .0))
+      ap₂ (nodeValue (natAt (p .nodes .kinds) j) (intAt (p .nodes .lows) j) (intAt (p .nodes .highs) j)) (value-settled p q u j (natAt (p .nodes .a) j) (omega arith) (below .0))
       (value-settled p q u j (natAt (p .nodes .b) j) (omega arith) (below .1))
       ∙ sym (worked-out p q u rules j h)
 
@@ -142,7 +142,7 @@ module _ (p : Plan) (q u : List ℤ) (rules : PlanRules p) where
         own : nodeFrom (p .nodes .kinds) (p .nodes .a) (p .nodes .b) (p .nodes .lows) (p .nodes .highs) base j now ≡ valueOf p q u (base + j)
         own =
             let b = operands-below p rules j h in
-            ap₂ (nodeOf (natAt (p .nodes .kinds) j) (intAt (p .nodes .lows) j) (intAt (p .nodes .highs) j)) (v .below (natAt (p .nodes .a) j) (b .0))
+            ap₂ (nodeValue (natAt (p .nodes .kinds) j) (intAt (p .nodes .lows) j) (intAt (p .nodes .highs) j)) (v .below (natAt (p .nodes .a) j) (b .0))
             (v .below (natAt (p .nodes .b) j) (b .1))
             ∙ node-by-operands j h
 
@@ -176,11 +176,11 @@ module _ (p : Plan) (q u : List ℤ) (rules : PlanRules p) where
         go i false e =
             let h = ltb-false i (base + p .counts .k) e in visited (p .counts .k) (omega arith) .above i h ∙ unused i h ∙ sym (values-unused i h)
 
-  pub all-nodes : each step (λ _. true) (p .counts .k) (firstValues (p .counts .n) (p .counts .m) q u) ≡ valuesOf p q u
-  unfolding firstValues valueWith
+  pub all-nodes : each step (λ _. true) (p .counts .k) (outputAndInputValues (p .counts .n) (p .counts .m) q u) ≡ valuesOf p q u
+  unfolding outputAndInputValues valueWith
   all-nodes =
-      touched-worked (λ _. true) (firstValues (p .counts .n) (p .counts .m) q u) (length-row (pos 0) 64 base _) first (λ j h e. absurd (true≢false e))
+      touched-worked (λ _. true) (outputAndInputValues (p .counts .n) (p .counts .m) q u) (length-row (pos 0) 64 base _) first (λ j h e. absurd (true≢false e))
       (λ i h. row-unused (pos 0) 64 base _ i (omega arith))
     where
-      first : (i : ℕ) → i < base → intAt (firstValues (p .counts .n) (p .counts .m) q u) i ≡ valueWith p q u zero i
+      first : (i : ℕ) → i < base → intAt (outputAndInputValues (p .counts .n) (p .counts .m) q u) i ≡ valueWith p q u zero i
       first i h = row-at (pos 0) 64 base _ i (omega (arith, room p rules)) h ∙ rw (lt-ltb i base h)

@@ -11,7 +11,7 @@ use Rattle.bitset.specs.Mask.{has, maskOf, each}
 use Rattle.bitset.specs.Laws.Visiting.{each-mask}
 use Rattle.plan.specs.Lists.{intAt}
 use Rattle.plan.specs.Rules.{PlanRules}
-use Rattle.plan.specs.Laws.Counts.{counts-of}
+use Rattle.plan.specs.Laws.CountLimits.{count-limits}
 use Rattle.plan.specs.declared.Plan.{Plan}
 use Rattle.machine.specs.Reach.{isDue, isCommanded, dependsWith}
 use Rattle.machine.specs.Values.{valueWith, valueOf}
@@ -50,5 +50,5 @@ module _ (p : Plan) (rules : PlanRules p) (d : List ℕ) (t : ℕ) (q u q₀ u�
   -- as the code visits them, by a mask
   pub touched-mask : (nodes : ℕ) → nodes ≡ maskOf depends (p .counts .k) → each step (has nodes) 32 values ≡ valuesOf p q u
   touched-mask nodes e =
-      let few = counts-of p (rules .counts) .k in
+      let few = count-limits p (rules .counts) .k in
       rw e (each-mask step depends (p .counts .k) 32 values (omega arith)) ∙ touched-nodes depends (λ j h. refl)

@@ -7,17 +7,17 @@ use native.Mathlib.Omega.{arith}
 use lib.ListN.{length}
 use borrow.Author.Needs.{needs}
 use borrow.Author.Tests.{not-true, not-false}
-use Rattle.plan.specs.Laws.Counts.{Counts, counts-of}
+use Rattle.plan.specs.Laws.CountLimits.{CountLimits, count-limits}
 use Rattle.plan.specs.declared.Plan.{Plan}
 use Rattle.machine.specs.Status.{statusPaused}
-use Rattle.machine.specs.Sound.{SoundRunning, RunningShaped}
+use Rattle.machine.specs.Sound.{SoundRunning, RunningWidths}
 use Rattle.machine.specs.declared.Running.{Running}
 use Rattle.rates.specs.Links.{rangesOf}
 use Rattle.reach.specs.Table.{reachTable}
 use Rattle.reach.specs.Laws.Reached.{table-wired, table-linked}
 use Rattle.instant.specs.Lent.{Unread, runningOf, InstantReady}
 use Rattle.engine.specs.Laws.Aheads.{ahead-ready}
-use Rattle.engine.specs.Laws.Running as law
+use Rattle.engine.specs.Laws.RunLoop as law
 use Rattle.engine.proofs.runs.run.Statement.{statement}
 use Rattle.engine.proofs.runs.run.Tie as tie
 
@@ -38,10 +38,10 @@ module _ (c : tie.Start Inv-loop μ-loop) where
   abbrev sound : SoundRunning p r
   sound = c .pre .sound
 
-  limits : Counts p
-  limits = counts-of p (sound .plan .counts)
+  limits : CountLimits p
+  limits = count-limits p (sound .plan .counts)
 
-  shaped : RunningShaped r
+  shaped : RunningWidths r
   -- where each array's length is known; `search` alone does not go as far
   shaped =
       let figures = c .good .0 .1 .1 .1 .0 .1 .1 in

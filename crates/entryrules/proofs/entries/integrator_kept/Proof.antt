@@ -4,21 +4,21 @@ use Rattle.entryrules.specs.Laws.Comparing.{comparing, tested}
 use Rattle.entryrules.proofs.entries.integrator_kept.Statement.{statement}
 use Rattle.entryrules.proofs.entries.integrator_kept.Tie as tie
 
-value-kept-requires : tie.Need-value-kept-requires
-value-kept-requires c κs = search needs
+value-within-m-requires : tie.Need-value-within-m-requires
+value-within-m-requires c κs = search needs
 
 returns : tie.Need-returns
-returns c = search (needs, tested (c .before .before .fits .start) (c .before .value-kept .ensures) (c .if1 .taken))
+returns c = search (needs, tested (c .before .before .fits .start) (c .before .value-within-m .ensures) (c .if1 .taken))
 
 returns-2 : tie.Need-returns-2
 returns-2 c =
     let start = c .before .before .before .fits .start in
-    search (needs, comparing, tested start (c .before .before .value-kept .ensures) (c .before .if1 .left))
+    search (needs, comparing, tested start (c .before .before .value-within-m .ensures) (c .before .if1 .left))
 
 returns-3 : tie.Need-returns-3
 returns-3 c =
     let start = c .before .before .before .fits .start in
-    search (needs, comparing, tested start (c .before .before .value-kept .ensures) (c .before .if1 .left))
+    search (needs, comparing, tested start (c .before .before .value-within-m .ensures) (c .before .if1 .left))
 
 pub integrator-kept-spec : {M : Type 1} → statement M
-integrator-kept-spec = tie.close (tie.spec value-kept-requires returns returns-2 returns-3)
+integrator-kept-spec = tie.close (tie.spec value-within-m-requires returns returns-2 returns-3)

@@ -30,16 +30,16 @@ start c = c .before .before .before .before .before .before .before
 abbrev outputs : tie.After-obey-commands → tie.After-set-outputs
 outputs c = c .before .before
 
-abbrev commands : tie.After-joined → tie.After-obey-commands
+abbrev commands : tie.After-union-shifted → tie.After-obey-commands
 commands c = c .before
 
-abbrev changes : tie.After-reached-by → tie.After-joined
+abbrev changes : tie.After-reached-by → tie.After-union-shifted
 changes c = c .before
 
-abbrev reach : tie.After-work-nodes → tie.After-reached-by
+abbrev reach : tie.After-work-out-nodes → tie.After-reached-by
 reach c = c .before .before
 
-abbrev nodes : tie.After-write-events → tie.After-work-nodes
+abbrev nodes : tie.After-write-events → tie.After-work-out-nodes
 nodes c = c .before .before .before
 
 abbrev events : tie.After-moved-set → tie.After-write-events
@@ -58,23 +58,23 @@ set-outputs-requires c κs = let s = c .before .before .before .before .before .
 obey-commands-requires : tie.Need-obey-commands-requires
 obey-commands-requires c κs = let s = start (c .before) in law.commands-ready (p s) (r s) (s .pre .ready)
 
-joined-requires : tie.Need-joined-requires
-joined-requires c κs = let s = start (outputs c) in (law.limits (p s) (r s) (s .pre .ready) .n, law.due-below (p s) (r s) (s .pre .ready))
+union-shifted-requires : tie.Need-union-shifted-requires
+union-shifted-requires c κs = let s = start (outputs c) in (law.limits (p s) (r s) (s .pre .ready) .n, law.due-below (p s) (r s) (s .pre .ready))
 
 reached-by-requires : tie.Need-reached-by-requires
 reached-by-requires c κs = search needs
 
-work-nodes-requires : tie.Need-work-nodes-requires
-work-nodes-requires c κs =
+work-out-nodes-requires : tie.Need-work-out-nodes-requires
+work-out-nodes-requires c κs =
     let reached = c .before in
-    let joined = changes reached in
-    let obeyed = commands joined in
+    let union-shifted = changes reached in
+    let obeyed = commands union-shifted in
     let set = outputs obeyed in
     let s = start set in
     let output = set .set-outputs .ensures in
     let command = obeyed .obey-commands .ensures in
     let told = reached .reached-by .ensures in (
-      law.nodes-below (p s) (r s) (s .pre .ready) output command (joined .joined .ensures) (told .0) (told .1),
+      law.nodes-below (p s) (r s) (s .pre .ready) output command (union-shifted .union-shifted .ensures) (told .0) (told .1),
       law.nodes-ready-then (p s) (r s) (s .pre .ready) output command,
     )
 
@@ -82,13 +82,13 @@ write-events-requires : tie.Need-write-events-requires
 write-events-requires c κs =
     let worked = c .before .before in
     let reached = reach worked in
-    let joined = changes reached in
-    let obeyed = commands joined in
+    let union-shifted = changes reached in
+    let obeyed = commands union-shifted in
     let set = outputs obeyed in
     let s = start set in
     let told = reached .reached-by .ensures in
-    law.events-ready-then (p s) (r s) (s .pre .ready) (set .set-outputs .ensures) (obeyed .obey-commands .ensures) (joined .joined .ensures)
-    (told .0) (told .1) (worked .work-nodes .ensures)
+    law.events-ready-then (p s) (r s) (s .pre .ready) (set .set-outputs .ensures) (obeyed .obey-commands .ensures) (union-shifted .union-shifted .ensures)
+    (told .0) (told .1) (worked .work-out-nodes .ensures)
 
 moved-set-requires : tie.Need-moved-set-requires
 moved-set-requires c κs =
@@ -99,13 +99,13 @@ move-all-requires c κs =
     let moved = c .before .before .before .before .before in
     let worked = nodes (events moved) in
     let reached = reach worked in
-    let joined = changes reached in
-    let obeyed = commands joined in
+    let union-shifted = changes reached in
+    let obeyed = commands union-shifted in
     let set = outputs obeyed in
     let s = start set in
     let told = reached .reached-by .ensures in
-    law.moves-ready (p s) (r s) (s .pre .ready) (set .set-outputs .ensures) (obeyed .obey-commands .ensures) (joined .joined .ensures)
-    (told .0) (told .1) (worked .work-nodes .ensures) (s .args .engine) (moved .moved-set .ensures)
+    law.moves-ready (p s) (r s) (s .pre .ready) (set .set-outputs .ensures) (obeyed .obey-commands .ensures) (union-shifted .union-shifted .ensures)
+    (told .0) (told .1) (worked .work-out-nodes .ensures) (s .args .engine) (moved .moved-set .ensures)
 
 add-instants : tie.Need-add-instants
 add-instants c =
@@ -131,15 +131,15 @@ returns c =
     let wrote = events moved in
     let worked = nodes wrote in
     let reached = reach worked in
-    let joined = changes reached in
-    let obeyed = commands joined in
+    let union-shifted = changes reached in
+    let obeyed = commands union-shifted in
     let set = outputs obeyed in
     let s = start set in
     let output = set .set-outputs .ensures in
     let command = obeyed .obey-commands .ensures in
-    let changed = joined .joined .ensures in
+    let changed = union-shifted .union-shifted .ensures in
     let told = reached .reached-by .ensures in
-    let work = worked .work-nodes .ensures in
+    let work = worked .work-out-nodes .ensures in
     record {
       taken = λ unread ready.
           let p = plan s unread in
@@ -161,9 +161,9 @@ take-instant-spec =
     add-base
     set-outputs-requires
     obey-commands-requires
-    joined-requires
+    union-shifted-requires
     reached-by-requires
-    work-nodes-requires
+    work-out-nodes-requires
     write-events-requires
     moved-set-requires
     move-all-requires

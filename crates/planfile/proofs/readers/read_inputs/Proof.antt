@@ -4,7 +4,7 @@ use Prim.Native.Nat.{_-_, _≤_}
 use native.Mathlib.Omega.{arith}
 use borrow.Author.Needs.{needs}
 use Rattle.planfile.specs.Columns.{signedsOf}
-use Rattle.planfile.specs.Laws.Filling.{column-none, column-end, signeds-turn}
+use Rattle.planfile.specs.Laws.ColumnLoops.{column-none, column-end, signeds-turn}
 use Rattle.planfile.proofs.readers.read_inputs.Statement.{statement}
 use Rattle.planfile.proofs.readers.read_inputs.Tie as tie
 

@@ -3,10 +3,10 @@ use mathlib.Core.Path.{_≡_, sym, _∙_}
 use denote.Ref.{now}
 use Rattle.plan.specs.Format.{planIn}
 use Rattle.plan.specs.Refusals.{planFinding, findingOf}
-use Rattle.plan.specs.Laws.Answers.{counts-in}
+use Rattle.plan.specs.Laws.FileRefusals.{counts-in}
 use Rattle.directory.specs.Directory.{Directory}
 use Rattle.directory.specs.Laws.Directory.{directory-kept, finding-directory}
-use Rattle.entryrules.specs.Laws.Trying.{tried, refused, not-clean}
+use Rattle.entryrules.specs.Laws.ChecksInOrder.{tried, refused, not-clean}
 use Rattle.planfile.specs.Laws.Reading.{reading-refused, reading-accepted}
 use borrow.Author.Needs.{needs}
 use Rattle.planfile.proofs.reading.read_plan.Statement.{statement}

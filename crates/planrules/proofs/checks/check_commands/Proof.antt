@@ -21,31 +21,31 @@ abbrev μ-loop : tie.MeasureT-loop
 loop-holds : tie.Need-loop-holds Inv-loop μ-loop
 loop-holds c = begin _
 
-mul-command-limits : tie.Need-mul-command-limits Inv-loop μ-loop
-mul-command-limits c = search needs
+mul-command-limits-kept : tie.Need-mul-command-limits-kept Inv-loop μ-loop
+mul-command-limits-kept c = search needs
 
-element-copy-out-command-limits : tie.Need-element-copy-out-command-limits Inv-loop μ-loop
-element-copy-out-command-limits c = search needs
+element-copy-out-command-limits-kept : tie.Need-element-copy-out-command-limits-kept Inv-loop μ-loop
+element-copy-out-command-limits-kept c = search needs
 
-mul-command-limits-2 : tie.Need-mul-command-limits-2 Inv-loop μ-loop
-mul-command-limits-2 c = search needs
+mul-command-limits-kept-2 : tie.Need-mul-command-limits-kept-2 Inv-loop μ-loop
+mul-command-limits-kept-2 c = search needs
 
-element-copy-out-command-limits-2 : tie.Need-element-copy-out-command-limits-2 Inv-loop μ-loop
-element-copy-out-command-limits-2 c = search needs
+element-copy-out-command-limits-kept-2 : tie.Need-element-copy-out-command-limits-kept-2 Inv-loop μ-loop
+element-copy-out-command-limits-kept-2 c = search needs
 
-mul-command-limits-3 : tie.Need-mul-command-limits-3 Inv-loop μ-loop
-mul-command-limits-3 c = search needs
+mul-command-limits-kept-3 : tie.Need-mul-command-limits-kept-3 Inv-loop μ-loop
+mul-command-limits-kept-3 c = search needs
 
-element-copy-out-command-limits-3 : tie.Need-element-copy-out-command-limits-3 Inv-loop μ-loop
-element-copy-out-command-limits-3 c = search needs
+element-copy-out-command-limits-kept-3 : tie.Need-element-copy-out-command-limits-kept-3 Inv-loop μ-loop
+element-copy-out-command-limits-kept-3 c = search needs
 
-command-limits-requires : tie.Need-command-limits-requires Inv-loop μ-loop
-command-limits-requires c κs = search needs
+command-limits-kept-requires : tie.Need-command-limits-kept-requires Inv-loop μ-loop
+command-limits-kept-requires c κs = search needs
 
 -- what the first call has said of the entry
-limits : (c : tie.After-command-limits Inv-loop μ-loop) → let l = c .before .before .before .before .before in let a = l .before .args in
-    c .command-limits .result ≡ commandLimitsAt (a .horizon) (a .m) (now (a .ticks)) (now (a .inputs)) (now (a .values)) (l .loop .e)
-limits c = rw (element (c .before .command-limits-arg3 .given)) at (c .command-limits .ensures)
+limits : (c : tie.After-command-limits-kept Inv-loop μ-loop) → let l = c .before .before .before .before .before in let a = l .before .args in
+    c .command-limits-kept .result ≡ commandLimitsAt (a .horizon) (a .m) (now (a .ticks)) (now (a .inputs)) (now (a .values)) (l .loop .e)
+limits c = rw (element (c .before .command-limits-kept-arg3 .given)) at (c .command-limits-kept .ensures)
 
 returns : tie.Need-returns Inv-loop μ-loop
 unfolding numberOf isClean
@@ -84,13 +84,13 @@ check-commands-spec =
     Inv-loop
     μ-loop
     loop-holds
-    mul-command-limits
-    element-copy-out-command-limits
-    mul-command-limits-2
-    element-copy-out-command-limits-2
-    mul-command-limits-3
-    element-copy-out-command-limits-3
-    command-limits-requires
+    mul-command-limits-kept
+    element-copy-out-command-limits-kept
+    mul-command-limits-kept-2
+    element-copy-out-command-limits-kept-2
+    mul-command-limits-kept-3
+    element-copy-out-command-limits-kept-3
+    command-limits-kept-requires
     returns
     command-ordered-requires
     returns-2

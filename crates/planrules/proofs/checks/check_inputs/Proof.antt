@@ -21,19 +21,19 @@ abbrev μ-loop : tie.MeasureT-loop
 loop-holds : tie.Need-loop-holds Inv-loop μ-loop
 loop-holds c = begin _
 
-mul-value-kept : tie.Need-mul-value-kept Inv-loop μ-loop
-mul-value-kept c = search needs
+mul-value-within-m : tie.Need-mul-value-within-m Inv-loop μ-loop
+mul-value-within-m c = search needs
 
-element-copy-out-value-kept : tie.Need-element-copy-out-value-kept Inv-loop μ-loop
-element-copy-out-value-kept c = search needs
+element-copy-out-value-within-m : tie.Need-element-copy-out-value-within-m Inv-loop μ-loop
+element-copy-out-value-within-m c = search needs
 
-value-kept-requires : tie.Need-value-kept-requires Inv-loop μ-loop
-value-kept-requires c κs = search needs
+value-within-m-requires : tie.Need-value-within-m-requires Inv-loop μ-loop
+value-within-m-requires c κs = search needs
 
 -- what the call has said of the entry
-answer : (c : tie.After-value-kept Inv-loop μ-loop) → let l = c .before .before .before in let a = l .before .args in
-    c .value-kept .result ≡ inputAt (now (a .firsts)) (l .loop .j)
-answer c = rw (element (c .before .value-kept-arg .given)) at (c .value-kept .ensures)
+answer : (c : tie.After-value-within-m Inv-loop μ-loop) → let l = c .before .before .before in let a = l .before .args in
+    c .value-within-m .result ≡ inputAt (now (a .firsts)) (l .loop .j)
+answer c = rw (element (c .before .value-within-m-arg .given)) at (c .value-within-m .ensures)
 
 returns : tie.Need-returns Inv-loop μ-loop
 unfolding numberOf isClean
@@ -58,9 +58,9 @@ check-inputs-spec =
     Inv-loop
     μ-loop
     loop-holds
-    mul-value-kept
-    element-copy-out-value-kept
-    value-kept-requires
+    mul-value-within-m
+    element-copy-out-value-within-m
+    value-within-m-requires
     returns
     add-j
     loop-less

@@ -21,31 +21,31 @@ abbrev μ-loop : tie.MeasureT-loop
 loop-holds : tie.Need-loop-holds Inv-loop μ-loop
 loop-holds c = begin _
 
-mul-link-limits : tie.Need-mul-link-limits Inv-loop μ-loop
-mul-link-limits c = search needs
+mul-link-limits-kept : tie.Need-mul-link-limits-kept Inv-loop μ-loop
+mul-link-limits-kept c = search needs
 
-element-copy-out-link-limits : tie.Need-element-copy-out-link-limits Inv-loop μ-loop
-element-copy-out-link-limits c = search needs
+element-copy-out-link-limits-kept : tie.Need-element-copy-out-link-limits-kept Inv-loop μ-loop
+element-copy-out-link-limits-kept c = search needs
 
-mul-link-limits-2 : tie.Need-mul-link-limits-2 Inv-loop μ-loop
-mul-link-limits-2 c = search needs
+mul-link-limits-kept-2 : tie.Need-mul-link-limits-kept-2 Inv-loop μ-loop
+mul-link-limits-kept-2 c = search needs
 
-element-copy-out-link-limits-2 : tie.Need-element-copy-out-link-limits-2 Inv-loop μ-loop
-element-copy-out-link-limits-2 c = search needs
+element-copy-out-link-limits-kept-2 : tie.Need-element-copy-out-link-limits-kept-2 Inv-loop μ-loop
+element-copy-out-link-limits-kept-2 c = search needs
 
-mul-link-limits-3 : tie.Need-mul-link-limits-3 Inv-loop μ-loop
-mul-link-limits-3 c = search needs
+mul-link-limits-kept-3 : tie.Need-mul-link-limits-kept-3 Inv-loop μ-loop
+mul-link-limits-kept-3 c = search needs
 
-element-copy-out-link-limits-3 : tie.Need-element-copy-out-link-limits-3 Inv-loop μ-loop
-element-copy-out-link-limits-3 c = search needs
+element-copy-out-link-limits-kept-3 : tie.Need-element-copy-out-link-limits-kept-3 Inv-loop μ-loop
+element-copy-out-link-limits-kept-3 c = search needs
 
-link-limits-requires : tie.Need-link-limits-requires Inv-loop μ-loop
-link-limits-requires c κs = search needs
+link-limits-kept-requires : tie.Need-link-limits-kept-requires Inv-loop μ-loop
+link-limits-kept-requires c κs = search needs
 
 -- what the first call has said of the entry
-limits : (c : tie.After-link-limits Inv-loop μ-loop) → let l = c .before .before .before .before .before in let a = l .before .args in
-    c .link-limits .result ≡ linkLimitsAt (a .n) (a .all) (now (a .targets)) (now (a .sources)) (now (a .coefficients)) (l .loop .e)
-limits c = rw (element (c .before .link-limits-arg3 .given)) at (c .link-limits .ensures)
+limits : (c : tie.After-link-limits-kept Inv-loop μ-loop) → let l = c .before .before .before .before .before in let a = l .before .args in
+    c .link-limits-kept .result ≡ linkLimitsAt (a .n) (a .all) (now (a .targets)) (now (a .sources)) (now (a .coefficients)) (l .loop .e)
+limits c = rw (element (c .before .link-limits-kept-arg3 .given)) at (c .link-limits-kept .ensures)
 
 returns : tie.Need-returns Inv-loop μ-loop
 unfolding numberOf isClean
@@ -84,13 +84,13 @@ check-links-spec =
     Inv-loop
     μ-loop
     loop-holds
-    mul-link-limits
-    element-copy-out-link-limits
-    mul-link-limits-2
-    element-copy-out-link-limits-2
-    mul-link-limits-3
-    element-copy-out-link-limits-3
-    link-limits-requires
+    mul-link-limits-kept
+    element-copy-out-link-limits-kept
+    mul-link-limits-kept-2
+    element-copy-out-link-limits-kept-2
+    mul-link-limits-kept-3
+    element-copy-out-link-limits-kept-3
+    link-limits-kept-requires
     returns
     link-ordered-requires
     returns-2

@@ -1,6 +1,6 @@
 -- The proofs of what it returns name no call, so that an exchange of the two is refused for what it answers.
 use mathlib.Core.Path.{refl, sym, _∙_}
-use Rattle.entryrules.specs.Laws.Trying.{tried, refused, not-clean}
+use Rattle.entryrules.specs.Laws.ChecksInOrder.{tried, refused, not-clean}
 use borrow.Author.Needs.{needs}
 use Rattle.planrules.proofs.checks.check_nodes_and_links.Statement.{statement}
 use Rattle.planrules.proofs.checks.check_nodes_and_links.Tie as tie

@@ -2,18 +2,18 @@
 use borrow.Author.Needs.{needs}
 use mathlib.Core.Path.{_≡_, refl, sym, _∙_}
 use native.Mathlib.Omega.{arith}
-use Rattle.plan.specs.Tests.{integratorKept, inputKept, nodeKept, linkLimits, linkOrdered, commandLimits, commandOrdered}
+use Rattle.plan.specs.Tests.{integratorKept, inputKept, nodeKept, linkLimitsKept, linkOrdered, commandLimitsKept, commandOrdered}
 use Rattle.plan.specs.Refusals.{horizonFinding, integratorsFinding, inputsFinding, nodesFinding, linksFinding, commandsFinding, planFinding}
 use Rattle.plan.specs.Refusals.{orElse}
-use Rattle.plan.specs.Laws.Counts.{Counts, counts-of}
-use Rattle.entryrules.specs.Laws.Trying.{tried, refused, not-clean, orElse-join}
+use Rattle.plan.specs.Laws.CountLimits.{CountLimits, count-limits}
+use Rattle.entryrules.specs.Laws.ChecksInOrder.{tried, refused, not-clean, orElse-join}
 use Rattle.planrules.specs.Laws.Findings.{from5, from6}
 use Rattle.planrules.proofs.checks.check_plan.Statement.{statement}
 use Rattle.planrules.proofs.checks.check_plan.Tie as tie
 
 -- what the caller has seen to
-limits : (c : tie.Start) → Counts (c .args .t1)
-limits c = counts-of (c .args .t1) (c .pre)
+limits : (c : tie.Start) → CountLimits (c .args .t1)
+limits c = count-limits (c .args .t1) (c .pre)
 
 -- From where a check has found nothing: the same place of the check before it, and the function's entry.
 abbrev back2 : tie.After-enum-told2 → tie.After-enum-told
@@ -54,7 +54,7 @@ left3 c =
     ∙ orElse-join (nodesFinding p) (linksFinding p) (commandsFinding p)
 
 left4 : (c : tie.After-enum-told4) → let p = start4 c .args .t1 in planFinding p ≡ commandsFinding p
-unfolding nodesFinding nodeKept linksFinding linkLimits linkOrdered
+unfolding nodesFinding nodeKept linksFinding linkLimitsKept linkOrdered
 left4 c = tried _ (left3 (back4 c)) (c .before .before .check-nodes-and-links .ensures) (c .enum-told4 .given .1)
 
 check-horizon-requires : tie.Need-check-horizon-requires
@@ -96,7 +96,7 @@ enum-told-4 : tie.Need-enum-told-4
 enum-told-4 c = search needs
 
 returns-4 : tie.Need-returns-4
-unfolding nodesFinding nodeKept linksFinding linkLimits linkOrdered
+unfolding nodesFinding nodeKept linksFinding linkLimitsKept linkOrdered
 returns-4 c =
     refused _ (left3 (c .before .before .before .before .before .before .before .before .before .before .before))
     (c .before .check-nodes-and-links .ensures) (not-clean _ (c .match4 .keys2))
@@ -105,7 +105,7 @@ check-commands-requires : tie.Need-check-commands-requires
 check-commands-requires c κs = limits (start4 (c .before .before .before .before)) .commands
 
 returns-5 : tie.Need-returns-5
-unfolding commandsFinding commandLimits commandOrdered
+unfolding commandsFinding commandLimitsKept commandOrdered
 returns-5 c = c .check-commands .ensures ∙ sym (left4 (c .before .before .before .before .before))
 
 pub check-plan-spec : {M : Type 1} → statement M

@@ -2,10 +2,10 @@
 use mathlib.Core.Path.{_≡_, sym, _∙_}
 use mathlib.Core.Bool.{true}
 use borrow.Author.Tests.{not-true, not-false}
-use Rattle.plan.specs.Tests.{counts, countsKept}
+use Rattle.plan.specs.Tests.{countList, countsKept}
 use Rattle.plan.specs.Refusals.{numberOf, isClean}
-use Rattle.plan.specs.Laws.Kept.{counts-kept}
-use Rattle.entryrules.specs.Laws.Trying.{not-clean}
+use Rattle.plan.specs.Laws.PlanTests.{counts-kept}
+use Rattle.entryrules.specs.Laws.ChecksInOrder.{not-clean}
 use borrow.Author.Needs.{needs}
 use Rattle.planrules.proofs.checks.plan_kept.Statement.{statement}
 use Rattle.planrules.proofs.checks.plan_kept.Tie as tie
@@ -15,11 +15,11 @@ counts-kept-requires c κs = search needs
 
 -- what is known behind the first test
 kept : (c : tie.Else1) → countsKept (c .before .before .before .args .plan) ≡ true
-unfolding countsKept counts
+unfolding countsKept countList
 kept c = sym (c .before .counts-kept .ensures) ∙ not-false _ (c .if1 .left)
 
 returns : tie.Need-returns
-unfolding countsKept counts
+unfolding countsKept countList
 returns c = let broken = sym (c .before .counts-kept .ensures) ∙ not-true _ (c .if1 .taken) in sym (rw broken)
 
 check-plan-requires : tie.Need-check-plan-requires

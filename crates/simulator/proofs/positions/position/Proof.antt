@@ -6,9 +6,9 @@ use native.Mathlib.Omega.{arith}
 use borrow.Author.Needs.{needs, sfits-of}
 use borrow.Author.Tests.{not-true, not-false}
 use mir.Facts.{toZ-ofZ}
-use Rattle.plan.specs.Laws.Counts.{counts-of}
+use Rattle.plan.specs.Laws.CountLimits.{count-limits}
 use Rattle.machine.specs.SoundTest.{isSound}
-use Rattle.machine.specs.Laws.Tested.{sound-means}
+use Rattle.machine.specs.Laws.SoundTest.{sound-means}
 use Rattle.simulator.specs.Laws.Answers.{position-unsound, position-above, position-ready, position-known}
 use Rattle.simulator.proofs.positions.position.Statement.{statement}
 use Rattle.simulator.proofs.positions.position.Tie as tie
@@ -36,7 +36,7 @@ module _ (c : tie.After-r) where
 
   in-range : entry .args .integrator < 32
   in-range =
-      omega (arith, c .before .if2 .left, counts-of (entry .args .state .plan) (sound-means (entry .args .state) .0 yes .plan .counts) .n)
+      omega (arith, c .before .if2 .left, count-limits (entry .args .state .plan) (sound-means (entry .args .state) .0 yes .plan .counts) .n)
 
 mul-position : tie.Need-mul-position
 mul-position c = omega (arith, in-range c)

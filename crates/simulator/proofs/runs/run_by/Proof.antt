@@ -6,11 +6,11 @@ use Prim.Native.Nat.{_+_, _*_, _≤_}
 use denote.Ref.{now}
 use borrow.Author.Needs.{needs}
 use borrow.Author.Tests.{not-true, not-false}
-use Rattle.plan.specs.Laws.Counts.{Counts, counts-of}
+use Rattle.plan.specs.Laws.CountLimits.{CountLimits, count-limits}
 use Rattle.machine.specs.SoundTest.{isSound}
-use Rattle.machine.specs.Laws.Tested.{sound-means}
+use Rattle.machine.specs.Laws.SoundTest.{sound-means}
 use Rattle.machine.specs.declared.State.{State}
-use Rattle.calls.specs.Calls.{roomOf}
+use Rattle.calls.specs.Calls.{bytesNeeded}
 use Rattle.calls.specs.Proofs.StateLimits.{room-most}
 use Rattle.simulator.specs.Laws.Answers.{run-unsound, run-above, run-short, run-ready, run-accepted}
 use Rattle.simulator.proofs.runs.run_by.Statement.{statement}
@@ -36,8 +36,8 @@ module _ (c : tie.Else1) where
   sound : isSound state ≡ true
   sound = sym (c .before .is-sound .ensures) ∙ not-false _ (c .if1 .left)
 
-  limits : Counts (state .plan)
-  limits = counts-of (state .plan) (sound-means state .0 sound .plan .counts)
+  limits : CountLimits (state .plan)
+  limits = count-limits (state .plan) (sound-means state .0 sound .plan .counts)
 
 declined-requires-2 : tie.Need-declined-requires-2
 declined-requires-2 c κs = search needs
@@ -50,7 +50,7 @@ returns-2 c =
 
 -- ---- where the budget is within its limit
 room-fits : (c : tie.Else2) → let a = c .before .before .before .before .args in a .budget * (a .state .plan .counts .n + a .state .plan .counts .m) * 12 ≤ 491520
-unfolding roomOf
+unfolding bytesNeeded
 room-fits c = let e = c .before in room-most (state e .plan) (limits e) _ 1024 (c .if2 .left)
 
 add-room : tie.Need-add-room

@@ -7,7 +7,7 @@ use mathlib.Core.List.{List}
 use mathlib.Core.Path.{_≡_, refl, sym, _∙_}
 use native.Mathlib.Omega.{arith}
 use Rattle.plan.specs.Lists.{every}
-use Rattle.plan.specs.Laws.Counts.{counts-of}
+use Rattle.plan.specs.Laws.CountLimits.{count-limits}
 use Rattle.plan.specs.declared.Plan.{Plan}
 use Rattle.machine.specs.Next.{nextCommand}
 use Rattle.machine.specs.SoundTest.{runningSound}
@@ -17,9 +17,9 @@ use Rattle.values.specs.Laws.SourceValues.{values-at, all-nodes}
 use Rattle.rates.specs.Links.{rangesOf}
 use Rattle.rates.specs.Laws.OwnRange.{own-rates}
 use Rattle.entryrules.specs.Laws.Testing.{held, failed}
-use Rattle.unused.specs.Laws.Chain.{passes, Passed, begin, next, passed-at, fails, last}
-use Rattle.soundness.specs.Laws.Tested.{clauses, running-tests, figuresAt, slopes, sources-ready, rates-ready, figures-ready, figures-same}
-use Rattle.soundness.specs.Laws.Tested.{clock-fits, updates-fit}
+use Rattle.unused.specs.Laws.EarlyReturns.{passes, Passed, begin, next, passed-at, fails, last}
+use Rattle.soundness.specs.Laws.RunningTests.{clauses, running-tests, figuresAt, slopes, sources-ready, rates-ready, figures-ready, figures-same}
+use Rattle.soundness.specs.Laws.RunningTests.{clock-fits, updates-fit}
 use Rattle.soundness.proofs.running.running_sound.Statement.{statement}
 use Rattle.soundness.proofs.running.running_sound.Tie as tie
 
@@ -43,25 +43,25 @@ returns c = fails (begin tests (c .before)) all-of (lit< tt) (lt-leb _ _ (c .if1
 abbrev passed1 : tie.Else1 → Passed tests 1
 passed1 c = next (begin tests (c .before)) (le-leb _ _ (c .if1 .left))
 
-values-kept-requires : tie.Need-values-kept-requires
-values-kept-requires c κs =
-    let s = c .before .before .before .before in omega (arith, c .values-kept-arg2 .given .0, counts-of (plan s) (s .pre .counts))
+values-within-m-requires : tie.Need-values-within-m-requires
+values-within-m-requires c κs =
+    let s = c .before .before .before .before in omega (arith, c .values-within-m-arg2 .given .0, count-limits (plan s) (s .pre .counts))
 
 returns-2 : tie.Need-returns-2
-returns-2 c = fails (passed1 (c .before .before .before .before .before)) all-of (lit< tt) (failed (c .before .values-kept .ensures) (c .if2 .taken))
+returns-2 c = fails (passed1 (c .before .before .before .before .before)) all-of (lit< tt) (failed (c .before .values-within-m .ensures) (c .if2 .taken))
 
 abbrev passed2 : tie.Else2 → Passed tests 2
-passed2 c = next (passed1 (c .before .before .before .before .before)) (held (c .before .values-kept .ensures) (c .if2 .left))
+passed2 c = next (passed1 (c .before .before .before .before .before)) (held (c .before .values-within-m .ensures) (c .if2 .left))
 
-values-kept-requires-2 : tie.Need-values-kept-requires-2
-values-kept-requires-2 c κs =
-    let s = passed2 (c .before .before .before) .entry in omega (arith, c .values-kept-arg4 .given .0, counts-of (plan s) (s .pre .counts))
+values-within-m-requires-2 : tie.Need-values-within-m-requires-2
+values-within-m-requires-2 c κs =
+    let s = passed2 (c .before .before .before) .entry in omega (arith, c .values-within-m-arg4 .given .0, count-limits (plan s) (s .pre .counts))
 
 returns-3 : tie.Need-returns-3
-returns-3 c = fails (passed2 (c .before .before .before .before .before)) all-of (lit< tt) (failed (c .before .values-kept2 .ensures) (c .if3 .taken))
+returns-3 c = fails (passed2 (c .before .before .before .before .before)) all-of (lit< tt) (failed (c .before .values-within-m2 .ensures) (c .if3 .taken))
 
 abbrev passed3 : tie.Else3 → Passed tests 3
-passed3 c = next (passed2 (c .before .before .before .before .before)) (held (c .before .values-kept2 .ensures) (c .if3 .left))
+passed3 c = next (passed2 (c .before .before .before .before .before)) (held (c .before .values-within-m2 .ensures) (c .if3 .left))
 
 -- the same where the rates and what they are made of have been worked out, and the integrators tested
 abbrev passed-values : tie.After-source-values → Passed tests 3
@@ -89,7 +89,7 @@ values-are c =
 
 link-ranges-requires : tie.Need-link-ranges-requires
 link-ranges-requires c κs =
-    let s = passed-values (c .before .before) .entry in let n = counts-of (plan s) (s .pre .counts) in (n .n, n .links)
+    let s = passed-values (c .before .before) .entry in let n = count-limits (plan s) (s .pre .counts) in (n .n, n .links)
 
 ranges-are : (c : tie.After-link-ranges) → c .link-ranges .result ≡ rangesOf (plan (passed-ranges c .entry))
 unfolding rangesOf
@@ -112,7 +112,7 @@ integrators-sound-requires : tie.Need-integrators-sound-requires
 integrators-sound-requires c κs =
     let a = c .before .before .before .before .before .before .before .before .before in let p = passed-rates a in let s = p .entry in
     let ready = figures-ready (plan s) (run s) (s .pre) (passed-at p 1 (lit< tt)) (passed-at p 2 (lit< tt)) (passed-at p 0 (lit< tt)) in
-    (counts-of (plan s) (s .pre .counts) .n, rw (slopes-are a) ready)
+    (count-limits (plan s) (s .pre .counts) .n, rw (slopes-are a) ready)
 
 answer : (c : tie.After-integrators-sound) → let s = passed-integrators c .entry in
     c .integrators-sound .result ≡ every (figuresAt (plan s) (run s)) (plan s .counts .n)
@@ -128,7 +128,7 @@ passed4 c = next (passed-integrators (c .before)) (held (answer (c .before)) (c 
 
 -- ---- the rest
 next-command-requires : tie.Need-next-command-requires
-next-command-requires c κs = let s = passed4 (c .before .before) .entry in counts-of (plan s) (s .pre .counts) .commands
+next-command-requires c κs = let s = passed4 (c .before .before) .entry in count-limits (plan s) (s .pre .counts) .commands
 
 next-is : (c : tie.After-next-command) → let s = passed4 (c .before .before .before) .entry in
     c .next-command .result ≡ nextCommand (plan s) (run s .clocks .clock)
@@ -160,20 +160,20 @@ returns-7 c = fails (passed6 (c .before)) all-of (lit< tt) (lt-leb _ _ (c .if7 .
 abbrev passed7 : tie.Else7 → Passed tests 7
 passed7 c = next (passed6 (c .before)) (le-leb _ _ (c .if7 .left))
 
-figures-unused-requires : tie.Need-figures-unused-requires
-figures-unused-requires c κs = search needs
+figures-unused-zero-requires : tie.Need-figures-unused-zero-requires
+figures-unused-zero-requires c κs = search needs
 
 returns-8 : tie.Need-returns-8
-returns-8 c = last (passed7 (c .before)) all-of refl (c .figures-unused .ensures)
+returns-8 c = last (passed7 (c .before)) all-of refl (c .figures-unused-zero .ensures)
 
 pub running-sound-spec : {M : Type 1} → statement M
 running-sound-spec =
     tie.close
     (tie.spec
     returns
-    values-kept-requires
+    values-within-m-requires
     returns-2
-    values-kept-requires-2
+    values-within-m-requires-2
     returns-3
     source-values-requires
     link-ranges-requires
@@ -186,5 +186,5 @@ running-sound-spec =
     returns-6
     mul-if7
     returns-7
-    figures-unused-requires
+    figures-unused-zero-requires
     returns-8)

@@ -54,8 +54,8 @@ mul-value-2 c = omega (arith, known (c .before .before .before .before))
 element-set-from-value : tie.Need-element-set-from-value Inv-loop μ-loop
 element-set-from-value c = omega (arith, known (c .before .before .before .before))
 
-with-requires : tie.Need-with-requires Inv-loop μ-loop
-with-requires c κs = omega (arith, known (c .before .before .before .before))
+with-bit-requires : tie.Need-with-bit-requires Inv-loop μ-loop
+with-bit-requires c κs = omega (arith, known (c .before .before .before .before))
 
 add-e : tie.Need-add-e Inv-loop μ-loop
 add-e c = omega arith
@@ -74,7 +74,7 @@ loop-again c =
     let o = afterCommands (l .values) (l .commanded) (l .e) in
     let turn = one-more (a .n) (a .ticks .now) (a .inputs .now) (a .settings .now) (a .t) (l .e) (a .commands) o
     (inside .loop-test .taken) (then .if1 .taken) in
-    (omega arith, rw (toZ-ofZ fits, c .with .ensures) (turn ∙ l .inv .1))
+    (omega arith, rw (toZ-ofZ fits, c .with-bit .ensures) (turn ∙ l .inv .1))
 
 returns : tie.Need-returns Inv-loop μ-loop
 returns c =
@@ -104,7 +104,7 @@ obey-commands-spec =
     add-value
     mul-value-2
     element-set-from-value
-    with-requires
+    with-bit-requires
     add-e
     loop-less
     loop-again
