@@ -141,6 +141,10 @@ impl<'a> Listed<'a> {
         let (last, end) = (self.named("last"), format!("({} .run)", self.named("end")));
         let p = format!("({} .plan)", self.named("start"));
         let sum = self.played.sum();
+        let (plain, read) = (
+            format!("plainStatus {p} {last}"),
+            format!("statusOf {p} {end}"),
+        );
         let status = self.machine.status();
         let (number, integrator) = (status.number() as u64, status.integrator() as u64);
         vec![
@@ -149,10 +153,10 @@ impl<'a> Listed<'a> {
                 &format!("plainEvents {p} {sum}"),
                 &self.machine.event_bytes(),
             ),
-            nat_case(&format!("plainStatus {p} {last}"), number),
-            nat_case(&format!("plainIntegrator {p} {last}"), integrator),
-            nat_case(&format!("statusOf {p} {end}"), number),
-            nat_case(&format!("integratorOf {p} {end}"), integrator),
+            nat_case(&format!("statusNumber ({plain})"), number),
+            nat_case(&format!("statusIntegrator ({plain})"), integrator),
+            nat_case(&format!("statusNumber ({read})"), number),
+            nat_case(&format!("statusIntegrator ({read})"), integrator),
             self.growth_case(self.played.end().run.clocks.updates),
             nat_case(&format!("movedNow {p} {end}"), self.moved_last()),
         ]
