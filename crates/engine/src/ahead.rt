@@ -28,7 +28,7 @@ pub fn look_ahead<'a>(
     requires { ⌜ AheadReady n commands (now ticks) (now x) (now s) (now l) (now d) next ⌝ }
     ensures { λ r. ⌜ r ≡ aheadOf horizon n commands (now (ticks .entry)) (now (x .entry)) (now (s .entry)) (now (l .entry)) (now (d .entry)) next ⌝ }
 {
-    let tick = next_tick(n, d, commands, ticks, next);
+    let tick = next_tick(n, commands, ticks, d, next);
     let due = where_equal(n, d, tick);
     let status = status_at(horizon, n, tick, due, x, s, l);
     Ahead { tick, due, status }

@@ -1,1 +1,2 @@
+-- What is proved of the rules of entries.
 pub mod Laws

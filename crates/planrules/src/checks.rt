@@ -1,5 +1,5 @@
 // The checks of a plan, document 01's refusals 4 to 9: each goes through its section from entry 0 and answers the first fault. They are lent
-// just the arrays that they look at, and ask that the counts are inside their limits, so that no index and no sum is wild.
+// just the arrays that they look at, and ask that the counts are inside their limits, so that every index stays inside its array and every sum inside its type.
 ghost use mathlib.Core.Path.{_≡_};
 ghost use mathlib.Core.Bool.{_&&_};
 ghost use Prim.Native.Nat.{_+_, _≤_};

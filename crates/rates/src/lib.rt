@@ -16,7 +16,7 @@ use plan::SOURCES;
 pub const RANGES: usize = INTEGRATORS + 1;
 
 // From link `from` on the first whose target is i or above, or the number of links.
-fn first_link_from(targets: &[usize; LINKS], i: usize, from: usize, links: usize) -> usize
+fn first_link_from(links: usize, targets: &[usize; LINKS], i: usize, from: usize) -> usize
     requires { ⌜ (from ≤ links) × (links ≤ mostLinks) ⌝ }
     ensures { λ r. ⌜ r ≡ firstFrom (λ e. leb i (natAt (now (targets .entry)) e)) from (links - from) ⌝ }
 {
@@ -36,7 +36,7 @@ pub fn link_ranges(n: usize, links: usize, targets: &[usize; LINKS]) -> [usize; 
     let mut e: usize = 0;
     let mut i: usize = 0;
     while i <= n {
-        e = first_link_from(targets, i, e, links);
+        e = first_link_from(links, targets, i, e);
         ranges[i] = e;
         i += 1;
     }

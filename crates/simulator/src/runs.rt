@@ -39,8 +39,8 @@ fn run_by(engine: Engine, state: State, budget: u64, buf: &mut [u8]) -> Ran
     if LARGEST_BUDGET < budget {
         return declined(REFUSED_BUDGET, state);
     }
-    let room = budget as usize * (state.plan.counts.n + state.plan.counts.m) * EVENT_SIZE;
-    if buf.len() < room {
+    let needed = budget as usize * (state.plan.counts.n + state.plan.counts.m) * EVENT_SIZE;
+    if buf.len() < needed {
         return declined(REFUSED_RUN_BUFFER, state);
     }
     let ended = run(state, engine, budget, buf);

@@ -1,1 +1,2 @@
+-- What is proved of the test of a state.
 pub mod Laws

@@ -1,3 +1,4 @@
+-- The steps of an instant that set outputs and inputs and write its events, and what is proved of them.
 pub mod Commands
 pub mod Outputs
 pub mod Events

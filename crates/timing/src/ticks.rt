@@ -78,9 +78,9 @@ pub fn next_command(commands: usize, ticks: &[u32; COMMANDS], clock: u32) -> usi
 // "Next instant t: the least of all d and the next command's tick."
 pub fn next_tick<'a>(
     n: usize,
-    d: &'a [u32; INTEGRATORS],
     commands: usize,
     ticks: &'a [u32; COMMANDS],
+    d: &'a [u32; INTEGRATORS],
     next: usize,
 ) -> u32
     requires { ⌜ (n ≤ mostIntegrators) × (commands ≤ mostCommands) ⌝ }

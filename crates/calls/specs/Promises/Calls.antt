@@ -1,5 +1,5 @@
--- Promise: of every call that takes a state, its number, what it answers and writes, and what a declined one leaves. Statements; the proofs
--- stand in Proofs.
+-- Promise: of every call that takes a state, its number, what it answers and writes, and what a declined one leaves. Statements,
+-- with document 01's numbers as they are written there; the proofs stand in Proofs.
 use mathlib.Core.Path.{_≡_}
 use mathlib.Core.List.{List, _++_}
 use Prim.Native.Nat.{ℕ, _+_, _-_, _*_, _≤_, _<_}

@@ -1,6 +1,6 @@
 -- Promise: demand 3, "a single claim about the list": for every accepted file and every list of run calls, lazy and eager in any mix,
 -- declined ones included, the outcome is that of the plain machine for the sum of the accepted budgets, and the update count is exact. A
--- statement; the proof stands in Proofs.
+-- statement, with document 01's numbers as they are written there; the proof stands in Proofs.
 use mathlib.Core.Path.{_≡_}
 use mathlib.Core.List.{List, _∷_, _++_}
 use Prim.Native.Nat.{ℕ, _+_, _-_, _*_, _≤_, _<_}

@@ -1,8 +1,8 @@
--- Promise: of the numbers that all others speak in, words, signs, M, never, division, limits, counts. Statements; the proofs stand in
--- Proofs.
+-- Promise: of the numbers that all others speak in, words, signs, M, never, the order's other numbers, division, limits, counts. Statements,
+-- with document 01's numbers as they are written there; the proofs stand in Proofs.
 use mathlib.Core.Path.{_≡_}
 use mathlib.Core.Bool.{Bool, true, false}
-use mathlib.Core.List.{List}
+use mathlib.Core.List.{List, [], _∷_}
 use Prim.Native.Nat.{ℕ, _+_, _-_, _*_, _^_, _≤_, _<_}
 use lib.IntN.{ℤ, pos, _+ℤ_, _-ℤ_, _*ℤ_}
 use lib.Signed.{_≤ℤ_, _<ℤ_}
@@ -10,7 +10,8 @@ use Rattle.integers.specs.Division.{floor65536}
 use Rattle.integers.specs.Range.{limited}
 use Rattle.bitset.specs.Counts.{countOf}
 use Rattle.words.specs.Word.{word, signedWord}
-use Rattle.plan.specs.Numbers.{M, never}
+use Rattle.plan.specs.Numbers.{M, never, largestHorizon, largestCoefficient, largestBudget, listingBudget, largestCounts, entrySizes, headerLength}
+use Rattle.plan.specs.Numbers.{longestFile, eventSize}
 use Rattle.plan.specs.Lists.{natAt}
 
 pub record NumbersMean : Type 0 where
@@ -24,6 +25,19 @@ pub record NumbersMean : Type 0 where
   pub largest : M ≡ 2 ^ 30
   -- never, above every tick
   pub no-tick : never ≡ 2 ^ 32 - 1
+  -- "horizon (a tick, 1 to 2,000,000,000)"; "within ±16,777,216"
+  pub horizon : largestHorizon ≡ 2000000000
+  pub coefficient : largestCoefficient ≡ 16777216
+  -- "A run's budget is above 1,024"; "runs lazily with budget 64"
+  pub budget : largestBudget ≡ 1024
+  pub listing-budget : listingBudget ≡ 64
+  -- "Header, 44 bytes"; "Sections in order" with the bytes of an entry and the largest counts; the file that has the most of each
+  pub header : headerLength ≡ 44
+  pub entries : entrySizes ≡ 8 ∷ 4 ∷ 20 ∷ 12 ∷ 12 ∷ []
+  pub counts : largestCounts ≡ 32 ∷ 8 ∷ 16 ∷ 256 ∷ 64 ∷ []
+  pub longest : longestFile ≡ 44 + 8 * 32 + 4 * 8 + 20 * 16 + 12 * 256 + 12 * 64
+  -- "12 bytes each: tick, source, signed value"
+  pub event : eventSize ≡ 12
   -- "Division by 65,536 is written floor(..), rounding towards minus infinity."
   pub floor-below : (v : ℤ) → (pos 65536 *ℤ floor65536 v) ≤ℤ v
   pub floor-above : (v : ℤ) → v <ℤ (pos 65536 *ℤ (floor65536 v +ℤ pos 1))

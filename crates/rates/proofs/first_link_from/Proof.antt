@@ -10,11 +10,11 @@ use Rattle.rates.proofs.first_link_from.Statement.{statement}
 use Rattle.rates.proofs.first_link_from.Tie as tie
 
 abbrev Inv-loop : tie.InvT-loop
-Inv-loop targets i from links e₀ e =
+Inv-loop links targets i from e₀ e =
     (e ≤ links) × (firstFrom (λ d. leb i (natAt targets d)) e (links - e) ≡ firstFrom (λ d. leb i (natAt targets d)) from (links - from))
 
 abbrev μ-loop : tie.MeasureT-loop
-μ-loop targets i from links e₀ e = links - e
+μ-loop links targets i from e₀ e = links - e
 
 loop-holds : tie.Need-loop-holds Inv-loop μ-loop
 loop-holds c = (omega arith, refl)

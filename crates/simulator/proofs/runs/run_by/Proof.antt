@@ -53,14 +53,14 @@ room-fits : (c : tie.Else2) → let a = c .before .before .before .before .args 
 unfolding bytesNeeded
 room-fits c = let e = c .before in room-most (state e .plan) (limits e) _ 1024 (c .if2 .left)
 
-add-room : tie.Need-add-room
-add-room c = let limits = limits (c .before .before) in omega (arith, limits .n, limits .m)
+add-needed : tie.Need-add-needed
+add-needed c = let limits = limits (c .before .before) in omega (arith, limits .n, limits .m)
 
-mul-room : tie.Need-mul-room
-mul-room c = omega (arith, room-fits (c .before))
+mul-needed : tie.Need-mul-needed
+mul-needed c = omega (arith, room-fits (c .before))
 
-mul-room-2 : tie.Need-mul-room-2
-mul-room-2 c = omega (arith, room-fits (c .before))
+mul-needed-2 : tie.Need-mul-needed-2
+mul-needed-2 c = omega (arith, room-fits (c .before))
 
 declined-requires-3 : tie.Need-declined-requires-3
 declined-requires-3 c κs = search needs
@@ -105,9 +105,9 @@ run-by-spec =
     returns
     declined-requires-2
     returns-2
-    add-room
-    mul-room
-    mul-room-2
+    add-needed
+    mul-needed
+    mul-needed-2
     declined-requires-3
     returns-3
     run-requires
