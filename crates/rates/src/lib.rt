@@ -30,7 +30,7 @@ fn first_link_from(links: usize, targets: &[usize; LINKS], i: usize, from: usize
 // Where each integrator's links begin; the entry after the last integrator's is where its links end.
 pub fn link_ranges(n: usize, links: usize, targets: &[usize; LINKS]) -> [usize; RANGES]
     requires { ⌜ (n ≤ mostIntegrators) × (links ≤ mostLinks) ⌝ }
-    ensures { λ r. ⌜ r ≡ row 0 33 (n + 1) (firstLink (now (targets .entry)) links) ⌝ }
+    ensures { λ r. ⌜ r ≡ row 0 (mostIntegrators + 1) (n + 1) (firstLink (now (targets .entry)) links) ⌝ }
 {
     let mut ranges: [usize; RANGES] = [0; RANGES];
     let mut e: usize = 0;
