@@ -93,7 +93,7 @@ extern "C" {
 /* The bytes of an event: tick, source and signed value, little-endian, 32 bits each. */
 #define CUP_EVENT_BYTES 12
 
-/* The largest budget of a run, and the longest buffer that a run with this budget asks for. */
+/* The largest budget of a run, and the longest buffer that a run with a budget can ask for. */
 #define CUP_BUDGET_MAX 1024
 #define CUP_RUN_BYTES(budget) ((budget) * (CUP_INTEGRATORS_MAX + CUP_INPUTS_MAX) * CUP_EVENT_BYTES)
 

@@ -2,7 +2,7 @@
 //!
 //! `bridge/tests/numbers.rs` compares each with document 01's number and with the header's.
 
-/// M: the bound of starts, input values, node limits and outputs, in grains.
+/// M: the bound of starts, quanta, input values, node limits and outputs, in grains.
 pub const M: i64 = 1 << 30;
 /// Grains in a millilitre: the divisor of the rate and of node kind 1.
 pub const GRAINS: i64 = 1 << GRAIN_BITS;

@@ -19,7 +19,7 @@ pub struct RawCounts {
     pub commands: usize,
 }
 
-/// The cups.
+/// Starts and quanta.
 #[derive(Clone, Debug, PartialEq, Eq)]
 #[allow(missing_docs)]
 pub struct RawIntegrators {
@@ -45,7 +45,7 @@ pub struct RawNodes {
     pub highs: [i64; NODES_MAX],
 }
 
-/// Terms of the rates.
+/// Terms of the rates; `targets` are integrators, `sources` source numbers.
 #[derive(Clone, Debug, PartialEq, Eq)]
 #[allow(missing_docs)]
 pub struct RawLinks {
@@ -113,7 +113,7 @@ impl RawState {
         RawState::from(&State::start(State::idle_plan()))
     }
 
-    /// The state that a lawful plan starts with.
+    /// The state that a plan starts with; the plan has to keep the rules.
     pub fn start(plan: &Plan) -> RawState {
         RawState::from(&State::start(plan.clone()))
     }

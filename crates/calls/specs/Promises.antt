@@ -1,5 +1,5 @@
 -- Promise: all of them in one record, as statements. Each is a type: a proof of it is a term of exactly that type, and stands in Proofs.
--- Nothing is assumed here, and nothing proved.
+-- Nothing is assumed here, and nothing proved. Refusals, statuses and sizes are written out as document 01 writes them.
 pub mod Numbers
 pub mod Files
 pub mod Machine

@@ -71,7 +71,7 @@ pub fn count_kept(section: usize, count: u64) -> bool
 
 // Whether the counts of a plan, in the order of the sections, are inside their limits. They may be any numbers.
 pub fn counts_kept(counts: &[usize; SECTIONS]) -> bool
-    ensures { λ r. ⌜ r ≡ every (λ k. countKept k (natAt (now (counts .entry)) k)) sections ⌝ }
+    ensures { λ r. ⌜ r ≡ every (λ section. countKept section (natAt (now (counts .entry)) section)) sections ⌝ }
 {
     let mut section = 0;
     while section < SECTIONS {

@@ -1,4 +1,4 @@
--- Binding definition: division that rounds towards minus infinity, and division of naturals that rounds up.
+-- Binding definition: division that rounds towards minus infinity, and division of naturals that rounds up; this one as a proposition too.
 use lib.IntN.{ℤ}
 use lib.Signed.{shrZ}
 use Prim.Native.Nat.{ℕ, _+_, _-_, _*_, _/_, _≤_, _<_}

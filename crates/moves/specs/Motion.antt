@@ -8,7 +8,6 @@ use lib.ListN.{set}
 use Rattle.bitset.specs.Mask.{has}
 use Rattle.plan.specs.Numbers.{mostIntegrators}
 use Rattle.plan.specs.Lists.{natAt, intAt}
-use Rattle.plan.specs.Numbers.{mostIntegrators}
 use Rattle.machine.specs.Due.{dueTick}
 use Rattle.rates.specs.Links.{rangeRate, RateReady}
 use Rattle.timing.specs.Ticks.{DueReady, PositionReady}

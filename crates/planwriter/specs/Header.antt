@@ -7,4 +7,4 @@ use Rattle.plan.specs.Lists.{natAt}
 
 -- no count is above its section's limit
 abbrev pub CountsWithinLimits : List ℕ → Type 0
-CountsWithinLimits counts = (k : ℕ) → k < sections → natAt counts k ≤ natAt largestCounts k
+CountsWithinLimits counts = (section : ℕ) → section < sections → natAt counts section ≤ natAt largestCounts section

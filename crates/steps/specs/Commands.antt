@@ -9,7 +9,6 @@ use lib.ListN.{set}
 use Rattle.bitset.specs.Mask.{withBit}
 use Rattle.plan.specs.Numbers.{mostIntegrators, mostInputs, mostCommands}
 use Rattle.plan.specs.Lists.{natAt, intAt}
-use Rattle.plan.specs.Numbers.{mostIntegrators, mostInputs, mostCommands}
 
 -- the values of sources, the mask of the commanded inputs, and the next command
 pub record AfterCommands : Type 0 where

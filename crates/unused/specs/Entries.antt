@@ -1,5 +1,5 @@
 -- Model of the code: the unused entries of the running figures, as the code tests them. That they are document 01's: `soundness`,
--- Laws/Tested.
+-- Laws/RunningTests.
 use mathlib.Core.Bool.{Bool, _&&_}
 use Prim.Native.Nat.{ℕ}
 use Rattle.plan.specs.Unused.{natsZeroFrom, intsZeroFrom}

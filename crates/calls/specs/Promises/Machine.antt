@@ -217,7 +217,7 @@ pub record PlainStartPromise (p : Plan) (plain : Plain) : Type 0 where
   pub next : CommandPromise p 0 (plain .next)
   pub instants : plain .instants ≡ 0
 
--- one instant, at tick t, from the figures m to the figures m′
+-- one instant, at tick t, from the figures `plain` to the figures `plain′`
 pub record PlainStepPromise (p : Plan) (t : ℕ) (plain plain′ : Plain) : Type 0 where
   -- where integrator i is at t: it was last moved at the clock
   pub position : (i : ℕ) → plainPosition p plain i ≡ intAt (plain .x) i +ℤ intAt (plain .s) i *ℤ pos (t - plain .clock)

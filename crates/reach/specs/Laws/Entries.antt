@@ -85,7 +85,7 @@ unfolding inEntries
 with-source table sources b a c h out =
     some-also _ (λ i. sources i && has (natAt table i) b) (c && has (natAt table a) b) a 64 h (rw (eq-eqb a a refl, out)) (λ i ne. rw (ne-eqb i a ne))
 
--- ---- a node's entry handed down to the operands that it uses
+-- ---- a node's entry added to those of the operands that it uses
 module _ (kinds a b : List ℕ) (base : ℕ) where
   pub operands-length : (j : ℕ) (table : List ℕ) → length (addedToOperands kinds a b base j table) ≡ length table
   unfolding addedToOperands

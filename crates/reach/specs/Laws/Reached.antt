@@ -58,7 +58,7 @@ module _ (p : Plan) (rules : PlanRules p) where
         source = λ e h. omega (arith, counts, rules .links e h .source);
       }
 
-  -- ---- before any entry is handed down
+  -- ---- before any entry is added to its operands'
   abbrev own : List ℕ
   own = ownEntries (p .counts .n + p .counts .m) (linkEntries (p .links .targets) (p .links .sources) (p .counts .links)) (p .counts .k)
 
@@ -117,7 +117,7 @@ module _ (p : Plan) (rules : PlanRules p) where
     not-yet zero i h = rw (le-ltb i (p .counts .n) (omega arith), le-ltb i (p .counts .n + p .counts .m) (omega arith))
     not-yet (suc j) i h = rw (ne-eqb i (p .counts .n + p .counts .m + j) (λ e. omega arith)) (not-yet j i (omega arith))
 
-    -- with j nodes' entries handed down, the sources that change have what all that depend on them have without
+    -- with j nodes' entries added to their operands', the sources that change have what all that depend on them have without
     followed-has : (j b : ℕ) (table : List ℕ) → j ≤ p .counts .k → length table ≡ 64
         → inEntries (followedDown (p .nodes .kinds) (p .nodes .a) (p .nodes .b) (p .counts .n + p .counts .m) j table) (changes p d t) b
         ≡ inEntries table (dependsWith p d t j) b
