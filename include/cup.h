@@ -65,6 +65,10 @@ extern "C" {
 /* The due tick of an integrator that is never due. */
 #define CUP_NEVER UINT32_MAX
 
+/* The largest horizon, and the largest size of a link's coefficient. */
+#define CUP_LARGEST_HORIZON 2000000000
+#define CUP_LARGEST_COEFFICIENT 16777216
+
 /* The sections of a plan file: integrators, inputs, nodes, links and commands. */
 #define CUP_SECTIONS 5
 
@@ -77,25 +81,25 @@ extern "C" {
 #define CUP_COMMAND_BYTES 12
 
 /* The longest file that is accepted, and so the longest that cup_rewrite and cup_write write. */
-#define CUP_FILE_BYTES_MAX 4492
+#define CUP_LONGEST_FILE 4492
 
 /* The most integrators, inputs, nodes, links and commands of a plan. */
-#define CUP_INTEGRATORS_MAX 32
-#define CUP_INPUTS_MAX 8
-#define CUP_NODES_MAX 16
-#define CUP_LINKS_MAX 256
-#define CUP_COMMANDS_MAX 64
+#define CUP_INTEGRATORS 32
+#define CUP_INPUTS 8
+#define CUP_NODES 16
+#define CUP_LINKS 256
+#define CUP_COMMANDS 64
 
 /* The entries of a table by source number: integrators from 0, inputs from n, nodes from n + m. A
  * plan has at most 56 sources. */
-#define CUP_TABLE_SOURCES 64
+#define CUP_SOURCES 64
 
 /* The bytes of an event: tick, source and signed value, little-endian, 32 bits each. */
 #define CUP_EVENT_BYTES 12
 
 /* The largest budget of a run, and the longest buffer that a run with a budget can ask for. */
-#define CUP_BUDGET_MAX 1024
-#define CUP_RUN_BYTES(budget) ((budget) * (CUP_INTEGRATORS_MAX + CUP_INPUTS_MAX) * CUP_EVENT_BYTES)
+#define CUP_LARGEST_BUDGET 1024
+#define CUP_RUN_BYTES(budget) ((budget) * (CUP_INTEGRATORS + CUP_INPUTS) * CUP_EVENT_BYTES)
 
 /* How many integrators, inputs, nodes, links and commands a plan has. */
 typedef struct {
@@ -105,28 +109,28 @@ typedef struct {
 /* The sections of a plan, each a column for every word of its entries. Entries from the section's count
  * on are 0. */
 typedef struct {
-    int64_t starts[CUP_INTEGRATORS_MAX], quanta[CUP_INTEGRATORS_MAX];
+    int64_t starts[CUP_INTEGRATORS], quanta[CUP_INTEGRATORS];
 } CupIntegrators;
 
 typedef struct {
-    int64_t firsts[CUP_INPUTS_MAX];
+    int64_t firsts[CUP_INPUTS];
 } CupInputs;
 
 /* Kind, A, B, lo and hi; a and b are source numbers. */
 typedef struct {
-    size_t kinds[CUP_NODES_MAX], a[CUP_NODES_MAX], b[CUP_NODES_MAX];
-    int64_t lows[CUP_NODES_MAX], highs[CUP_NODES_MAX];
+    size_t kinds[CUP_NODES], a[CUP_NODES], b[CUP_NODES];
+    int64_t lows[CUP_NODES], highs[CUP_NODES];
 } CupNodes;
 
 typedef struct {
-    size_t targets[CUP_LINKS_MAX], sources[CUP_LINKS_MAX];
-    int64_t coefficients[CUP_LINKS_MAX];
+    size_t targets[CUP_LINKS], sources[CUP_LINKS];
+    int64_t coefficients[CUP_LINKS];
 } CupLinks;
 
 typedef struct {
-    uint32_t ticks[CUP_COMMANDS_MAX];
-    size_t inputs[CUP_COMMANDS_MAX];
-    int64_t values[CUP_COMMANDS_MAX];
+    uint32_t ticks[CUP_COMMANDS];
+    size_t inputs[CUP_COMMANDS];
+    int64_t values[CUP_COMMANDS];
 } CupCommands;
 
 /* A plan: what the plan file says, number for number. */
@@ -150,9 +154,9 @@ typedef struct {
 /* How far a plan has run: for each integrator position, output, slope, last-moved tick and due tick;
  * the values of the inputs; the clocks. Unused entries are 0, unused due ticks too. */
 typedef struct {
-    int64_t x[CUP_INTEGRATORS_MAX], q[CUP_INTEGRATORS_MAX], s[CUP_INTEGRATORS_MAX];
-    uint32_t l[CUP_INTEGRATORS_MAX], d[CUP_INTEGRATORS_MAX];
-    int64_t inputs[CUP_INPUTS_MAX];
+    int64_t x[CUP_INTEGRATORS], q[CUP_INTEGRATORS], s[CUP_INTEGRATORS];
+    uint32_t l[CUP_INTEGRATORS], d[CUP_INTEGRATORS];
+    int64_t inputs[CUP_INPUTS];
     CupClocks clocks;
 } CupRunning;
 
@@ -190,9 +194,9 @@ typedef struct {
 
 /* What cup_tables answers. */
 typedef struct {
-    size_t ranges[CUP_INTEGRATORS_MAX + 1];
-    uint64_t reach[CUP_TABLE_SOURCES];
-    int64_t values[CUP_TABLE_SOURCES];
+    size_t ranges[CUP_INTEGRATORS + 1];
+    uint64_t reach[CUP_SOURCES];
+    int64_t values[CUP_SOURCES];
 } CupTables;
 
 /* Reads a plan file: returns CUP_ACCEPTED, or one of CUP_REFUSED_SHORT to CUP_REFUSED_COMMAND. *entry

@@ -3,7 +3,7 @@
 use crate::engine::run::run;
 use crate::engine::{Engine, Mutant, Rules, State};
 use crate::file::{read, section, write};
-use crate::limits::{ACCEPTED, BUDGET_MAX, EVENT_BYTES};
+use crate::limits::{ACCEPTED, EVENT_BYTES, LARGEST_BUDGET};
 use crate::limits::{
     REFUSED_BUDGET, REFUSED_INTEGRATOR_NUMBER, REFUSED_RUN_BUFFER, REFUSED_UNSOUND,
     REFUSED_WRITE_BUFFER,
@@ -126,7 +126,7 @@ impl Simulator for Checker {
         let Some(mut running) = accept(state) else {
             return declined(REFUSED_UNSOUND);
         };
-        if budget > BUDGET_MAX {
+        if budget > LARGEST_BUDGET {
             return declined(REFUSED_BUDGET);
         }
         if buffer.len() < run_bytes(&running, budget) {

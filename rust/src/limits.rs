@@ -9,9 +9,9 @@ pub const GRAINS: i64 = 1 << GRAIN_BITS;
 /// The same as a number of bits: an arithmetic shift by them rounds towards minus infinity.
 pub const GRAIN_BITS: u32 = 16;
 /// The bound of a link's coefficient.
-pub const COEFFICIENT_BOUND: i64 = 1 << 24;
+pub const LARGEST_COEFFICIENT: i64 = 1 << 24;
 /// The last tick that a horizon may name.
-pub const HORIZON_MAX: u32 = 2_000_000_000;
+pub const LARGEST_HORIZON: u32 = 2_000_000_000;
 /// The due tick of an integrator that is never due.
 pub const NEVER: u32 = u32::MAX;
 
@@ -34,27 +34,27 @@ pub const COMMAND_BYTES: usize = 12;
 /// Bytes of one event.
 pub const EVENT_BYTES: usize = 12;
 /// Bytes of the longest plan that is accepted.
-pub const FILE_BYTES_MAX: usize = 4_492;
+pub const LONGEST_FILE: usize = 4_492;
 
 /// The largest budget that a run accepts.
-pub const BUDGET_MAX: u64 = 1_024;
+pub const LARGEST_BUDGET: u64 = 1_024;
 /// What the listing program reads at most: one byte more than the longest plan.
-pub const LISTING_BYTES: usize = FILE_BYTES_MAX + 1;
+pub const LISTING_INPUT: usize = LONGEST_FILE + 1;
 /// The budget of each run of the listing program.
 pub const LISTING_BUDGET: u64 = 64;
 
 /// The most integrators of a plan.
-pub const INTEGRATORS_MAX: usize = 32;
+pub const INTEGRATORS: usize = 32;
 /// The most inputs of a plan.
-pub const INPUTS_MAX: usize = 8;
+pub const INPUTS: usize = 8;
 /// The most nodes of a plan.
-pub const NODES_MAX: usize = 16;
+pub const NODES: usize = 16;
 /// The most links of a plan.
-pub const LINKS_MAX: usize = 256;
+pub const LINKS: usize = 256;
 /// The most commands of a plan.
-pub const COMMANDS_MAX: usize = 64;
+pub const COMMANDS: usize = 64;
 /// Entries of a table by source number. A plan has at most 56 sources.
-pub const TABLE_SOURCES: usize = 64;
+pub const SOURCES: usize = 64;
 
 /// The number of an accepted call.
 pub const ACCEPTED: usize = 0;
@@ -141,11 +141,11 @@ impl Section {
     /// The most entries.
     pub const fn most(self) -> usize {
         match self {
-            Section::Integrators => INTEGRATORS_MAX,
-            Section::Inputs => INPUTS_MAX,
-            Section::Nodes => NODES_MAX,
-            Section::Links => LINKS_MAX,
-            Section::Commands => COMMANDS_MAX,
+            Section::Integrators => INTEGRATORS,
+            Section::Inputs => INPUTS,
+            Section::Nodes => NODES,
+            Section::Links => LINKS,
+            Section::Commands => COMMANDS,
         }
     }
 }

@@ -2,7 +2,7 @@
 
 use crate::calls::{Checker, Ran, Simulator};
 use crate::engine::Engine;
-use crate::limits::{ACCEPTED, EVENT_BYTES, LISTING_BUDGET, LISTING_BYTES, PAUSED, WORD_BYTES};
+use crate::limits::{ACCEPTED, EVENT_BYTES, LISTING_BUDGET, LISTING_INPUT, PAUSED, WORD_BYTES};
 use crate::raw::RawState;
 use crate::words::{signed_at, word_at};
 use std::io::{self, Write};
@@ -17,7 +17,7 @@ pub fn listing(input: &[u8]) -> String {
 /// Prints the listing of the first 4,493 bytes of the input, with a write for each run: a plan may have
 /// more events than fit the memory.
 pub fn write_listing(input: &[u8], output: &mut impl Write) -> io::Result<()> {
-    let file = &input[..input.len().min(LISTING_BYTES)];
+    let file = &input[..input.len().min(LISTING_INPUT)];
     let loaded = Checker::default().load(file);
     match loaded.number {
         ACCEPTED => write_runs(loaded.state, output),

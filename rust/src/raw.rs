@@ -5,7 +5,7 @@
 
 use crate::engine::State;
 use crate::limits::{Section, SECTIONS};
-use crate::limits::{COMMANDS_MAX, INPUTS_MAX, INTEGRATORS_MAX, LINKS_MAX, NODES_MAX};
+use crate::limits::{COMMANDS, INPUTS, INTEGRATORS, LINKS, NODES};
 use crate::plan::{Command, Integrator, Link, Node, Plan};
 
 /// How many entries each section of a plan has.
@@ -23,44 +23,44 @@ pub struct RawCounts {
 #[derive(Clone, Debug, PartialEq, Eq)]
 #[allow(missing_docs)]
 pub struct RawIntegrators {
-    pub starts: [i64; INTEGRATORS_MAX],
-    pub quanta: [i64; INTEGRATORS_MAX],
+    pub starts: [i64; INTEGRATORS],
+    pub quanta: [i64; INTEGRATORS],
 }
 
 /// First values.
 #[derive(Clone, Debug, PartialEq, Eq)]
 #[allow(missing_docs)]
 pub struct RawInputs {
-    pub firsts: [i64; INPUTS_MAX],
+    pub firsts: [i64; INPUTS],
 }
 
 /// Static functions; `a` and `b` are source numbers.
 #[derive(Clone, Debug, PartialEq, Eq)]
 #[allow(missing_docs)]
 pub struct RawNodes {
-    pub kinds: [usize; NODES_MAX],
-    pub a: [usize; NODES_MAX],
-    pub b: [usize; NODES_MAX],
-    pub lows: [i64; NODES_MAX],
-    pub highs: [i64; NODES_MAX],
+    pub kinds: [usize; NODES],
+    pub a: [usize; NODES],
+    pub b: [usize; NODES],
+    pub lows: [i64; NODES],
+    pub highs: [i64; NODES],
 }
 
 /// Terms of the rates; `targets` are integrators, `sources` source numbers.
 #[derive(Clone, Debug, PartialEq, Eq)]
 #[allow(missing_docs)]
 pub struct RawLinks {
-    pub targets: [usize; LINKS_MAX],
-    pub sources: [usize; LINKS_MAX],
-    pub coefficients: [i64; LINKS_MAX],
+    pub targets: [usize; LINKS],
+    pub sources: [usize; LINKS],
+    pub coefficients: [i64; LINKS],
 }
 
 /// Values that inputs take later; `inputs` are input numbers, counted from 0.
 #[derive(Clone, Debug, PartialEq, Eq)]
 #[allow(missing_docs)]
 pub struct RawCommands {
-    pub ticks: [u32; COMMANDS_MAX],
-    pub inputs: [usize; COMMANDS_MAX],
-    pub values: [i64; COMMANDS_MAX],
+    pub ticks: [u32; COMMANDS],
+    pub inputs: [usize; COMMANDS],
+    pub values: [i64; COMMANDS],
 }
 
 /// A plan: its horizon, its counts and a struct of arrays for each section.
@@ -90,12 +90,12 @@ pub struct RawClocks {
 #[derive(Clone, Debug, PartialEq, Eq)]
 #[allow(missing_docs)] // The fields carry document 01's names.
 pub struct RawRunning {
-    pub x: [i64; INTEGRATORS_MAX],
-    pub q: [i64; INTEGRATORS_MAX],
-    pub s: [i64; INTEGRATORS_MAX],
-    pub l: [u32; INTEGRATORS_MAX],
-    pub d: [u32; INTEGRATORS_MAX],
-    pub inputs: [i64; INPUTS_MAX],
+    pub x: [i64; INTEGRATORS],
+    pub q: [i64; INTEGRATORS],
+    pub s: [i64; INTEGRATORS],
+    pub l: [u32; INTEGRATORS],
+    pub d: [u32; INTEGRATORS],
+    pub inputs: [i64; INPUTS],
     pub clocks: RawClocks,
 }
 

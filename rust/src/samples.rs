@@ -1,7 +1,7 @@
 //! The plans kept in the folder `plans`, with no chance in them.
 
 use crate::file::encode;
-use crate::limits::{GRAINS, HORIZON_MAX, M};
+use crate::limits::{GRAINS, LARGEST_HORIZON, M};
 use crate::plan::Plan;
 
 /// A plan file and its name without ending.
@@ -107,7 +107,7 @@ fn overflow() -> Plan {
 /// cup round whenever its output passes a level.
 fn long() -> Plan {
     let (first, second, rate, level, turn) = (0, 1, 2, 3, 4);
-    Plan::new(HORIZON_MAX)
+    Plan::new(LARGEST_HORIZON)
         .integrator(-1_000_000_000, 1 << 26)
         .integrator(0, 1 << 25)
         .input(1)
@@ -117,7 +117,7 @@ fn long() -> Plan {
         .link(second, turn, GRAINS)
         .command(1_000_000_000, 0, -1)
         .command(1_500_000_000, 1, -(3 << 26))
-        .command(HORIZON_MAX, 0, 0)
+        .command(LARGEST_HORIZON, 0, 0)
 }
 
 /// Every section as long as it may be: four rings of eight cups. Each cup leaks, takes from the

@@ -7,7 +7,7 @@ use cup_check::compare::counts::STATUSES;
 use cup_check::compare::loaded_list;
 use cup_check::file::rules;
 use cup_check::generate::{long_list, Family};
-use cup_check::limits::BUDGET_MAX;
+use cup_check::limits::LARGEST_BUDGET;
 use cup_check::met::Met;
 use cup_check::sound::broken_clauses;
 
@@ -71,5 +71,5 @@ fn long_runs_agree_with_the_plain_machine() {
     }
     met.require("instants", 100_000);
     met.assert_enough();
-    assert_eq!(met.of("instants in the longest list"), 12 * BUDGET_MAX);
+    assert_eq!(met.of("instants in the longest list"), 12 * LARGEST_BUDGET);
 }

@@ -10,7 +10,7 @@ use cup_check::file::{encode, read, Cause, Refusal};
 use cup_check::generate::damage::damaged;
 use cup_check::generate::{plans, Damage, Rng};
 use cup_check::limits::{
-    Section, ACCEPTED, FILE_BYTES_MAX, HEADER_BYTES, REFUSED_HORIZON, REFUSED_INTEGRATOR,
+    Section, ACCEPTED, HEADER_BYTES, LONGEST_FILE, REFUSED_HORIZON, REFUSED_INTEGRATOR,
     REFUSED_OFFSETS, REFUSED_SHORT, SECTIONS,
 };
 use cup_check::raw::RawState;
@@ -24,7 +24,7 @@ fn check(file: &[u8]) -> Option<Cause> {
     match answer {
         Ok(_) => {
             assert_eq!((loaded.number, loaded.entry), (ACCEPTED, 0));
-            let mut buffer = vec![0; FILE_BYTES_MAX];
+            let mut buffer = vec![0; LONGEST_FILE];
             let written = CHECKER.write(&loaded.state, &mut buffer);
             assert_eq!(&buffer[..written.length], file);
         }

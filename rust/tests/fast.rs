@@ -9,7 +9,7 @@ use cup_check::compare::{continued_list, loaded_list};
 use cup_check::engine::Engine;
 use cup_check::fast::{run_lazy, Fast};
 use cup_check::generate::{run_list, Call, Family, Fill};
-use cup_check::limits::{ACCEPTED, BUDGET_MAX, EVENT_BYTES};
+use cup_check::limits::{ACCEPTED, EVENT_BYTES, LARGEST_BUDGET};
 use cup_check::met::Met;
 use cup_check::plan::Plan;
 use cup_check::raw::RawState;
@@ -102,7 +102,7 @@ fn tables_may_be_kept_over_runs() {
         let list = run_list(&mut rng, plan.events_per_instant());
         compared += compare_kept(&plan, &list);
     }
-    let budget = BUDGET_MAX;
+    let budget = LARGEST_BUDGET;
     let call = |buffer| Call {
         engine: Engine::Lazy,
         budget,
@@ -120,7 +120,7 @@ fn tables_may_be_kept_over_runs() {
 fn compare_kept(plan: &Plan, list: &[Call]) -> u64 {
     let mut state = loaded(plan);
     let mut kept = Fast::prepared(&state);
-    let accepted = list.iter().filter(|call| call.budget <= BUDGET_MAX);
+    let accepted = list.iter().filter(|call| call.budget <= LARGEST_BUDGET);
     let mut compared = 0;
     for call in accepted {
         let (expected, bytes) = run(Engine::Lazy, &state, call.budget);

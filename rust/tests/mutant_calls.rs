@@ -6,7 +6,7 @@ mod common;
 use common::{first_difference, CHECKER};
 use cup_check::calls::{Loaded, Positioned, Ran, Simulator, Written};
 use cup_check::engine::Engine;
-use cup_check::limits::{ACCEPTED, BUDGET_MAX, EVENT_BYTES, FINISHED, RANGE};
+use cup_check::limits::{ACCEPTED, EVENT_BYTES, FINISHED, LARGEST_BUDGET, RANGE};
 use cup_check::raw::RawState;
 
 /// What is wrong.
@@ -71,10 +71,12 @@ impl MutantCalls {
         match self.0 {
             Mutant::EagerBodyUnderLazy => (Engine::Eager, budget),
             Mutant::LazyBodyUnderEager => (Engine::Lazy, budget),
-            Mutant::OnlyFirstInstant if budget <= BUDGET_MAX => (engine, budget.min(1)),
-            Mutant::OneInstantTooMany if budget < fitting.min(BUDGET_MAX) => (engine, budget + 1),
-            Mutant::BudgetNotTested => (engine, budget.min(BUDGET_MAX)),
-            Mutant::BufferNotTested if budget <= BUDGET_MAX => (engine, budget.min(fitting)),
+            Mutant::OnlyFirstInstant if budget <= LARGEST_BUDGET => (engine, budget.min(1)),
+            Mutant::OneInstantTooMany if budget < fitting.min(LARGEST_BUDGET) => {
+                (engine, budget + 1)
+            }
+            Mutant::BudgetNotTested => (engine, budget.min(LARGEST_BUDGET)),
+            Mutant::BufferNotTested if budget <= LARGEST_BUDGET => (engine, budget.min(fitting)),
             _ => (engine, budget),
         }
     }

@@ -6,7 +6,7 @@ use common::{events_of_plan, loaded, refusal, refusal_of_plan, run, run_plan, CH
 use cup_check::calls::Simulator;
 use cup_check::engine::Engine;
 use cup_check::file::encode;
-use cup_check::limits::{COEFFICIENT_BOUND, GRAINS, M, NEVER};
+use cup_check::limits::{GRAINS, LARGEST_COEFFICIENT, M, NEVER};
 use cup_check::plan::{Command, Plan};
 use cup_check::samples::document_cup;
 use cup_check::sound::{broken_clauses, is_sound, Clause};
@@ -110,7 +110,7 @@ fn kinds_0_and_1_have_lo_and_hi_0() {
 #[test]
 fn the_least_values_are_allowed() {
     let plan = filled(-M, 1, -M, 2).command(1, 0, -M);
-    let plan = plan.limit(0, -M, -M).link(0, 2, -COEFFICIENT_BOUND);
+    let plan = plan.limit(0, -M, -M).link(0, 2, -LARGEST_COEFFICIENT);
     assert_eq!(refusal_of_plan(&plan), (0, 0));
 }
 

@@ -9,7 +9,7 @@ use cup_check::file::read::place_in;
 use cup_check::file::{encode, read, Cause};
 use cup_check::generate::plant::{in_file, in_plan, planted, twice_in_one_entry};
 use cup_check::generate::{plans, Rng};
-use cup_check::limits::{Section, HORIZON_MAX, M};
+use cup_check::limits::{Section, LARGEST_HORIZON, M};
 use cup_check::plan::Plan;
 use cup_check::raw::RawState;
 use cup_check::samples::document_cup;
@@ -24,7 +24,7 @@ fn changed(change: impl Fn(&mut Plan)) -> (usize, usize) {
 #[test]
 fn values_at_their_limits_are_accepted() {
     assert_eq!(refusal_of_plan(&every_section()), (0, 0));
-    assert_eq!(changed(|plan| plan.horizon = HORIZON_MAX), (0, 0));
+    assert_eq!(changed(|plan| plan.horizon = LARGEST_HORIZON), (0, 0));
     let smallest = Plan::new(1).integrator(0, 1);
     assert_eq!(refusal_of_plan(&smallest), (0, 0));
     assert_eq!(encode(&smallest).len(), 52);

@@ -7,7 +7,7 @@ use cup_check::calls::Simulator;
 use cup_check::file::encode;
 use cup_check::generate::states::sound_state;
 use cup_check::generate::{plans, Rng};
-use cup_check::limits::FILE_BYTES_MAX;
+use cup_check::limits::LONGEST_FILE;
 use cup_check::listing::listing;
 use cup_check::plan::Plan;
 use cup_check::raw::RawState;
@@ -22,7 +22,7 @@ fn for_plans(count: u64, mut check: impl FnMut(&mut Rng, &Plan)) {
 
 /// The file that the writer gives for a state.
 fn written(state: &RawState) -> Vec<u8> {
-    let mut buffer = vec![0; FILE_BYTES_MAX];
+    let mut buffer = vec![0; LONGEST_FILE];
     let written = CHECKER.write(state, &mut buffer);
     assert_eq!(written.number, 0);
     buffer.truncate(written.length);

@@ -9,7 +9,7 @@ use cup_check::engine::Engine;
 use cup_check::generate::near::{change, without_integrators};
 use cup_check::generate::states::{between_instants, settle, sound_state};
 use cup_check::generate::{run_list, Family, Fill, Rng};
-use cup_check::limits::{GRAINS, HORIZON_MAX, M};
+use cup_check::limits::{GRAINS, LARGEST_HORIZON, M};
 use cup_check::met::Met;
 use cup_check::plan::Plan;
 use cup_check::raw::RawState;
@@ -99,13 +99,13 @@ fn no_instants_with_a_clock_above_0_and_inputs_that_no_command_set() {
 
 #[test]
 fn the_latest_due_tick_of_a_sound_state() {
-    let plan = Plan::new(HORIZON_MAX).integrator(0, M).input(1);
+    let plan = Plan::new(LARGEST_HORIZON).integrator(0, M).input(1);
     let mut state = loaded(&plan.link(0, 1, GRAINS));
-    state.run.clocks.clock = HORIZON_MAX;
-    state.run.l[0] = HORIZON_MAX;
+    state.run.clocks.clock = LARGEST_HORIZON;
+    state.run.l[0] = LARGEST_HORIZON;
     state.run.x[0] = 1 - M;
     settle(&mut state);
-    assert_eq!(state.run.d[0], HORIZON_MAX + 0x7fff_ffff);
+    assert_eq!(state.run.d[0], LARGEST_HORIZON + 0x7fff_ffff);
     assert!(is_sound(&state));
     assert_eq!(run(Engine::Lazy, &state, 1).0.status, 1);
 }

@@ -15,7 +15,7 @@ ghost use Rattle.directory.specs.Pointers.{further};
 use entryrules::count_kept;
 use entryrules::entry_size;
 use plan::Finding;
-use plan::HEADER_LENGTH;
+use plan::HEADER_BYTES;
 use plan::SECTIONS;
 use words::read_u32;
 
@@ -43,7 +43,7 @@ fn check_offsets(file: &[u8]) -> Finding
     requires { ⌜ headerLength ≤ length (now file) ⌝ }
     ensures { λ r. ⌜ r ≡ unless (offsetsKept (now (file .entry))) Offsets ⌝ }
 {
-    let mut start = HEADER_LENGTH as u64;
+    let mut start = HEADER_BYTES as u64;
     let mut section = 0;
     while section < SECTIONS {
         let offset = offset_in(file, section);
@@ -91,7 +91,7 @@ fn check_sizes(file: &[u8]) -> Finding
 pub fn check_directory(file: &[u8]) -> Finding
     ensures { λ r. ⌜ r ≡ directoryFinding (now (file .entry)) ⌝ }
 {
-    if file.len() < HEADER_LENGTH {
+    if file.len() < HEADER_BYTES {
         return Finding::Short;
     }
     let found = check_offsets(file);

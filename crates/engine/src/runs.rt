@@ -25,35 +25,35 @@ pub struct Ended {
 
 // The tables are worked out once; in the loop the plan's arrays are lent where they lie, and those of the running figures as local copies. Outputs and input
 // values stand in the values of sources alone, and are read out of them at the end.
-pub fn run(st: State, engine: Engine, budget: u64, buf: &mut [u8]) -> Ended
-    requires { ⌜ RunReady st budget (length (now buf)) ⌝ }
-    ensures answer { λ w. ⌜ w ≡ endedOf (st .plan) engine budget (st .run) ⌝ }
-    ensures buffer { λ _. ⌜ now (buf .exit) ≡ putAt (now (buf .entry)) 0 (events (st .plan) engine budget (st .run)) ⌝ }
+pub fn run(state: State, engine: Engine, budget: u64, buffer: &mut [u8]) -> Ended
+    requires { ⌜ RunReady state budget (length (now buffer)) ⌝ }
+    ensures answer { λ r. ⌜ r ≡ endedOf (state .plan) engine budget (state .run) ⌝ }
+    ensures buffer { λ _. ⌜ now (buffer .exit) ≡ putAt (now (buffer .entry)) 0 (events (state .plan) engine budget (state .run)) ⌝ }
 {
-    let counts = st.plan.counts;
-    let r = st.run;
-    let ranges = link_ranges(counts.n, counts.links, &st.plan.links.targets);
+    let counts = state.plan.counts;
+    let r = state.run;
+    let ranges = link_ranges(counts.n, counts.links, &state.plan.links.targets);
     let reach = reach_table(
         counts.n + counts.m,
         counts.k,
         counts.links,
-        &st.plan.nodes.kinds,
-        &st.plan.nodes.a,
-        &st.plan.nodes.b,
-        &st.plan.links.targets,
-        &st.plan.links.sources,
+        &state.plan.nodes.kinds,
+        &state.plan.nodes.a,
+        &state.plan.nodes.b,
+        &state.plan.links.targets,
+        &state.plan.links.sources,
     );
     let mut values = source_values(
         counts.n,
         counts.m,
         counts.k,
-        &st.run.q,
-        &st.run.inputs,
-        &st.plan.nodes.kinds,
-        &st.plan.nodes.a,
-        &st.plan.nodes.b,
-        &st.plan.nodes.lows,
-        &st.plan.nodes.highs,
+        &state.run.q,
+        &state.run.inputs,
+        &state.plan.nodes.kinds,
+        &state.plan.nodes.a,
+        &state.plan.nodes.b,
+        &state.plan.nodes.lows,
+        &state.plan.nodes.highs,
     );
     let mut x = r.x;
     let mut s = r.s;
@@ -64,10 +64,10 @@ pub fn run(st: State, engine: Engine, budget: u64, buf: &mut [u8]) -> Ended
     let mut taken: u64 = 0;
     loop {
         let ahead = look_ahead(
-            st.plan.horizon,
+            state.plan.horizon,
             counts.n,
             counts.commands,
-            &st.plan.commands.ticks,
+            &state.plan.commands.ticks,
             &x,
             &s,
             &l,
@@ -96,17 +96,17 @@ pub fn run(st: State, engine: Engine, budget: u64, buf: &mut [u8]) -> Ended
         let step = take_instant(
             engine,
             counts,
-            &st.plan.integrators.quanta,
-            &st.plan.nodes.kinds,
-            &st.plan.nodes.a,
-            &st.plan.nodes.b,
-            &st.plan.nodes.lows,
-            &st.plan.nodes.highs,
-            &st.plan.links.sources,
-            &st.plan.links.coefficients,
-            &st.plan.commands.ticks,
-            &st.plan.commands.inputs,
-            &st.plan.commands.values,
+            &state.plan.integrators.quanta,
+            &state.plan.nodes.kinds,
+            &state.plan.nodes.a,
+            &state.plan.nodes.b,
+            &state.plan.nodes.lows,
+            &state.plan.nodes.highs,
+            &state.plan.links.sources,
+            &state.plan.links.coefficients,
+            &state.plan.commands.ticks,
+            &state.plan.commands.inputs,
+            &state.plan.commands.values,
             &ranges,
             &reach,
             ahead.tick,
@@ -117,7 +117,7 @@ pub fn run(st: State, engine: Engine, budget: u64, buf: &mut [u8]) -> Ended
             &mut d,
             &mut values,
             clocks,
-            buf,
+            buffer,
             end,
         );
         clocks = step.clocks;

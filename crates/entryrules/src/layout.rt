@@ -4,24 +4,24 @@ ghost use Prim.Native.Nat.{_<_};
 ghost use Rattle.plan.specs.Numbers.{sections, entrySizes, leastCounts, largestCounts};
 ghost use Rattle.plan.specs.Lists.{natAt, every};
 ghost use Rattle.plan.specs.Tests.{countKept};
-use plan::COMMAND_SIZE;
+use plan::COMMAND_BYTES;
 use plan::COMMANDS;
-use plan::INPUT_SIZE;
+use plan::INPUT_BYTES;
 use plan::INPUTS;
-use plan::INTEGRATOR_SIZE;
+use plan::INTEGRATOR_BYTES;
 use plan::INTEGRATORS;
-use plan::LINK_SIZE;
+use plan::LINK_BYTES;
 use plan::LINKS;
-use plan::NODE_SIZE;
+use plan::NODE_BYTES;
 use plan::NODES;
 use plan::SECTIONS;
 
 const ENTRY_SIZES: [u64; SECTIONS] = [
-    INTEGRATOR_SIZE as u64,
-    INPUT_SIZE as u64,
-    NODE_SIZE as u64,
-    LINK_SIZE as u64,
-    COMMAND_SIZE as u64,
+    INTEGRATOR_BYTES as u64,
+    INPUT_BYTES as u64,
+    NODE_BYTES as u64,
+    LINK_BYTES as u64,
+    COMMAND_BYTES as u64,
 ];
 
 const LEAST_COUNTS: [u64; SECTIONS] = [1, 0, 0, 0, 0];

@@ -69,19 +69,19 @@ pub fn take_instant<'a>(
     d: &mut [u32; INTEGRATORS],
     values: &mut [i64; SOURCES],
     clocks: Clocks,
-    buf: &mut [u8],
+    buffer: &mut [u8],
     at: usize,
 ) -> Taken
     requires { ⌜ SomePlanReady (planOf counts (now quanta) (now kinds) (now a) (now b) (now lows) (now highs) (now sources) (now coefficients) (now ticks)
         (now inputs) (now settings)) (now ranges) (now reach) t due (runningOf counts (now x) (now s) (now l) (now d) (now values) clocks) (now values)
-        at (length (now buf)) ⌝ }
+        at (length (now buffer)) ⌝ }
     ensures { λ w. ⌜ EveryPlanTaken engine (planOf counts (now (quanta .entry)) (now (kinds .entry)) (now (a .entry)) (now (b .entry)) (now (lows .entry))
         (now (highs .entry)) (now (sources .entry)) (now (coefficients .entry)) (now (ticks .entry)) (now (inputs .entry)) (now (settings .entry)))
         (now (ranges .entry)) (now (reach .entry)) t due
         (runningOf counts (now (x .entry)) (now (s .entry)) (now (l .entry)) (now (d .entry)) (now (values .entry)) clocks) (now (values .entry))
-        (now (buf .entry)) at
+        (now (buffer .entry)) at
         (runningOf counts (now (x .exit)) (now (s .exit)) (now (l .exit)) (now (d .exit)) (now (values .exit)) (w .clocks)) (now (values .exit))
-        (now (buf .exit)) (w .end) ⌝ }
+        (now (buffer .exit)) (w .end) ⌝ }
 {
     let n = counts.n;
     let base = n + counts.m;
@@ -109,7 +109,7 @@ pub fn take_instant<'a>(
         reached.nodes,
         values,
     );
-    let end = write_events(t, changed, values, buf, at);
+    let end = write_events(t, changed, values, buffer, at);
     let moved = moved_set(engine, n, due, reached.integrators);
     move_all(
         quanta,

@@ -12,7 +12,7 @@ use listingtext::write_lines;
 use listingtext::write_refusal;
 use machine::State;
 use plan::ACCEPTED;
-use plan::EVENT_SIZE;
+use plan::EVENT_BYTES;
 use plan::INPUTS;
 use plan::INTEGRATORS;
 use plan::LISTING_BUDGET;
@@ -21,7 +21,7 @@ use simulator::load;
 use simulator::run_lazy;
 
 // What one run of the listing program can write, in bytes of events.
-pub const EVENT_SPACE: usize = LISTING_BUDGET as usize * (INTEGRATORS + INPUTS) * EVENT_SIZE;
+pub const EVENT_SPACE: usize = LISTING_BUDGET as usize * (INTEGRATORS + INPUTS) * EVENT_BYTES;
 
 // And the characters of its text: a line of up to 26 for each event, and an end line of up to 40.
 pub const TEXT_SPACE: usize = LISTING_BUDGET as usize * (INTEGRATORS + INPUTS) * 26 + 40;
@@ -66,7 +66,7 @@ pub fn take_turn(state: State, events: &mut [u8], text: &mut [u8]) -> Turn
     ensures text { λ _. ⌜ now (text .exit) ≡ writtenOver (turnText state) (now (text .entry)) ⌝ }
 {
     let ran = run_lazy(state, LISTING_BUDGET, events);
-    let lines = write_lines(text, events, ran.written / EVENT_SIZE);
+    let lines = write_lines(text, events, ran.written / EVENT_BYTES);
     let reached = ran.state;
     if ran.status == PAUSED {
         return Turn {

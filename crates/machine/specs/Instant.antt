@@ -51,28 +51,28 @@ eventsAt p t d q u = joined (λ i. cond (changes p d t i) (eventBytes t i (value
 
 module _ (p : Plan) (r : Running) (t : ℕ) where
   -- 1. "The due integrators (d = t) take q = x+s×(t−l)." The others keep theirs.
-  unfoldable pub outputs : List ℤ
-  outputs = row (pos 0) mostIntegrators (p .counts .n) (λ i. cond (isDue (r .d) t i) (positionAt r t i) (intAt (r .q) i))
+  unfoldable pub outputsThen : List ℤ
+  outputsThen = row (pos 0) mostIntegrators (p .counts .n) (λ i. cond (isDue (r .d) t i) (positionAt r t i) (intAt (r .q) i))
 
   -- 3. and 5. the new slope, by the new outputs and inputs and the node values worked out from them
   unfoldable pub slopeThen : ℕ → ℤ
-  slopeThen i = rateOf p outputs (inputsThen p (r .inputs) t) i
+  slopeThen i = rateOf p outputsThen (inputsThen p (r .inputs) t) i
 
   -- 5. "x becomes x+s×(t−l) .. A due integrator gets x = q."
   unfoldable pub xThen : ℕ → ℤ
-  xThen i = cond (isDue (r .d) t i) (intAt outputs i) (positionAt r t i)
+  xThen i = cond (isDue (r .d) t i) (intAt outputsThen i) (positionAt r t i)
 
   -- 5. and the new due tick
   unfoldable pub dueThen : ℕ → ℕ
-  dueThen i = dueOf p outputs i t (xThen i) (slopeThen i)
+  dueThen i = dueOf p outputsThen i t (xThen i) (slopeThen i)
 
   -- the instant at tick t, in which the integrators move that pass a test.
   -- 6. "c = t; instants grows by 1; updates grows by the number of integrators moved, each counted once."
-  unfoldable pub takenAt : (ℕ → Bool) → Running
-  takenAt moved =
+  unfoldable pub figuresAfter : (ℕ → Bool) → Running
+  figuresAfter moved =
       record {
         x = row (pos 0) mostIntegrators (p .counts .n) (λ i. cond (moved i) (xThen i) (intAt (r .x) i));
-        q = outputs;
+        q = outputsThen;
         s = row (pos 0) mostIntegrators (p .counts .n) (λ i. cond (moved i) (slopeThen i) (intAt (r .s) i));
         l = row 0 mostIntegrators (p .counts .n) (λ i. cond (moved i) t (natAt (r .l) i));
         d = row 0 mostIntegrators (p .counts .n) (λ i. cond (moved i) (dueThen i) (natAt (r .d) i));
@@ -91,7 +91,7 @@ module _ (p : Plan) where
   nextTickOf r = nextTick p (r .d) (r .clocks .next)
 
   unfoldable pub instant : Engine → Running → Running
-  instant engine r = takenAt p r (nextTickOf r) (moves p engine (r .d) (nextTickOf r))
+  instant engine r = figuresAfter p r (nextTickOf r) (moves p engine (r .d) (nextTickOf r))
 
   unfoldable pub eventsOf : Running → List ℕ
-  eventsOf r = eventsAt p (nextTickOf r) (r .d) (outputs p r (nextTickOf r)) (inputsThen p (r .inputs) (nextTickOf r))
+  eventsOf r = eventsAt p (nextTickOf r) (r .d) (outputsThen p r (nextTickOf r)) (inputsThen p (r .inputs) (nextTickOf r))

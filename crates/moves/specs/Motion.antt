@@ -24,8 +24,8 @@ motion x s l d = record { x = x; s = s; l = l; d = d }
 
 module _ (quanta : List ℤ) (sources : List ℕ) (coefficients : List ℤ) (ranges : List ℕ) (t : ℕ) (values : List ℤ) where
   -- where integrator i is at t, its new slope, and its new due tick
-  unfoldable pub placeOf : ℕ → Motion → ℤ
-  placeOf i m = intAt (m .x) i +ℤ intAt (m .s) i *ℤ pos (t - natAt (m .l) i)
+  unfoldable pub positionThen : ℕ → Motion → ℤ
+  positionThen i m = intAt (m .x) i +ℤ intAt (m .s) i *ℤ pos (t - natAt (m .l) i)
 
   unfoldable pub slopeOf : ℕ → ℤ
   slopeOf i = rangeRate sources coefficients values (natAt ranges i) (natAt ranges (i + 1))
@@ -35,14 +35,14 @@ module _ (quanta : List ℤ) (sources : List ℕ) (coefficients : List ℤ) (ran
 
   unfoldable pub afterMove : ℕ → Motion → Motion
   afterMove i m =
-      motion (set (m .x) i (placeOf i m)) (set (m .s) i (slopeOf i)) (set (m .l) i t) (set (m .d) i (dueFrom i (placeOf i m)))
+      motion (set (m .x) i (positionThen i m)) (set (m .s) i (slopeOf i)) (set (m .l) i t) (set (m .d) i (dueFrom i (positionThen i m)))
 
   -- what that asks
   pub record Movable (i : ℕ) (m : Motion) : Type 0 where
     pub used : i < mostIntegrators
     pub rated : RateReady sources coefficients values (natAt ranges i) (natAt ranges (i + 1))
     pub position : PositionReady (intAt (m .x) i) (intAt (m .s) i) (natAt (m .l) i) t
-    pub due : DueReady t (placeOf i m) (intAt values i) (intAt quanta i) (slopeOf i)
+    pub due : DueReady t (positionThen i m) (intAt values i) (intAt quanta i) (slopeOf i)
 
   abbrev pub AllMovable : ℕ → Motion → Type 0
   AllMovable moved m = (i : ℕ) → has moved i ≡ true → Movable i m

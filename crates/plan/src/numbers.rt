@@ -88,32 +88,32 @@ impl Widths {
 pub const SECTIONS: usize = 5;
 
 // "Header, 44 bytes"
-pub const HEADER_LENGTH: usize = 44;
+pub const HEADER_BYTES: usize = 44;
 
 // The bytes of an entry of each section.
-pub const INTEGRATOR_SIZE: usize = 8;
+pub const INTEGRATOR_BYTES: usize = 8;
 
-pub const INPUT_SIZE: usize = 4;
+pub const INPUT_BYTES: usize = 4;
 
-pub const NODE_SIZE: usize = 20;
+pub const NODE_BYTES: usize = 20;
 
-pub const LINK_SIZE: usize = 12;
+pub const LINK_BYTES: usize = 12;
 
-pub const COMMAND_SIZE: usize = 12;
+pub const COMMAND_BYTES: usize = 12;
 
 // A file with the most entries of every section.
-pub const LONGEST_FILE: usize = HEADER_LENGTH
-    + INTEGRATOR_SIZE * INTEGRATORS
-    + INPUT_SIZE * INPUTS
-    + NODE_SIZE * NODES
-    + LINK_SIZE * LINKS
-    + COMMAND_SIZE * COMMANDS;
+pub const LONGEST_FILE: usize = HEADER_BYTES
+    + INTEGRATOR_BYTES * INTEGRATORS
+    + INPUT_BYTES * INPUTS
+    + NODE_BYTES * NODES
+    + LINK_BYTES * LINKS
+    + COMMAND_BYTES * COMMANDS;
 
 // "reads at most 4,493 bytes of standard input", the listing program: one more, so that a longer input is refused.
 pub const LISTING_INPUT: usize = LONGEST_FILE + 1;
 
 // "Events of an instant: .. 12 bytes each"
-pub const EVENT_SIZE: usize = 12;
+pub const EVENT_BYTES: usize = 12;
 
 pub struct Sizes {
     pub sections: usize,
@@ -134,15 +134,15 @@ impl Sizes {
     {
         Self {
             sections: SECTIONS,
-            header: HEADER_LENGTH,
-            integrator: INTEGRATOR_SIZE,
-            input: INPUT_SIZE,
-            node: NODE_SIZE,
-            link: LINK_SIZE,
-            command: COMMAND_SIZE,
+            header: HEADER_BYTES,
+            integrator: INTEGRATOR_BYTES,
+            input: INPUT_BYTES,
+            node: NODE_BYTES,
+            link: LINK_BYTES,
+            command: COMMAND_BYTES,
             longest: LONGEST_FILE,
             listing: LISTING_INPUT,
-            event: EVENT_SIZE,
+            event: EVENT_BYTES,
         }
     }
 }

@@ -7,15 +7,15 @@ ghost use lib.ListN.{length, replicate};
 ghost use Rattle.plan.specs.Numbers.{mostIntegrators, mostInputs, mostNodes, mostLinks, mostCommands};
 ghost use Rattle.plan.specs.Numbers.{integratorSize, inputSize, nodeSize, linkSize, commandSize};
 ghost use Rattle.planfile.specs.Columns.{wordsOf, signedsOf, unsignedsOf};
-use plan::COMMAND_SIZE;
+use plan::COMMAND_BYTES;
 use plan::COMMANDS;
-use plan::INPUT_SIZE;
+use plan::INPUT_BYTES;
 use plan::INPUTS;
-use plan::INTEGRATOR_SIZE;
+use plan::INTEGRATOR_BYTES;
 use plan::INTEGRATORS;
-use plan::LINK_SIZE;
+use plan::LINK_BYTES;
 use plan::LINKS;
-use plan::NODE_SIZE;
+use plan::NODE_BYTES;
 use plan::NODES;
 use words::read_i32;
 use words::read_u32;
@@ -34,8 +34,8 @@ pub fn read_integrators(
 {
     let mut i = 0;
     while i < n {
-        starts[i] = read_i32(part, INTEGRATOR_SIZE * i);
-        quanta[i] = read_u32(part, INTEGRATOR_SIZE * i + 4) as i64;
+        starts[i] = read_i32(part, INTEGRATOR_BYTES * i);
+        quanta[i] = read_u32(part, INTEGRATOR_BYTES * i + 4) as i64;
         i += 1;
     }
 }
@@ -48,7 +48,7 @@ pub fn read_inputs(part: &[u8], m: usize, firsts: &mut [i64; INPUTS])
 {
     let mut j = 0;
     while j < m {
-        firsts[j] = read_i32(part, INPUT_SIZE * j);
+        firsts[j] = read_i32(part, INPUT_BYTES * j);
         j += 1;
     }
 }
@@ -74,11 +74,11 @@ pub fn read_nodes(
 {
     let mut j = 0;
     while j < k {
-        kinds[j] = read_u32(part, NODE_SIZE * j) as usize;
-        a[j] = read_u32(part, NODE_SIZE * j + 4) as usize;
-        b[j] = read_u32(part, NODE_SIZE * j + 8) as usize;
-        lows[j] = read_i32(part, NODE_SIZE * j + 12);
-        highs[j] = read_i32(part, NODE_SIZE * j + 16);
+        kinds[j] = read_u32(part, NODE_BYTES * j) as usize;
+        a[j] = read_u32(part, NODE_BYTES * j + 4) as usize;
+        b[j] = read_u32(part, NODE_BYTES * j + 8) as usize;
+        lows[j] = read_i32(part, NODE_BYTES * j + 12);
+        highs[j] = read_i32(part, NODE_BYTES * j + 16);
         j += 1;
     }
 }
@@ -99,9 +99,9 @@ pub fn read_links(
 {
     let mut e = 0;
     while e < links {
-        targets[e] = read_u32(part, LINK_SIZE * e) as usize;
-        sources[e] = read_u32(part, LINK_SIZE * e + 4) as usize;
-        coefficients[e] = read_i32(part, LINK_SIZE * e + 8);
+        targets[e] = read_u32(part, LINK_BYTES * e) as usize;
+        sources[e] = read_u32(part, LINK_BYTES * e + 4) as usize;
+        coefficients[e] = read_i32(part, LINK_BYTES * e + 8);
         e += 1;
     }
 }
@@ -122,9 +122,9 @@ pub fn read_commands(
 {
     let mut e = 0;
     while e < commands {
-        ticks[e] = read_u32(part, COMMAND_SIZE * e) as u32;
-        inputs[e] = read_u32(part, COMMAND_SIZE * e + 4) as usize;
-        values[e] = read_i32(part, COMMAND_SIZE * e + 8);
+        ticks[e] = read_u32(part, COMMAND_BYTES * e) as u32;
+        inputs[e] = read_u32(part, COMMAND_BYTES * e + 4) as usize;
+        values[e] = read_i32(part, COMMAND_BYTES * e + 8);
         e += 1;
     }
 }

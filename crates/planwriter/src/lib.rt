@@ -11,7 +11,7 @@ ghost use Rattle.plan.specs.Encoding.{lengthFrom, offsetFrom, pairEntry};
 ghost use Rattle.planwriter.specs.Header.{CountsWithinLimits};
 ghost use Rattle.planwriter.specs.Plans.{planWritten, writtenBuffer};
 use entryrules::entry_size;
-use plan::HEADER_LENGTH;
+use plan::HEADER_BYTES;
 use plan::Plan;
 use plan::SECTIONS;
 use sectionwriters::write_commands;
@@ -22,12 +22,12 @@ use sectionwriters::write_nodes;
 use words::write_u32;
 
 // A section's pair of offset and length in the header.
-fn write_pair(buf: &mut [u8], offset: usize, size: usize)
-    requires { ⌜ (8 ≤ length (now buf)) × (offset < 2 ^ 32) × (size < 2 ^ 32) ⌝ }
-    ensures { λ _. ⌜ now (buf .exit) ≡ written (offset ∷ size ∷ []) (now (buf .entry)) ⌝ }
+fn write_pair(buffer: &mut [u8], offset: usize, size: usize)
+    requires { ⌜ (8 ≤ length (now buffer)) × (offset < 2 ^ 32) × (size < 2 ^ 32) ⌝ }
+    ensures { λ _. ⌜ now (buffer .exit) ≡ written (offset ∷ size ∷ []) (now (buffer .entry)) ⌝ }
 {
-    write_u32(buf, 0, offset as u64);
-    write_u32(buf, 4, size as u64);
+    write_u32(buffer, 0, offset as u64);
+    write_u32(buffer, 4, size as u64);
 }
 
 // The bytes of a section, by the counts of the five sections.
@@ -43,7 +43,7 @@ fn section_offset(counts: &[usize; SECTIONS], section: usize) -> usize
     requires { ⌜ (section ≤ sections) × CountsWithinLimits (now counts) ⌝ }
     ensures { λ r. ⌜ r ≡ offsetFrom (now (counts .entry)) section ⌝ }
 {
-    let mut offset = HEADER_LENGTH;
+    let mut offset = HEADER_BYTES;
     let mut i = 0;
     while i < section {
         offset += section_length(counts, i);
@@ -53,26 +53,26 @@ fn section_offset(counts: &[usize; SECTIONS], section: usize) -> usize
 }
 
 // The header's pairs, one for each section.
-fn write_pairs(buf: &mut [u8], counts: &[usize; SECTIONS])
-    requires { ⌜ (8 * sections ≤ length (now buf)) × CountsWithinLimits (now counts) ⌝ }
-    ensures { λ _. ⌜ now (buf .exit) ≡ written (joined (pairEntry (now (counts .entry))) sections) (now (buf .entry)) ⌝ }
+fn write_pairs(buffer: &mut [u8], counts: &[usize; SECTIONS])
+    requires { ⌜ (8 * sections ≤ length (now buffer)) × CountsWithinLimits (now counts) ⌝ }
+    ensures { λ _. ⌜ now (buffer .exit) ≡ written (joined (pairEntry (now (counts .entry))) sections) (now (buffer .entry)) ⌝ }
 {
     let mut section = 0;
     while section < SECTIONS {
         let offset = section_offset(counts, section);
         let size = section_length(counts, section);
-        write_pair(&mut buf[8 * section..], offset, size);
+        write_pair(&mut buffer[8 * section..], offset, size);
         section += 1;
     }
 }
 
 // The header: the horizon, then the pairs.
-fn write_header(buf: &mut [u8], horizon: u32, counts: &[usize; SECTIONS])
-    requires { ⌜ (headerLength ≤ length (now buf)) × CountsWithinLimits (now counts) ⌝ }
-    ensures { λ _. ⌜ now (buf .exit) ≡ written (horizon ∷ joined (pairEntry (now (counts .entry))) sections) (now (buf .entry)) ⌝ }
+fn write_header(buffer: &mut [u8], horizon: u32, counts: &[usize; SECTIONS])
+    requires { ⌜ (headerLength ≤ length (now buffer)) × CountsWithinLimits (now counts) ⌝ }
+    ensures { λ _. ⌜ now (buffer .exit) ≡ written (horizon ∷ joined (pairEntry (now (counts .entry))) sections) (now (buffer .entry)) ⌝ }
 {
-    write_u32(buf, 0, horizon as u64);
-    write_pairs(&mut buf[4..], counts);
+    write_u32(buffer, 0, horizon as u64);
+    write_pairs(&mut buffer[4..], counts);
 }
 
 // What the plan writer answers: that the buffer is shorter than the file, or the length of the file that it wrote.
@@ -83,57 +83,57 @@ pub enum PlanWritten {
 
 // Writes the file of a plan that keeps the rules; the bytes behind it keep their value. A buffer that is shorter than the file keeps all
 // its bytes.
-pub fn write_plan(p: Plan, buf: &mut [u8]) -> PlanWritten
-    requires { ⌜ PlanRules p ⌝ }
-    ensures answer { λ r. ⌜ r ≡ planWritten p (length (now (buf .entry))) ⌝ }
-    ensures buffer { λ _. ⌜ now (buf .exit) ≡ writtenBuffer p (now (buf .entry)) ⌝ }
+pub fn write_plan(plan: Plan, buffer: &mut [u8]) -> PlanWritten
+    requires { ⌜ PlanRules plan ⌝ }
+    ensures answer { λ r. ⌜ r ≡ planWritten plan (length (now (buffer .entry))) ⌝ }
+    ensures buffer { λ _. ⌜ now (buffer .exit) ≡ writtenBuffer plan (now (buffer .entry)) ⌝ }
 {
     let counts = [
-        p.counts.n,
-        p.counts.m,
-        p.counts.k,
-        p.counts.links,
-        p.counts.commands,
+        plan.counts.n,
+        plan.counts.m,
+        plan.counts.k,
+        plan.counts.links,
+        plan.counts.commands,
     ];
     let length = section_offset(&counts, SECTIONS);
-    if buf.len() < length {
+    if buffer.len() < length {
         return PlanWritten::Short;
     }
-    write_header(buf, p.horizon, &counts);
+    write_header(buffer, plan.horizon, &counts);
     let integrators = section_offset(&counts, 0);
     write_integrators(
-        &mut buf[integrators..],
-        p.counts.n,
-        &p.integrators.starts,
-        &p.integrators.quanta,
+        &mut buffer[integrators..],
+        plan.counts.n,
+        &plan.integrators.starts,
+        &plan.integrators.quanta,
     );
     let inputs = section_offset(&counts, 1);
-    write_inputs(&mut buf[inputs..], p.counts.m, &p.inputs.firsts);
+    write_inputs(&mut buffer[inputs..], plan.counts.m, &plan.inputs.firsts);
     let nodes = section_offset(&counts, 2);
     write_nodes(
-        &mut buf[nodes..],
-        p.counts.k,
-        &p.nodes.kinds,
-        &p.nodes.a,
-        &p.nodes.b,
-        &p.nodes.lows,
-        &p.nodes.highs,
+        &mut buffer[nodes..],
+        plan.counts.k,
+        &plan.nodes.kinds,
+        &plan.nodes.a,
+        &plan.nodes.b,
+        &plan.nodes.lows,
+        &plan.nodes.highs,
     );
     let links = section_offset(&counts, 3);
     write_links(
-        &mut buf[links..],
-        p.counts.links,
-        &p.links.targets,
-        &p.links.sources,
-        &p.links.coefficients,
+        &mut buffer[links..],
+        plan.counts.links,
+        &plan.links.targets,
+        &plan.links.sources,
+        &plan.links.coefficients,
     );
     let commands = section_offset(&counts, 4);
     write_commands(
-        &mut buf[commands..],
-        p.counts.commands,
-        &p.commands.ticks,
-        &p.commands.inputs,
-        &p.commands.values,
+        &mut buffer[commands..],
+        plan.counts.commands,
+        &plan.commands.ticks,
+        &plan.commands.inputs,
+        &plan.commands.values,
     );
     PlanWritten::Length(length)
 }

@@ -73,9 +73,9 @@ pub fn load(file: &[u8]) -> Loaded
 }
 
 // "The writer writes the state's plan and returns the length; bytes after it keep their value." 10, then 13.
-pub fn write(state: State, buf: &mut [u8]) -> Written
-    ensures answer { λ r. ⌜ r ≡ writeOf state (now (buf .entry)) ⌝ }
-    ensures buffer { λ _. ⌜ now (buf .exit) ≡ bufferOfWrite state (now (buf .entry)) ⌝ }
+pub fn write(state: State, buffer: &mut [u8]) -> Written
+    ensures answer { λ r. ⌜ r ≡ writeOf state (now (buffer .entry)) ⌝ }
+    ensures buffer { λ _. ⌜ now (buffer .exit) ≡ bufferOfWrite state (now (buffer .entry)) ⌝ }
 {
     if !is_sound(state) {
         return Written {
@@ -85,7 +85,7 @@ pub fn write(state: State, buf: &mut [u8]) -> Written
         };
     }
     let plan = state.plan;
-    let written = write_plan(plan, buf);
+    let written = write_plan(plan, buffer);
     match written {
         PlanWritten::Short => Written {
             number: REFUSED_WRITE_BUFFER,

@@ -8,7 +8,7 @@ use engine::run;
 use machine::Engine;
 use machine::State;
 use plan::ACCEPTED;
-use plan::EVENT_SIZE;
+use plan::EVENT_BYTES;
 use plan::LARGEST_BUDGET;
 use plan::REFUSED_BUDGET;
 use plan::REFUSED_RUN_BUFFER;
@@ -29,9 +29,9 @@ fn declined(number: usize, state: State) -> Ran
 }
 
 // The product of refusal 12 is worked out only once the budget is known to be small.
-fn run_by(engine: Engine, state: State, budget: u64, buf: &mut [u8]) -> Ran
-    ensures answer { λ r. ⌜ r ≡ runOf engine state budget (now (buf .entry)) ⌝ }
-    ensures buffer { λ _. ⌜ now (buf .exit) ≡ bufferOfRun engine state budget (now (buf .entry)) ⌝ }
+fn run_by(engine: Engine, state: State, budget: u64, buffer: &mut [u8]) -> Ran
+    ensures answer { λ r. ⌜ r ≡ runOf engine state budget (now (buffer .entry)) ⌝ }
+    ensures buffer { λ _. ⌜ now (buffer .exit) ≡ bufferOfRun engine state budget (now (buffer .entry)) ⌝ }
 {
     if !is_sound(state) {
         return declined(REFUSED_UNSOUND, state);
@@ -39,11 +39,11 @@ fn run_by(engine: Engine, state: State, budget: u64, buf: &mut [u8]) -> Ran
     if LARGEST_BUDGET < budget {
         return declined(REFUSED_BUDGET, state);
     }
-    let needed = budget as usize * (state.plan.counts.n + state.plan.counts.m) * EVENT_SIZE;
-    if buf.len() < needed {
+    let needed = budget as usize * (state.plan.counts.n + state.plan.counts.m) * EVENT_BYTES;
+    if buffer.len() < needed {
         return declined(REFUSED_RUN_BUFFER, state);
     }
-    let ended = run(state, engine, budget, buf);
+    let ended = run(state, engine, budget, buffer);
     let status = ended.status;
     let status_number = status.number();
     let integrator = status.integrator();
@@ -62,17 +62,17 @@ fn run_by(engine: Engine, state: State, budget: u64, buf: &mut [u8]) -> Ran
 }
 
 // "The lazy engine moves those due or reached".
-pub fn run_lazy(state: State, budget: u64, buf: &mut [u8]) -> Ran
-    ensures answer { λ r. ⌜ r ≡ runOf Lazy state budget (now (buf .entry)) ⌝ }
-    ensures buffer { λ _. ⌜ now (buf .exit) ≡ bufferOfRun Lazy state budget (now (buf .entry)) ⌝ }
+pub fn run_lazy(state: State, budget: u64, buffer: &mut [u8]) -> Ran
+    ensures answer { λ r. ⌜ r ≡ runOf Lazy state budget (now (buffer .entry)) ⌝ }
+    ensures buffer { λ _. ⌜ now (buffer .exit) ≡ bufferOfRun Lazy state budget (now (buffer .entry)) ⌝ }
 {
-    run_by(Engine::Lazy, state, budget, buf)
+    run_by(Engine::Lazy, state, budget, buffer)
 }
 
 // "the eager engine all".
-pub fn run_eager(state: State, budget: u64, buf: &mut [u8]) -> Ran
-    ensures answer { λ r. ⌜ r ≡ runOf Eager state budget (now (buf .entry)) ⌝ }
-    ensures buffer { λ _. ⌜ now (buf .exit) ≡ bufferOfRun Eager state budget (now (buf .entry)) ⌝ }
+pub fn run_eager(state: State, budget: u64, buffer: &mut [u8]) -> Ran
+    ensures answer { λ r. ⌜ r ≡ runOf Eager state budget (now (buffer .entry)) ⌝ }
+    ensures buffer { λ _. ⌜ now (buffer .exit) ≡ bufferOfRun Eager state budget (now (buffer .entry)) ⌝ }
 {
-    run_by(Engine::Eager, state, budget, buf)
+    run_by(Engine::Eager, state, budget, buffer)
 }

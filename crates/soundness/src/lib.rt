@@ -9,16 +9,16 @@ use unused::plan_unused_zero;
 
 mod running;
 
-pub fn is_sound(st: State) -> bool
-    ensures { λ r. ⌜ r ≡ isSound st ⌝ }
+pub fn is_sound(state: State) -> bool
+    ensures { λ r. ⌜ r ≡ isSound state ⌝ }
 {
-    let plan = st.plan;
+    let plan = state.plan;
     if !plan_kept(plan) {
         return false;
     }
     if !plan_unused_zero(plan) {
         return false;
     }
-    let run = st.run;
+    let run = state.run;
     running_sound(plan, run)
 }

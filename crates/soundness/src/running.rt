@@ -33,57 +33,63 @@ fn values_within_m(values: &[i64], count: usize) -> bool
 }
 
 // Outputs and inputs are bounded before a rate is worked out from them, and the instants by the clock before they are multiplied.
-pub fn running_sound(p: Plan, r: Running) -> bool
-    requires { ⌜ PlanRules p ⌝ }
-    ensures { λ b. ⌜ b ≡ runningSound p r ⌝ }
+pub fn running_sound(plan: Plan, run: Running) -> bool
+    requires { ⌜ PlanRules plan ⌝ }
+    ensures { λ r. ⌜ r ≡ runningSound plan run ⌝ }
 {
-    let n = p.counts.n;
-    let m = p.counts.m;
-    let clock = r.clocks.clock;
-    if clock > p.horizon {
+    let n = plan.counts.n;
+    let m = plan.counts.m;
+    let clock = run.clocks.clock;
+    if clock > plan.horizon {
         return false;
     }
-    if !values_within_m(&r.q, n) {
+    if !values_within_m(&run.q, n) {
         return false;
     }
-    if !values_within_m(&r.inputs, m) {
+    if !values_within_m(&run.inputs, m) {
         return false;
     }
     let values = source_values(
         n,
         m,
-        p.counts.k,
-        &r.q,
-        &r.inputs,
-        &p.nodes.kinds,
-        &p.nodes.a,
-        &p.nodes.b,
-        &p.nodes.lows,
-        &p.nodes.highs,
+        plan.counts.k,
+        &run.q,
+        &run.inputs,
+        &plan.nodes.kinds,
+        &plan.nodes.a,
+        &plan.nodes.b,
+        &plan.nodes.lows,
+        &plan.nodes.highs,
     );
-    let ranges = link_ranges(n, p.counts.links, &p.links.targets);
-    let slopes = rates(n, &ranges, &p.links.sources, &p.links.coefficients, &values);
+    let ranges = link_ranges(n, plan.counts.links, &plan.links.targets);
+    let slopes = rates(
+        n,
+        &ranges,
+        &plan.links.sources,
+        &plan.links.coefficients,
+        &values,
+    );
     if !integrators_sound(
         n,
         clock,
-        &p.integrators.quanta,
+        &plan.integrators.quanta,
         &slopes,
-        &r.x,
-        &r.q,
-        &r.s,
-        &r.l,
-        &r.d,
+        &run.x,
+        &run.q,
+        &run.s,
+        &run.l,
+        &run.d,
     ) {
         return false;
     }
-    if r.clocks.next != next_command(p.counts.commands, &p.commands.ticks, clock) {
+    if run.clocks.next != next_command(plan.counts.commands, &plan.commands.ticks, clock) {
         return false;
     }
-    if r.clocks.instants > clock as u64 {
+    if run.clocks.instants > clock as u64 {
         return false;
     }
-    if r.clocks.updates > (n as u64) * r.clocks.instants {
+    if run.clocks.updates > (n as u64) * run.clocks.instants {
         return false;
     }
-    figures_unused_zero(n, m, r)
+    figures_unused_zero(n, m, run)
 }

@@ -5,7 +5,7 @@ ghost use lib.ListN.{length};
 ghost use Rattle.steps.specs.Events.{eventsIn, putAt, EventsReady};
 use bitset::lowest64;
 use bitset::rest64;
-use plan::EVENT_SIZE;
+use plan::EVENT_BYTES;
 use plan::SOURCES;
 use words::write_triple;
 
@@ -14,19 +14,19 @@ pub fn write_events<'a>(
     t: u32,
     changed: u64,
     values: &'a [i64; SOURCES],
-    buf: &mut [u8],
+    buffer: &mut [u8],
     at: usize,
 ) -> usize
-    requires { ⌜ EventsReady changed t (now values) at (length (now buf)) ⌝ }
+    requires { ⌜ EventsReady changed t (now values) at (length (now buffer)) ⌝ }
     ensures end { λ r. ⌜ r ≡ at + length (eventsIn changed t (now (values .entry))) ⌝ }
-    ensures buffer { λ _. ⌜ now (buf .exit) ≡ putAt (now (buf .entry)) at (eventsIn changed t (now (values .entry))) ⌝ }
+    ensures buffer { λ _. ⌜ now (buffer .exit) ≡ putAt (now (buffer .entry)) at (eventsIn changed t (now (values .entry))) ⌝ }
 {
     let mut left = changed;
     let mut end = at;
     while left != 0 {
         let source = lowest64(left);
-        write_triple(&mut buf[end..], t as usize, source, values[source]);
-        end += EVENT_SIZE;
+        write_triple(&mut buffer[end..], t as usize, source, values[source]);
+        end += EVENT_BYTES;
         left = rest64(left);
     }
     end

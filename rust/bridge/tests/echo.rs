@@ -13,7 +13,7 @@ use cup_bridge::state::{Loaded, Plan, Positioned, Ran, Running, State, Tables, W
 use cup_check::calls::{Checker, Simulator};
 use cup_check::engine::Engine;
 use cup_check::generate::{plans, Fill, Rng};
-use cup_check::limits::{EVENT_BYTES, FILE_BYTES_MAX, INPUTS_MAX, INTEGRATORS_MAX};
+use cup_check::limits::{EVENT_BYTES, INPUTS, INTEGRATORS, LONGEST_FILE};
 use cup_check::raw::RawState;
 use std::collections::BTreeSet;
 use std::io::Write;
@@ -122,10 +122,10 @@ struct Answers {
 }
 
 /// A buffer of these is long enough for every instant.
-const INSTANT_BYTES: usize = (INTEGRATORS_MAX + INPUTS_MAX) * EVENT_BYTES;
+const INSTANT_BYTES: usize = (INTEGRATORS + INPUTS) * EVENT_BYTES;
 
 fn proved(state: &State) -> Answers {
-    let mut file = vec![0; FILE_BYTES_MAX];
+    let mut file = vec![0; LONGEST_FILE];
     let number = write(state, &mut file).number;
     let runs = [false, true].map(|eager| {
         let mut events = vec![0; INSTANT_BYTES];
@@ -141,7 +141,7 @@ fn proved(state: &State) -> Answers {
 fn second(state: &State) -> Answers {
     let raw = RawState::from(state);
     let checker = Checker::default();
-    let mut file = vec![0; FILE_BYTES_MAX];
+    let mut file = vec![0; LONGEST_FILE];
     let number = checker.write(&raw, &mut file).number;
     let runs = [Engine::Lazy, Engine::Eager].map(|engine| {
         let mut events = vec![0; INSTANT_BYTES];

@@ -15,7 +15,7 @@
 #define BUDGET 64
 
 /* Longer than any accepted file, so that a longer one is refused as it should be. */
-static uint8_t file[CUP_FILE_BYTES_MAX + 1], copy[CUP_FILE_BYTES_MAX];
+static uint8_t file[CUP_LONGEST_FILE + 1], copy[CUP_LONGEST_FILE];
 static uint8_t events[CUP_RUN_BYTES(BUDGET)], others[CUP_RUN_BYTES(BUDGET)];
 static uint8_t none[1];
 
@@ -116,7 +116,7 @@ static void check_declines(const CupState *state)
 {
     size_t needed = (state->plan.counts.n + state->plan.counts.m) * CUP_EVENT_BYTES;
     memset(others, 0xa5, sizeof others);
-    demand(is_declined(cup_run_lazy(*state, CUP_BUDGET_MAX + 1, others, sizeof others),
+    demand(is_declined(cup_run_lazy(*state, CUP_LARGEST_BUDGET + 1, others, sizeof others),
                        CUP_REFUSED_BUDGET, state) &&
                is_declined(cup_run_eager(*state, UINT64_MAX, none, 0), CUP_REFUSED_BUDGET, state),
            "a budget above 1,024 is not declined");
@@ -127,7 +127,7 @@ static void check_declines(const CupState *state)
     CupState unsound = *state;
     unsound.run.clocks.updates = unsound.run.clocks.instants * unsound.plan.counts.n + 1;
     demand(is_declined(cup_run_lazy(unsound, 1, others, needed), CUP_REFUSED_UNSOUND, &unsound) &&
-               is_declined(cup_run_eager(unsound, CUP_BUDGET_MAX + 1, none, 0), CUP_REFUSED_UNSOUND,
+               is_declined(cup_run_eager(unsound, CUP_LARGEST_BUDGET + 1, none, 0), CUP_REFUSED_UNSOUND,
                            &unsound) &&
                cup_position(unsound, 0).number == CUP_REFUSED_UNSOUND &&
                cup_position(unsound, SIZE_MAX).number == CUP_REFUSED_UNSOUND,

@@ -1,5 +1,5 @@
 //! The listing program against the second simulator's listing, on the kept plans and on at least
-//! [`INPUTS`] inputs.
+//! [`INPUTS_COMPARED`] inputs.
 //!
 //! The program is the repository's `target/bin/listing`, which `rt check` and `rt ci` make; CUP_LISTING
 //! names another. CUP_LISTINGS asks for more inputs, CUP_SEED for other ones.
@@ -7,9 +7,11 @@
 mod common;
 
 use common::{root, Report};
-use cup_bridge::campaign::listings::{compare, Campaign, Input, Lister, Program, Sort, INPUTS};
+use cup_bridge::campaign::listings::{
+    compare, Campaign, Input, Lister, Program, Sort, INPUTS_COMPARED,
+};
 use cup_check::calls::{Checker, Simulator};
-use cup_check::limits::{FILE_BYTES_MAX, LISTING_BUDGET, LISTING_BYTES};
+use cup_check::limits::{LISTING_BUDGET, LISTING_INPUT, LONGEST_FILE};
 use cup_check::listing::listing;
 use std::path::PathBuf;
 use std::{env, fs};
@@ -29,7 +31,7 @@ fn program() -> Program {
 #[test]
 fn the_listing_program_agrees_with_the_second_simulator() {
     let campaign = Campaign::asked_for();
-    let least = INPUTS;
+    let least = INPUTS_COMPARED;
     assert!(campaign.inputs >= least, "CUP_LISTINGS is at least {least}");
     let report = Report {
         title: "listings",
@@ -113,8 +115,8 @@ const MUTANTS: [Mutant; 15] = [
 impl Lister for Mutant {
     fn list(&self, input: &[u8], pieces: usize) -> Result<Vec<u8>, String> {
         let text = match self {
-            Mutant::ReadsOneByteLess => listing(&input[..input.len().min(FILE_BYTES_MAX)]),
-            Mutant::ReadsAll if input.len() > LISTING_BYTES => refused_whole(input),
+            Mutant::ReadsOneByteLess => listing(&input[..input.len().min(LONGEST_FILE)]),
+            Mutant::ReadsAll if input.len() > LISTING_INPUT => refused_whole(input),
             Mutant::ReadsOnePiece => {
                 let length = input.len().div_ceil(pieces).max(1);
                 listing(input.chunks(length).next().unwrap_or_default())

@@ -4,9 +4,9 @@
 use cup_bridge::campaign::{instants, soundness, starts, tables, writes, Archive, Machine};
 use cup_bridge::state::{Loaded, Ran, State, Tables, Written};
 use cup_check::limits::{
-    ACCEPTED, EVENT_BYTES, FINISHED, HEADER_BYTES, INPUTS_MAX, INTEGRATORS_MAX, INTEGRATOR_BYTES,
-    NEVER, PAUSED, REFUSED_COMMAND, REFUSED_RUN_BUFFER, REFUSED_UNSOUND, REFUSED_WRITE_BUFFER,
-    TABLE_SOURCES, WORD_BYTES,
+    ACCEPTED, EVENT_BYTES, FINISHED, HEADER_BYTES, INPUTS, INTEGRATORS, INTEGRATOR_BYTES, NEVER,
+    PAUSED, REFUSED_COMMAND, REFUSED_RUN_BUFFER, REFUSED_UNSOUND, REFUSED_WRITE_BUFFER, SOURCES,
+    WORD_BYTES,
 };
 use cup_check::{engine, sound};
 
@@ -186,7 +186,7 @@ impl Machine for Mutant {
             }
             Mutant::LoadsNothingDue => run.d[0] = NEVER,
             Mutant::LoadsNeverAsZero if run.d[0] == NEVER => run.d[0] = 0,
-            Mutant::LoadsWithoutInputs => run.inputs = [0; INPUTS_MAX],
+            Mutant::LoadsWithoutInputs => run.inputs = [0; INPUTS],
             _ => (),
         }
         loaded
@@ -250,13 +250,11 @@ impl Machine for Mutant {
         let mut tables = Archive.tables(state);
         let nodes = state.plan.counts.n.wrapping_add(state.plan.counts.m);
         match self {
-            Mutant::TablesWithoutEnd => tables.ranges[state.plan.counts.n.min(INTEGRATORS_MAX)] = 0,
+            Mutant::TablesWithoutEnd => tables.ranges[state.plan.counts.n.min(INTEGRATORS)] = 0,
             Mutant::TablesInnerRange if state.plan.counts.n > 1 => tables.ranges[1] = 0,
-            Mutant::TablesWithoutOwnBit if nodes < TABLE_SOURCES => {
-                tables.reach[nodes] &= !(1 << 32)
-            }
+            Mutant::TablesWithoutOwnBit if nodes < SOURCES => tables.reach[nodes] &= !(1 << 32),
             Mutant::TablesOfInputsAlone => tables.values[0] = 0,
-            Mutant::TablesNodeValue if nodes < TABLE_SOURCES => tables.values[nodes] = 0,
+            Mutant::TablesNodeValue if nodes < SOURCES => tables.values[nodes] = 0,
             Mutant::TablesWithoutNodes => {
                 tables
                     .reach
@@ -283,7 +281,7 @@ impl Mutant {
                 let lowest = run.l[..n].iter().position(|&l| l == clock);
                 lowest.into_iter().for_each(|i| keep(state, ran, i));
             }
-            Mutant::InstantSkipsThirtyTwo if n == INTEGRATORS_MAX => keep(state, ran, n - 1),
+            Mutant::InstantSkipsThirtyTwo if n == INTEGRATORS => keep(state, ran, n - 1),
             Mutant::InstantEventsDescend => {
                 let events = buffer[..ran.written].chunks(EVENT_BYTES);
                 let descending: Vec<u8> = events.rev().flatten().copied().collect();
@@ -302,9 +300,7 @@ impl Mutant {
             Mutant::InstantClockRunsOn if ran.status == FINISHED => {
                 run.clocks.clock = state.plan.horizon
             }
-            Mutant::InstantUnusedTouched if n < INTEGRATORS_MAX => {
-                run.d[INTEGRATORS_MAX - 1] = NEVER
-            }
+            Mutant::InstantUnusedTouched if n < INTEGRATORS => run.d[INTEGRATORS - 1] = NEVER,
             _ => (),
         }
     }

@@ -16,7 +16,7 @@ macro_rules! numbers {
 }
 
 /// In the header's order.
-const NUMBERS: [(&str, u64, u64); 36] = numbers!(
+const NUMBERS: [(&str, u64, u64); 38] = numbers!(
     ACCEPTED 0,
     REFUSED_SHORT 1,
     REFUSED_OFFSETS 2,
@@ -37,6 +37,8 @@ const NUMBERS: [(&str, u64, u64); 36] = numbers!(
     RANGE 2,
     M 1_073_741_824,
     NEVER 4_294_967_295,
+    LARGEST_HORIZON 2_000_000_000,
+    LARGEST_COEFFICIENT 16_777_216,
     SECTIONS 5,
     HEADER_BYTES 44,
     INTEGRATOR_BYTES 8,
@@ -44,15 +46,15 @@ const NUMBERS: [(&str, u64, u64); 36] = numbers!(
     NODE_BYTES 20,
     LINK_BYTES 12,
     COMMAND_BYTES 12,
-    FILE_BYTES_MAX 4_492,
-    INTEGRATORS_MAX 32,
-    INPUTS_MAX 8,
-    NODES_MAX 16,
-    LINKS_MAX 256,
-    COMMANDS_MAX 64,
-    TABLE_SOURCES 64,
+    LONGEST_FILE 4_492,
+    INTEGRATORS 32,
+    INPUTS 8,
+    NODES 16,
+    LINKS 256,
+    COMMANDS 64,
+    SOURCES 64,
     EVENT_BYTES 12,
-    BUDGET_MAX 1_024,
+    LARGEST_BUDGET 1_024,
 );
 
 #[test]
@@ -75,12 +77,25 @@ fn every_number_in_c_is_the_documents() {
 
 #[test]
 fn the_figures_that_c_does_not_have_are_the_documents() {
-    use cup_check::limits::{
-        COEFFICIENT_BOUND, GRAINS, HORIZON_MAX, LISTING_BUDGET, LISTING_BYTES,
-    };
-    assert_eq!((GRAINS, COEFFICIENT_BOUND), (65_536, 16_777_216));
-    assert_eq!(HORIZON_MAX, 2_000_000_000);
-    assert_eq!((LISTING_BYTES, LISTING_BUDGET), (4_493, 64));
+    use cup_check::limits::{GRAINS, LISTING_BUDGET, LISTING_INPUT};
+    assert_eq!(GRAINS, 65_536);
+    assert_eq!((LISTING_INPUT, LISTING_BUDGET), (4_493, 64));
+}
+
+/// The same name in C, in Rust and in the proved code, whose contracts fix the numbers there.
+#[test]
+fn every_number_of_the_header_has_its_name_in_the_proved_code() {
+    let numbers = root().join("crates/plan/src/numbers.rt");
+    let numbers = fs::read_to_string(numbers).expect("the proved code's numbers");
+    let constants = numbers
+        .lines()
+        .filter_map(|line| line.strip_prefix("pub const "));
+    let names: Vec<&str> = constants
+        .filter_map(|rest| rest.split(':').next())
+        .collect();
+    for (name, ..) in NUMBERS {
+        assert!(names.contains(&name), "{name}");
+    }
 }
 
 /// What the header defines beside numbers: that it was read, and a sum of bytes from a budget.
@@ -103,5 +118,5 @@ fn every_number_of_the_header_is_listed() {
 fn the_longest_file_is_the_sum_of_its_parts() {
     let sections = Section::ALL.map(|section| section.most() * section.entry_bytes());
     let sum = cup_check::limits::HEADER_BYTES + sections.iter().sum::<usize>();
-    assert_eq!(sum, cup_check::limits::FILE_BYTES_MAX);
+    assert_eq!(sum, cup_check::limits::LONGEST_FILE);
 }

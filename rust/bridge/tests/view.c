@@ -5,7 +5,7 @@
 #include <string.h>
 
 /* Longer than any accepted file, so that a longer one is refused as it should be. */
-static uint8_t file[CUP_FILE_BYTES_MAX + 1], buffer[CUP_FILE_BYTES_MAX + 1];
+static uint8_t file[CUP_LONGEST_FILE + 1], buffer[CUP_LONGEST_FILE + 1];
 
 static size_t read_file(const char *name)
 {

@@ -11,7 +11,7 @@ use crate::file::layout::section_bytes;
 use crate::file::read::place_in;
 use crate::generate::Call;
 use crate::limits::{ACCEPTED, REFUSED_BUDGET, REFUSED_INTEGRATOR_NUMBER, REFUSED_RUN_BUFFER};
-use crate::limits::{BUDGET_MAX, EVENT_BYTES, HEADER_BYTES, INTEGRATORS_MAX, SECTIONS};
+use crate::limits::{EVENT_BYTES, HEADER_BYTES, INTEGRATORS, LARGEST_BUDGET, SECTIONS};
 use crate::met::Met;
 use crate::plain::{Event, Observer, Plain};
 use crate::plan::Plan;
@@ -20,14 +20,7 @@ use crate::sound::broken_clauses;
 use std::collections::BTreeSet;
 
 /// Integrator numbers that no plan has, among them those that are low ones if cut to 8, 16 or 32 bits.
-const WILD: [usize; 6] = [
-    INTEGRATORS_MAX,
-    1 << 8,
-    1 << 16,
-    1 << 32,
-    1 << 63,
-    usize::MAX,
-];
+const WILD: [usize; 6] = [INTEGRATORS, 1 << 8, 1 << 16, 1 << 32, 1 << 63, usize::MAX];
 
 /// Loads a lawful plan's file, views its sections, runs the list from the loaded state and writes
 /// the plan again.
@@ -168,7 +161,7 @@ impl Comparison<'_> {
 
     /// In a list "a call is declined by 11 or 12 only".
     fn expected_decline(&mut self, call: &Call) -> usize {
-        if call.budget > BUDGET_MAX {
+        if call.budget > LARGEST_BUDGET {
             self.met.count("decline 11");
             return REFUSED_BUDGET;
         }

@@ -2,7 +2,7 @@
 
 use super::tables::NODES_FROM;
 use super::{Cell, Fast};
-use crate::limits::{EVENT_BYTES, INTEGRATORS_MAX, M, NEVER, TABLE_SOURCES, WORD_BYTES};
+use crate::limits::{EVENT_BYTES, INTEGRATORS, M, NEVER, SOURCES, WORD_BYTES};
 use crate::status::Status;
 
 /// Due ticks that are looked at together.
@@ -168,7 +168,7 @@ fn members(mut mask: u32) -> impl Iterator<Item = usize> {
         if mask == 0 {
             return None;
         }
-        let lowest = mask.trailing_zeros() as usize % INTEGRATORS_MAX;
+        let lowest = mask.trailing_zeros() as usize % INTEGRATORS;
         mask &= mask - 1;
         Some(lowest)
     })
@@ -181,7 +181,7 @@ fn members_of_64(mut mask: u64) -> impl Iterator<Item = usize> {
         if mask == 0 {
             return None;
         }
-        let lowest = mask.trailing_zeros() as usize % TABLE_SOURCES;
+        let lowest = mask.trailing_zeros() as usize % SOURCES;
         mask &= mask - 1;
         Some(lowest)
     })

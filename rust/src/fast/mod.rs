@@ -17,7 +17,7 @@ mod tables;
 
 use crate::calls::Ran;
 use crate::limits::{ACCEPTED, REFUSED_BUDGET, REFUSED_RUN_BUFFER};
-use crate::limits::{BUDGET_MAX, EVENT_BYTES, INTEGRATORS_MAX, NEVER};
+use crate::limits::{EVENT_BYTES, INTEGRATORS, LARGEST_BUDGET, NEVER};
 use crate::raw::{RawClocks, RawRunning, RawState};
 use crate::status::Status;
 use tables::{Tables, Values};
@@ -36,9 +36,9 @@ pub struct Fast {
     tables: Tables,
     /// By source number: outputs, inputs and nodes.
     values: Values,
-    cells: [Cell; INTEGRATORS_MAX],
+    cells: [Cell; INTEGRATORS],
     /// Due ticks; behind the last integrator never.
-    dues: [u32; INTEGRATORS_MAX],
+    dues: [u32; INTEGRATORS],
     clock: u32,
     next: usize,
     instants: u64,
@@ -61,8 +61,8 @@ impl Fast {
         let tables = Tables::of(plan);
         let mut fast = Fast {
             values: tables.values(&run.q, &run.inputs),
-            cells: [Cell::default(); INTEGRATORS_MAX],
-            dues: [NEVER; INTEGRATORS_MAX],
+            cells: [Cell::default(); INTEGRATORS],
+            dues: [NEVER; INTEGRATORS],
             clock: run.clocks.clock,
             next: run.clocks.next,
             instants: run.clocks.instants,
@@ -101,10 +101,10 @@ impl Fast {
         let (n, m) = (self.tables.n, self.tables.m);
         let mut run = RawRunning {
             x: self.cells.map(|cell| cell.x),
-            q: [0; INTEGRATORS_MAX],
+            q: [0; INTEGRATORS],
             s: self.cells.map(|cell| cell.s),
             l: self.cells.map(|cell| cell.l),
-            d: [0; INTEGRATORS_MAX],
+            d: [0; INTEGRATORS],
             inputs: Default::default(),
             clocks: RawClocks {
                 clock: self.clock,
@@ -129,7 +129,7 @@ pub fn run_lazy(mut state: RawState, budget: u64, buffer: &mut [u8]) -> Ran {
         written: 0,
         state,
     };
-    if budget > BUDGET_MAX {
+    if budget > LARGEST_BUDGET {
         return declined(REFUSED_BUDGET, state);
     }
     let room = budget as usize * state.plan.counts.events_per_instant() * EVENT_BYTES;

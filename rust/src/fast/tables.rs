@@ -1,7 +1,7 @@
 //! What is worked out of a plan once.
 
-use crate::limits::{COMMANDS_MAX, INPUTS_MAX, INTEGRATORS_MAX, LINKS_MAX};
-use crate::limits::{GRAIN_BITS, M, TABLE_SOURCES};
+use crate::limits::{COMMANDS, INPUTS, INTEGRATORS, LINKS};
+use crate::limits::{GRAIN_BITS, M, SOURCES};
 use crate::plan::{DIFFERENCE, LIMIT, PRODUCT};
 use crate::raw::RawPlan;
 
@@ -12,7 +12,7 @@ pub const NODES_FROM: usize = 32;
 /// Links that are summed up together.
 const TERMS: usize = 2;
 /// The most rows of links: 256, and behind those of each integrator what adds nothing to its row.
-const ROWS: usize = LINKS_MAX / TERMS + INTEGRATORS_MAX * (TERMS - 1) / TERMS;
+const ROWS: usize = LINKS / TERMS + INTEGRATORS * (TERMS - 1) / TERMS;
 
 /// The value of each source.
 pub type Values = [i64; PLACES];
@@ -72,15 +72,15 @@ pub struct Tables {
     /// How many commands there are.
     pub commanded: usize,
     /// By integrator.
-    pub parts: [Part; INTEGRATORS_MAX],
+    pub parts: [Part; INTEGRATORS],
     /// By target.
     links: [[Link; TERMS]; ROWS],
     /// By node; a member of a mask is always a place.
     pub nodes: [Node; NODES_FROM],
     /// By tick, as in the plan.
-    pub commands: [Command; COMMANDS_MAX],
+    pub commands: [Command; COMMANDS],
     /// For each source the integrators, and from bit 32 on the nodes, that a change of it reaches.
-    pub reach: [u64; TABLE_SOURCES],
+    pub reach: [u64; SOURCES],
 }
 
 impl Tables {
@@ -92,11 +92,11 @@ impl Tables {
             k: plan.counts.k,
             horizon: plan.horizon,
             commanded: plan.counts.commands,
-            parts: [Part::default(); INTEGRATORS_MAX],
+            parts: [Part::default(); INTEGRATORS],
             links: [[Link::default(); TERMS]; ROWS],
             nodes: [Node::default(); NODES_FROM],
-            commands: [Command::default(); COMMANDS_MAX],
-            reach: [0; TABLE_SOURCES],
+            commands: [Command::default(); COMMANDS],
+            reach: [0; SOURCES],
         };
         tables.fill_links(plan);
         tables.fill_nodes(plan);
@@ -157,7 +157,7 @@ impl Tables {
     }
 
     /// The values of all sources.
-    pub fn values(&self, q: &[i64; INTEGRATORS_MAX], inputs: &[i64; INPUTS_MAX]) -> Values {
+    pub fn values(&self, q: &[i64; INTEGRATORS], inputs: &[i64; INPUTS]) -> Values {
         let mut values = [0; PLACES];
         values[..self.n].copy_from_slice(&q[..self.n]);
         values[self.n..self.n + self.m].copy_from_slice(&inputs[..self.m]);

@@ -2,7 +2,7 @@
 
 use super::cause::{Cause, Refusal};
 use super::reading::Reading;
-use crate::limits::{COEFFICIENT_BOUND, HORIZON_MAX, M};
+use crate::limits::{LARGEST_COEFFICIENT, LARGEST_HORIZON, M};
 use crate::limits::{
     REFUSED_HORIZON, REFUSED_INPUT, REFUSED_INTEGRATOR, REFUSED_LINK, REFUSED_NODE,
 };
@@ -95,7 +95,7 @@ fn check_ascending<T, K: Ord>(
 pub fn horizon(horizon: u32) -> Result<(), Refusal> {
     match horizon {
         0 => Err(Refusal::whole(Cause::HorizonZero)),
-        1..=HORIZON_MAX => Ok(()),
+        1..=LARGEST_HORIZON => Ok(()),
         _ => Err(Refusal::whole(Cause::HorizonAbove)),
     }
 }
@@ -148,7 +148,7 @@ fn link(rules: &Reading, entry: &Link, plan: &Plan) -> Option<Cause> {
         Some(Cause::SourceOutOfPlace)
     } else if entry.coefficient == 0 {
         Some(Cause::CoefficientZero)
-    } else if (rules.beyond)(entry.coefficient, COEFFICIENT_BOUND) {
+    } else if (rules.beyond)(entry.coefficient, LARGEST_COEFFICIENT) {
         Some(Cause::CoefficientBeyond)
     } else {
         None

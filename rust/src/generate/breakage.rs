@@ -4,7 +4,7 @@ use super::plant::in_plan;
 use super::rng::Rng;
 use super::states::{due_tick, first_later_command, moved_to_clock, settle};
 use crate::file::{Cause, Refusal};
-use crate::limits::{COMMANDS_MAX, INPUTS_MAX, INTEGRATORS_MAX, LINKS_MAX, NODES_MAX};
+use crate::limits::{COMMANDS, INPUTS, INTEGRATORS, LINKS, NODES};
 use crate::limits::{GRAINS, M, NEVER, REFUSED_SIZES};
 use crate::plan::Plan;
 use crate::raw::{RawPlan, RawState};
@@ -132,11 +132,11 @@ fn break_count(rng: &mut Rng, mut state: RawState) -> Broken {
     let wild = [1 << 32, usize::MAX - 1, usize::MAX];
     match rng.below(6) {
         0 => plan.counts.n = 0,
-        1 => plan.counts.n = rng.pick(&[INTEGRATORS_MAX + 1, wild[0], wild[1], wild[2]]),
-        2 => plan.counts.m = rng.pick(&[INPUTS_MAX + 1, wild[0], wild[1], wild[2]]),
-        3 => plan.counts.k = rng.pick(&[NODES_MAX + 1, wild[0], wild[1], wild[2]]),
-        4 => plan.counts.links = rng.pick(&[LINKS_MAX + 1, wild[0], wild[1], wild[2]]),
-        _ => plan.counts.commands = rng.pick(&[COMMANDS_MAX + 1, wild[0], wild[1], wild[2]]),
+        1 => plan.counts.n = rng.pick(&[INTEGRATORS + 1, wild[0], wild[1], wild[2]]),
+        2 => plan.counts.m = rng.pick(&[INPUTS + 1, wild[0], wild[1], wild[2]]),
+        3 => plan.counts.k = rng.pick(&[NODES + 1, wild[0], wild[1], wild[2]]),
+        4 => plan.counts.links = rng.pick(&[LINKS + 1, wild[0], wild[1], wild[2]]),
+        _ => plan.counts.commands = rng.pick(&[COMMANDS + 1, wild[0], wild[1], wild[2]]),
     }
     (state, Clause::Counts)
 }
@@ -264,11 +264,6 @@ fn input_beyond(rng: &mut Rng, state: RawState) -> Option<Broken> {
 
 fn change_next(rng: &mut Rng, mut state: RawState) -> Broken {
     let right = state.run.clocks.next;
-    state.run.clocks.next = rng.pick(&[
-        right + 1,
-        right.wrapping_sub(1),
-        COMMANDS_MAX + 1,
-        usize::MAX,
-    ]);
+    state.run.clocks.next = rng.pick(&[right + 1, right.wrapping_sub(1), COMMANDS + 1, usize::MAX]);
     (state, Clause::NextCommand)
 }

@@ -6,8 +6,8 @@ use super::rng::Rng;
 use crate::file::layout::assemble;
 use crate::file::read::split;
 use crate::limits::{
-    Section, COEFFICIENT_BOUND, COMMANDS_MAX, GRAINS, HEADER_BYTES, HORIZON_MAX, INPUTS_MAX,
-    INTEGRATORS_MAX, LINKS_MAX, M, NODES_MAX, SECTIONS, WORD_BYTES,
+    Section, COMMANDS, GRAINS, HEADER_BYTES, INPUTS, INTEGRATORS, LARGEST_COEFFICIENT,
+    LARGEST_HORIZON, LINKS, M, NODES, SECTIONS, WORD_BYTES,
 };
 use crate::words::{set_word, word_at};
 
@@ -144,17 +144,17 @@ pub fn damaged(rng: &mut Rng, file: &[u8]) -> Vec<u8> {
 const BOUNDS: [i64; 15] = [
     0,
     2,
-    INPUTS_MAX as i64,
-    NODES_MAX as i64,
-    INTEGRATORS_MAX as i64,
+    INPUTS as i64,
+    NODES as i64,
+    INTEGRATORS as i64,
     HEADER_BYTES as i64,
-    COMMANDS_MAX as i64,
-    LINKS_MAX as i64,
+    COMMANDS as i64,
+    LINKS as i64,
     GRAINS,
-    COEFFICIENT_BOUND,
+    LARGEST_COEFFICIENT,
     M,
     M,
-    HORIZON_MAX as i64,
+    LARGEST_HORIZON as i64,
     1 << 31,
     1 << 32,
 ];
@@ -274,7 +274,15 @@ fn wrap_sums(rng: &mut Rng, file: &[u8]) -> Vec<u8> {
 fn change_horizon(rng: &mut Rng, file: &[u8]) -> Vec<u8> {
     let mut damaged = file.to_vec();
     if file.len() >= WORD_BYTES {
-        let horizon = rng.pick(&[0, 1, 5, HORIZON_MAX, HORIZON_MAX + 1, 1 << 31, u32::MAX]);
+        let horizon = rng.pick(&[
+            0,
+            1,
+            5,
+            LARGEST_HORIZON,
+            LARGEST_HORIZON + 1,
+            1 << 31,
+            u32::MAX,
+        ]);
         set_word(&mut damaged, 0, horizon);
     }
     damaged

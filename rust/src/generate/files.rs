@@ -8,7 +8,7 @@ use super::rng::Rng;
 use super::Damage;
 use crate::file::layout::{assemble, section_bytes};
 use crate::file::{encode, Cause};
-use crate::limits::{Section, HORIZON_MAX, WORD_BYTES};
+use crate::limits::{Section, LARGEST_HORIZON, WORD_BYTES};
 use crate::limits::{REFUSED_COMMAND, REFUSED_HORIZON, REFUSED_SHORT, REFUSED_SIZES};
 use crate::plan::Plan;
 use crate::words::set_word;
@@ -149,7 +149,7 @@ fn two_faults(rng: &mut Rng, plan: &mut Plan) {
 }
 
 fn loose(rng: &mut Rng) -> Vec<u8> {
-    let horizon = rng.pick(&[0, 1, 100, 100, 100, HORIZON_MAX, HORIZON_MAX + 1]);
+    let horizon = rng.pick(&[0, 1, 100, 100, 100, LARGEST_HORIZON, LARGEST_HORIZON + 1]);
     let sections = Section::ALL.map(|section| {
         // Often few entries, so that the sections after it are reached too.
         let most = rng.pick(&[1, 2, section.most() + 1]);

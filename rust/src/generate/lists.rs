@@ -2,7 +2,7 @@
 
 use super::rng::Rng;
 use crate::engine::Engine;
-use crate::limits::{BUDGET_MAX, EVENT_BYTES, LISTING_BUDGET};
+use crate::limits::{EVENT_BYTES, LARGEST_BUDGET, LISTING_BUDGET};
 
 /// One run call, without its state.
 #[derive(Clone, Copy, Debug, PartialEq, Eq)]
@@ -32,11 +32,11 @@ pub fn run_list(rng: &mut Rng, events_per_instant: usize) -> Vec<Call> {
 /// Twelve calls with the largest budget and buffers that do, by either engine: more than 12,000 instants
 /// of a plan that runs for so long.
 pub fn long_list(rng: &mut Rng, events_per_instant: usize) -> Vec<Call> {
-    let buffer = BUDGET_MAX as usize * events_per_instant * EVENT_BYTES;
+    let buffer = LARGEST_BUDGET as usize * events_per_instant * EVENT_BYTES;
     let engines = (0..12).map(|_| rng.pick(&[Engine::Lazy, Engine::Eager]));
     let call = |engine| Call {
         engine,
-        budget: BUDGET_MAX,
+        budget: LARGEST_BUDGET,
         buffer,
     };
     engines.map(call).collect()
@@ -61,8 +61,8 @@ fn budget(rng: &mut Rng) -> u64 {
         8 | 9 => LISTING_BUDGET,
         10 | 11 => rng.within(LISTING_BUDGET as i64 + 1, 400) as u64,
         12 => rng.within(31, LISTING_BUDGET as i64 - 1) as u64,
-        13 => BUDGET_MAX,
-        14 => BUDGET_MAX + 1,
+        13 => LARGEST_BUDGET,
+        14 => LARGEST_BUDGET + 1,
         _ => rng.pick(&[
             u64::MAX,
             u64::MAX,
@@ -77,8 +77,8 @@ fn budget(rng: &mut Rng) -> u64 {
 /// Mostly the length asked for or a little more. A budget of one too many gets a buffer that would do
 /// for it as often as not, since it is declined all the same; a wild one gets a short buffer.
 fn buffer(rng: &mut Rng, budget: u64, instant_bytes: usize) -> usize {
-    let would_do = budget == BUDGET_MAX + 1 && rng.once_in(2);
-    if budget > BUDGET_MAX && !would_do {
+    let would_do = budget == LARGEST_BUDGET + 1 && rng.once_in(2);
+    if budget > LARGEST_BUDGET && !would_do {
         return rng.below(3) * instant_bytes;
     }
     let asked = budget as usize * instant_bytes;

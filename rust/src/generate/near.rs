@@ -3,8 +3,7 @@
 use super::rng::Rng;
 use crate::engine::{Rules, State};
 use crate::limits::{
-    COEFFICIENT_BOUND, COMMANDS_MAX, HORIZON_MAX, INPUTS_MAX, INTEGRATORS_MAX, LINKS_MAX, M, NEVER,
-    NODES_MAX,
+    COMMANDS, INPUTS, INTEGRATORS, LARGEST_COEFFICIENT, LARGEST_HORIZON, LINKS, M, NEVER, NODES,
 };
 use crate::plan::{Plan, LIMIT, THRESHOLD};
 use crate::raw::{RawCounts, RawPlan, RawState};
@@ -82,11 +81,11 @@ fn near(rng: &mut Rng, now: i64, limits: &[i64]) -> i64 {
 
 fn change_count(rng: &mut Rng, counts: &mut RawCounts) {
     let (count, most) = match rng.below(5) {
-        0 => (&mut counts.n, INTEGRATORS_MAX),
-        1 => (&mut counts.m, INPUTS_MAX),
-        2 => (&mut counts.k, NODES_MAX),
-        3 => (&mut counts.links, LINKS_MAX),
-        _ => (&mut counts.commands, COMMANDS_MAX),
+        0 => (&mut counts.n, INTEGRATORS),
+        1 => (&mut counts.m, INPUTS),
+        2 => (&mut counts.k, NODES),
+        3 => (&mut counts.links, LINKS),
+        _ => (&mut counts.commands, COMMANDS),
     };
     *count = near(rng, *count as i64, &[0, most as i64]) as usize;
 }
@@ -94,19 +93,19 @@ fn change_count(rng: &mut Rng, counts: &mut RawCounts) {
 fn change_horizon_or_input(rng: &mut Rng, state: &mut RawState) {
     let plan = &mut state.plan;
     if rng.once_in(2) || plan.counts.m == 0 {
-        let last = plan.commands.ticks[plan.counts.commands.clamp(1, COMMANDS_MAX) - 1];
+        let last = plan.commands.ticks[plan.counts.commands.clamp(1, COMMANDS) - 1];
         let clock = state.run.clocks.clock;
-        let limits = [0, HORIZON_MAX.into(), clock.into(), last.into()];
+        let limits = [0, LARGEST_HORIZON.into(), clock.into(), last.into()];
         plan.horizon = near(rng, plan.horizon.into(), &limits) as u32;
     } else {
-        let first = &mut plan.inputs.firsts[rng.below(plan.counts.m.min(INPUTS_MAX))];
+        let first = &mut plan.inputs.firsts[rng.below(plan.counts.m.min(INPUTS))];
         *first = near(rng, *first, &[M, -M]);
     }
 }
 
 fn change_integrator(rng: &mut Rng, state: &mut RawState) {
     let (integrators, run) = (&mut state.plan.integrators, &state.run);
-    let i = some(rng, state.plan.counts.n, INTEGRATORS_MAX);
+    let i = some(rng, state.plan.counts.n, INTEGRATORS);
     if rng.once_in(2) {
         integrators.starts[i] = near(rng, integrators.starts[i], &[M, -M]);
     } else {
@@ -117,7 +116,7 @@ fn change_integrator(rng: &mut Rng, state: &mut RawState) {
 
 fn change_node(rng: &mut Rng, plan: &mut RawPlan) {
     let (counts, nodes) = (plan.counts, &mut plan.nodes);
-    let j = some(rng, counts.k, NODES_MAX);
+    let j = some(rng, counts.k, NODES);
     let own = counts.n.wrapping_add(counts.m).wrapping_add(j) as i64;
     match rng.below(5) {
         0 => {
@@ -136,8 +135,8 @@ fn change_node(rng: &mut Rng, plan: &mut RawPlan) {
 
 fn change_link(rng: &mut Rng, plan: &mut RawPlan) {
     let (counts, links) = (plan.counts, &mut plan.links);
-    let e = some(rng, counts.links, LINKS_MAX);
-    let beside = [e.saturating_sub(1), (e + 1).min(LINKS_MAX - 1)];
+    let e = some(rng, counts.links, LINKS);
+    let beside = [e.saturating_sub(1), (e + 1).min(LINKS - 1)];
     let targets = beside.map(|e| links.targets[e] as i64);
     let sources = beside.map(|e| links.sources[e] as i64);
     match rng.below(4) {
@@ -151,7 +150,7 @@ fn change_link(rng: &mut Rng, plan: &mut RawPlan) {
             links.sources[e] = near(rng, links.sources[e] as i64, &limits) as usize;
         }
         2 => {
-            let limits = [0, COEFFICIENT_BOUND, -COEFFICIENT_BOUND];
+            let limits = [0, LARGEST_COEFFICIENT, -LARGEST_COEFFICIENT];
             links.coefficients[e] = near(rng, links.coefficients[e], &limits);
         }
         _ => {
@@ -168,8 +167,8 @@ fn change_link(rng: &mut Rng, plan: &mut RawPlan) {
 
 fn change_command(rng: &mut Rng, state: &mut RawState) {
     let (counts, commands) = (state.plan.counts, &mut state.plan.commands);
-    let e = some(rng, counts.commands, COMMANDS_MAX);
-    let beside = [e.saturating_sub(1), (e + 1).min(COMMANDS_MAX - 1)];
+    let e = some(rng, counts.commands, COMMANDS);
+    let beside = [e.saturating_sub(1), (e + 1).min(COMMANDS - 1)];
     let from = beside[rng.below(2)];
     match rng.below(4) {
         0 => {
@@ -192,7 +191,7 @@ fn change_command(rng: &mut Rng, state: &mut RawState) {
 
 fn change_cell(rng: &mut Rng, state: &mut RawState) {
     let (plan, run) = (&state.plan, &mut state.run);
-    let i = some(rng, plan.counts.n, INTEGRATORS_MAX);
+    let i = some(rng, plan.counts.n, INTEGRATORS);
     let (x, q, quantum) = (run.x[i], run.q[i], plan.integrators.quanta[i]);
     let levels = |of: i64| [of.wrapping_add(quantum), of.wrapping_sub(quantum)];
     let clock = i64::from(run.clocks.clock);
@@ -209,7 +208,7 @@ fn change_cell(rng: &mut Rng, state: &mut RawState) {
             ) as u32
         }
         _ => {
-            let input = &mut run.inputs[some(rng, plan.counts.m, INPUTS_MAX)];
+            let input = &mut run.inputs[some(rng, plan.counts.m, INPUTS)];
             *input = near(rng, *input, &[M, -M]);
         }
     }
@@ -221,10 +220,10 @@ fn change_counter(rng: &mut Rng, state: &mut RawState) {
     let clock = i64::from(clocks.clock);
     match rng.below(4) {
         0 => {
-            let used = plan.counts.n.min(INTEGRATORS_MAX);
+            let used = plan.counts.n.min(INTEGRATORS);
             let due = run.d[..used].iter().copied().min().unwrap_or(NEVER);
             let moved = run.l[..used].iter().copied().max().unwrap_or(0);
-            let tick = plan.commands.ticks[clocks.next.min(COMMANDS_MAX - 1)];
+            let tick = plan.commands.ticks[clocks.next.min(COMMANDS - 1)];
             let limits = [plan.horizon, due, moved, tick].map(i64::from);
             clocks.clock = near(rng, clock, &limits) as u32;
         }
@@ -330,7 +329,7 @@ fn due(kept: &State, i: usize) -> u32 {
 }
 
 fn set_next(state: &mut RawState) {
-    let used = state.plan.counts.commands.min(COMMANDS_MAX);
+    let used = state.plan.counts.commands.min(COMMANDS);
     let ticks = &state.plan.commands.ticks[..used];
     let first = ticks.iter().position(|&tick| tick > state.run.clocks.clock);
     state.run.clocks.next = first.unwrap_or(used);

@@ -2,8 +2,8 @@
 
 use super::recipe::{Recipe, Spread};
 use super::rng::Rng;
-use crate::limits::{COEFFICIENT_BOUND, GRAINS, HORIZON_MAX, M};
-use crate::limits::{COMMANDS_MAX, INPUTS_MAX, INTEGRATORS_MAX, LINKS_MAX, NODES_MAX, SECTIONS};
+use crate::limits::{COMMANDS, INPUTS, INTEGRATORS, LINKS, NODES, SECTIONS};
+use crate::limits::{GRAINS, LARGEST_COEFFICIENT, LARGEST_HORIZON, M};
 use crate::plan::{Plan, DIFFERENCE, LIMIT, THRESHOLD};
 
 /// What a plan is made for.
@@ -86,11 +86,11 @@ pub fn any(rng: &mut Rng) -> Plan {
 
 /// Every section as long as it may be.
 const FULL_COUNTS: [(usize, usize); SECTIONS] = [
-    (INTEGRATORS_MAX, INTEGRATORS_MAX),
-    (INPUTS_MAX, INPUTS_MAX),
-    (NODES_MAX, NODES_MAX),
-    (LINKS_MAX, LINKS_MAX),
-    (COMMANDS_MAX, COMMANDS_MAX),
+    (INTEGRATORS, INTEGRATORS),
+    (INPUTS, INPUTS),
+    (NODES, NODES),
+    (LINKS, LINKS),
+    (COMMANDS, COMMANDS),
 ];
 
 const ORDINARY: Recipe = Recipe {
@@ -127,25 +127,25 @@ const FULL: Recipe = Recipe {
 };
 
 const EXTREME: Recipe = Recipe {
-    horizon: Spread::OneOf(&[1, 2, HORIZON_MAX as i64 - 1, HORIZON_MAX as i64]),
+    horizon: Spread::OneOf(&[1, 2, LARGEST_HORIZON as i64 - 1, LARGEST_HORIZON as i64]),
     counts: FULL_COUNTS,
     start: Spread::OneOf(&[-M, -M + 1, -1, 0, 1, M - 1, M]),
     quantum: Spread::OneOf(&[1, 2, M - 1, M]),
     value: Spread::OneOf(&[-M, -M + 1, -1, 0, 1, M - 1, M]),
     limit: Spread::OneOf(&[-M, -1, 0, 1, M]),
     coefficient: Spread::OneOf(&[
-        -COEFFICIENT_BOUND,
+        -LARGEST_COEFFICIENT,
         -GRAINS,
         -1,
         1,
         GRAINS,
-        COEFFICIENT_BOUND,
+        LARGEST_COEFFICIENT,
     ]),
     command_ticks: 20,
 };
 
 const WIDE: Recipe = Recipe {
-    horizon: Spread::OneOf(&[3_000, 90_000, HORIZON_MAX as i64]),
+    horizon: Spread::OneOf(&[3_000, 90_000, LARGEST_HORIZON as i64]),
     counts: FULL_COUNTS,
     start: Spread::OneOf(&[-M / 2, -1, 0, 1, M / 2]),
     quantum: Spread::OneOf(&[M / 64, M / 8, M - 1, M]),
@@ -157,7 +157,7 @@ const WIDE: Recipe = Recipe {
 
 /// Without links; [`slow`] adds them.
 const SLOW: Recipe = Recipe {
-    horizon: Spread::OneOf(&[HORIZON_MAX as i64 - 1, HORIZON_MAX as i64]),
+    horizon: Spread::OneOf(&[LARGEST_HORIZON as i64 - 1, LARGEST_HORIZON as i64]),
     counts: [(1, 4), (1, 3), (0, 3), (0, 0), (4, 12)],
     start: Spread::Within(-M / 2, M / 2),
     quantum: Spread::OneOf(&[1 << 24, M / 3, M - 1, M]),
@@ -180,7 +180,7 @@ const TINY: Recipe = Recipe {
 
 const CHAIN: Recipe = Recipe {
     horizon: Spread::Within(200, 50_000),
-    counts: [(2, 6), (1, 3), (NODES_MAX, NODES_MAX), (4, 20), (0, 8)],
+    counts: [(2, 6), (1, 3), (NODES, NODES), (4, 20), (0, 8)],
     start: Spread::Within(-3 * GRAINS, 3 * GRAINS),
     quantum: Spread::Within(GRAINS / 8, 2 * GRAINS),
     value: Spread::Within(-3 * GRAINS, 3 * GRAINS),
@@ -191,7 +191,7 @@ const CHAIN: Recipe = Recipe {
 
 const COMMANDED: Recipe = Recipe {
     horizon: Spread::Within(20, 400),
-    counts: [(1, 5), (2, INPUTS_MAX), (0, 4), (2, 20), (10, COMMANDS_MAX)],
+    counts: [(1, 5), (2, INPUTS), (0, 4), (2, 20), (10, COMMANDS)],
     start: Spread::Within(-50, 50),
     quantum: Spread::Within(2, 40),
     value: Spread::OneOf(&[-3, 0, 3]),
@@ -214,14 +214,8 @@ const LADDER: Recipe = Recipe {
 
 /// [`bare`] leaves sections out.
 const BARE: Recipe = Recipe {
-    horizon: Spread::OneOf(&[1, 2, 50, 1_000, HORIZON_MAX as i64]),
-    counts: [
-        (1, INTEGRATORS_MAX),
-        (1, INPUTS_MAX),
-        (0, 3),
-        (1, 40),
-        (0, 20),
-    ],
+    horizon: Spread::OneOf(&[1, 2, 50, 1_000, LARGEST_HORIZON as i64]),
+    counts: [(1, INTEGRATORS), (1, INPUTS), (0, 3), (1, 40), (0, 20)],
     start: Spread::Within(-400, 400),
     quantum: Spread::Within(20, 300),
     value: Spread::Within(-40, 40),
@@ -235,7 +229,7 @@ const BARE: Recipe = Recipe {
 fn swinging(rng: &mut Rng) -> Plan {
     let pairs = rng.below(4) + 1;
     let emptied = rng.below(4);
-    let mut plan = Plan::new(rng.within(50_000, i64::from(HORIZON_MAX)) as u32);
+    let mut plan = Plan::new(rng.within(50_000, i64::from(LARGEST_HORIZON)) as u32);
     for _ in 0..pairs {
         let size = rng.within(1_000, 400_000);
         let quantum = (size / rng.within(4, 40)).max(1);
@@ -339,7 +333,7 @@ fn together(rng: &mut Rng) -> Plan {
 fn ladder(rng: &mut Rng) -> Plan {
     let mut plan = LADDER.plan(rng);
     let lowest = rng.below(plan.node_source(0));
-    for number in 0..NODES_MAX {
+    for number in 0..NODES {
         let places = plan.node_source(number);
         let below = if number == 0 { lowest } else { places - 1 };
         let other = rng.below(places);
@@ -350,7 +344,7 @@ fn ladder(rng: &mut Rng) -> Plan {
             _ => plan.threshold(other, below, low, high),
         };
     }
-    let topmost = plan.node_source(NODES_MAX - 1);
+    let topmost = plan.node_source(NODES - 1);
     for cup in 0..plan.integrators.len() {
         let drive = rng.within(GRAINS / 90, GRAINS / 30) * rng.pick(&[1, -1]);
         if rng.once_in(2) {

@@ -4,7 +4,7 @@ use super::rng::Rng;
 use crate::file::layout::{assemble, section_bytes};
 use crate::file::{encode, Cause, Refusal};
 use crate::limits::{
-    Section, COEFFICIENT_BOUND, HEADER_BYTES, HORIZON_MAX, M, SECTIONS, WORD_BYTES,
+    Section, HEADER_BYTES, LARGEST_COEFFICIENT, LARGEST_HORIZON, M, SECTIONS, WORD_BYTES,
 };
 use crate::limits::{
     REFUSED_HORIZON, REFUSED_INPUT, REFUSED_INTEGRATOR, REFUSED_LINK, REFUSED_NODE, REFUSED_SIZES,
@@ -62,7 +62,7 @@ pub fn twice_in_one_entry(rng: &mut Rng, plan: &mut Plan) -> Option<usize> {
     ]);
     let entry = in_plan(rng, plan, cause)?;
     match cause.number() {
-        REFUSED_LINK => plan.links[entry].coefficient = rng.pick(&[0, COEFFICIENT_BOUND + 1]),
+        REFUSED_LINK => plan.links[entry].coefficient = rng.pick(&[0, LARGEST_COEFFICIENT + 1]),
         _ => plan.commands[entry].value = rng.pick(&BEYOND_M),
     }
     Some(entry)
@@ -71,7 +71,7 @@ pub fn twice_in_one_entry(rng: &mut Rng, plan: &mut Plan) -> Option<usize> {
 fn plant_horizon(rng: &mut Rng, plan: &mut Plan, cause: Cause) -> usize {
     plan.horizon = match cause {
         Cause::HorizonZero => 0,
-        _ => rng.pick(&[HORIZON_MAX + 1, 1 << 31, u32::MAX]),
+        _ => rng.pick(&[LARGEST_HORIZON + 1, 1 << 31, u32::MAX]),
     };
     0
 }
@@ -134,8 +134,8 @@ fn plant_link(rng: &mut Rng, plan: &mut Plan, cause: Cause) -> Option<usize> {
         Cause::CoefficientZero => links[entry].coefficient = 0,
         Cause::CoefficientBeyond => {
             let beyond = [
-                COEFFICIENT_BOUND + 1,
-                -COEFFICIENT_BOUND - 1,
+                LARGEST_COEFFICIENT + 1,
+                -LARGEST_COEFFICIENT - 1,
                 i32::MIN as i64,
             ];
             links[entry].coefficient = rng.pick(&beyond);

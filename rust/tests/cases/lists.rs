@@ -31,7 +31,7 @@ const LISTS: usize = 2;
 const LEAST_INSTANTS: u64 = 7;
 
 /// The longest file of a plan that the prover works out in a few seconds.
-const LONGEST_FILE: usize = 260;
+const LONGEST_LISTED_FILE: usize = 260;
 
 /// What has to be met.
 pub fn required() -> Met {
@@ -115,7 +115,7 @@ fn lists_of((family, status): (Family, usize)) -> impl Iterator<Item = (String, 
 fn list_by(seed: u64, family: Family, status: usize) -> Option<(Plan, Played)> {
     let mut rng = rng_of(family, seed);
     let plan = family.plan(&mut rng);
-    if encode(&plan).len() > LONGEST_FILE {
+    if encode(&plan).len() > LONGEST_LISTED_FILE {
         return None;
     }
     let list = short_list(&mut rng, &plan);

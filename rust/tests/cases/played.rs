@@ -3,7 +3,7 @@
 use crate::common::{CHECKER, ENGINES, MARK};
 use cup_check::calls::{Ran, Simulator};
 use cup_check::generate::{Call, Rng};
-use cup_check::limits::{ACCEPTED, BUDGET_MAX, EVENT_BYTES};
+use cup_check::limits::{ACCEPTED, EVENT_BYTES, LARGEST_BUDGET};
 use cup_check::plan::Plan;
 use cup_check::raw::RawState;
 
@@ -12,7 +12,7 @@ use cup_check::raw::RawState;
 pub fn short_list(rng: &mut Rng, plan: &Plan) -> Vec<Call> {
     let room = plan.events_per_instant() * EVENT_BYTES;
     let (first, last) = (rng.below(5), rng.below(4) + 4);
-    let declined = rng.pick(&[(BUDGET_MAX as usize + 1, 0), (2, 2 * room - 1)]);
+    let declined = rng.pick(&[(LARGEST_BUDGET as usize + 1, 0), (2, 2 * room - 1)]);
     let figures = [
         (first, first * room + rng.below(3)),
         declined,

@@ -8,7 +8,7 @@ use cup_check::calls::Simulator;
 use cup_check::engine::Engine;
 use cup_check::generate::states::sound_state;
 use cup_check::generate::{Breakage, Rng};
-use cup_check::limits::{BUDGET_MAX, INTEGRATORS_MAX};
+use cup_check::limits::{INTEGRATORS, LARGEST_BUDGET};
 use cup_check::met::Met;
 use cup_check::raw::RawState;
 use cup_check::samples::document_cup;
@@ -57,17 +57,17 @@ pub fn declarations(met: &mut Met) -> Vec<Declaration> {
 /// Whether a state is sound, and the numbers of calls with which there is something else wrong: a
 /// state that is not sound goes before it.
 fn cases(entry: &RawState) -> [String; 4] {
-    let (term, budget) = (state(entry), BUDGET_MAX + 1);
+    let (term, budget) = (state(entry), LARGEST_BUDGET + 1);
     let call = format!("record {{ engine = Eager; budget = {budget}; buffer = [] }}");
     let ran = CHECKER.run(Engine::Eager, entry, budget, &mut []);
-    let positioned = CHECKER.position(entry, INTEGRATORS_MAX);
+    let positioned = CHECKER.position(entry, INTEGRATORS);
     let written = CHECKER.write(entry, &mut []);
     let number = |call: String, number: usize| nat_case(&format!("{call} .number"), number as u64);
     [
         truth_case(&format!("isSound {term}"), is_sound(entry)),
         number(format!("answerOf {term} ({call})"), ran.number),
         number(
-            format!("positionedOf {term} {INTEGRATORS_MAX}"),
+            format!("positionedOf {term} {INTEGRATORS}"),
             positioned.number,
         ),
         number(format!("writeOf {term} []"), written.number),

@@ -1,7 +1,7 @@
 //! A plan and states that several test files take apart.
 
 use super::loaded;
-use cup_check::limits::{COEFFICIENT_BOUND, M, NEVER};
+use cup_check::limits::{LARGEST_COEFFICIENT, M, NEVER};
 use cup_check::plan::Plan;
 use cup_check::raw::{RawPlan, RawRunning, RawState};
 use cup_check::samples::document_cup;
@@ -18,8 +18,8 @@ pub fn every_section() -> Plan {
         .product(4, 4)
         .limit(5, -M, M)
         .threshold(6, 0, M, -M)
-        .link(0, 0, -COEFFICIENT_BOUND)
-        .link(0, 7, COEFFICIENT_BOUND)
+        .link(0, 0, -LARGEST_COEFFICIENT)
+        .link(0, 7, LARGEST_COEFFICIENT)
         .link(1, 1, 1)
         .link(1, 2, -1)
         .command(1, 0, -M)

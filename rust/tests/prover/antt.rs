@@ -3,7 +3,7 @@
 use crate::common::MARK;
 use cup_check::engine::Engine;
 use cup_check::generate::Call;
-use cup_check::limits::{INPUTS_MAX, INTEGRATORS_MAX, NEVER};
+use cup_check::limits::{INPUTS, INTEGRATORS, NEVER};
 use cup_check::plain::Plain;
 use cup_check::raw::{RawCommands, RawCounts, RawLinks, RawNodes, RawPlan, RawRunning, RawState};
 
@@ -214,13 +214,13 @@ pub fn plain(machine: &Plain) -> String {
         .iter()
         .map(|due| due.unwrap_or(u64::from(NEVER)))
         .collect();
-    dues.resize(INTEGRATORS_MAX, 0);
+    dues.resize(INTEGRATORS, 0);
     record(&[
-        ("x", filled(&machine.positions, INTEGRATORS_MAX)),
-        ("q", filled(&machine.outputs, INTEGRATORS_MAX)),
-        ("s", filled(&machine.slopes, INTEGRATORS_MAX)),
+        ("x", filled(&machine.positions, INTEGRATORS)),
+        ("q", filled(&machine.outputs, INTEGRATORS)),
+        ("s", filled(&machine.slopes, INTEGRATORS)),
         ("d", nats(&dues)),
-        ("inputs", filled(&machine.inputs, INPUTS_MAX)),
+        ("inputs", filled(&machine.inputs, INPUTS)),
         ("clock", nat(machine.clock)),
         ("next", machine.next_command.to_string()),
         ("instants", nat(machine.instants)),

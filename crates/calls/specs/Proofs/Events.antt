@@ -13,7 +13,7 @@ use Rattle.plan.specs.Laws.TestMeanings.{within-size}
 use Rattle.plan.specs.declared.Plan.{Plan}
 use Rattle.machine.specs.Values.{valueWith}
 use Rattle.machine.specs.Reach.{changes, Changed, due, commanded}
-use Rattle.machine.specs.Instant.{positionAt, inputsThen, outputs, nextTickOf, eventsAt, eventsOf}
+use Rattle.machine.specs.Instant.{positionAt, inputsThen, outputsThen, nextTickOf, eventsAt, eventsOf}
 use Rattle.machine.specs.Status.{statusAt, statusOf}
 use Rattle.plan.specs.Rules.{PlanRules}
 use Rattle.machine.specs.Laws.InstantFigures.{output-due}
@@ -60,8 +60,8 @@ module _ (p : Plan) (ok : PlanRules p) (d : List ℕ) (t : ℕ) (position : ℕ 
   }
 
 pub events-read : EventsRead
-unfolding statusOf eventsOf outputs
+unfolding statusOf eventsOf outputsThen
 events-read p r ok paused =
     let t = nextTickOf p r in
-    events-promise p ok (r .d) t (positionAt r t) (outputs p r t) (r .inputs) paused
+    events-promise p ok (r .d) t (positionAt r t) (outputsThen p r t) (r .inputs) paused
     (output-due p (count-limits p (ok .counts)) (r .d) t (positionAt r t) (r .q))

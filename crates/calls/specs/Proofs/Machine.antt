@@ -8,7 +8,7 @@ use Rattle.plan.specs.Laws.CountLimits.{count-limits}
 use Rattle.plan.specs.declared.Plan.{Plan}
 use Rattle.machine.specs.Due.{upperLevel, lowerLevel, ticksTo, dueOf}
 use Rattle.machine.specs.Next.{nextTick}
-use Rattle.machine.specs.Instant.{positionAt, slopeThen, takenAt, nextTickOf, instant}
+use Rattle.machine.specs.Instant.{positionAt, slopeThen, figuresAfter, nextTickOf, instant}
 use Rattle.machine.specs.Status.{statusNumber, statusIntegrator, statusAt, statusOf}
 use Rattle.machine.specs.Laws.Due.{due-still, due-moving, ticks-least, ticks-rounded, stays-above, stays-below, countdown}
 use Rattle.machine.specs.Laws.Frame.{slope-frame}
@@ -50,7 +50,7 @@ reach-means p d t i rules =
     record { change = changes-means p d t i; reach = Rattle.machine.specs.Laws.Reach.reach-means p d t i rules }
 
 pub frame : Frame
-unfolding instant takenAt slopeThen
+unfolding instant figuresAfter slopeThen
 frame p engine r i rules h =
     let t = nextTickOf p r in slope-frame p (count-limits p (rules .counts)) r t i (reached-false p (r .d) t i h)
 

@@ -2,7 +2,7 @@
 use mathlib.Core.Path.{refl, sym, _∙_}
 use Rattle.plan.specs.Laws.CountLimits.{count-limits}
 use Rattle.machine.specs.Start.{startOf, startState}
-use Rattle.machine.specs.Instant.{positionAt, takenAt, nextTickOf, instant}
+use Rattle.machine.specs.Instant.{positionAt, figuresAfter, nextTickOf, instant}
 use Rattle.machine.specs.Runs.{after, events}
 use Rattle.machine.specs.Laws.Runs.{run-stopped, run-taken}
 use Rattle.machine.specs.Laws.StartSound.{start-slope, start-last, start-due}
@@ -55,7 +55,7 @@ start-means p rules =
     )
 
 pub steps-mean : StepsMean
-unfolding instant takenAt positionAt
+unfolding instant figuresAfter positionAt
 steps-mean p engine r rules =
     let t = nextTickOf p r in
     record {

@@ -26,7 +26,7 @@ use Rattle.plan.specs.declared.Plan.{Plan}
 use Rattle.machine.specs.Values.{valueWith, valueOf}
 use Rattle.machine.specs.Next.{nextCommand}
 use Rattle.machine.specs.Reach.{isDue, changes, dependsWith, reached}
-use Rattle.machine.specs.Instant.{inputsThen, outputs, moves, takenAt, instant, eventsOf}
+use Rattle.machine.specs.Instant.{inputsThen, outputsThen, moves, figuresAfter, instant, eventsOf}
 use Rattle.machine.specs.Sound.{RunningWidths}
 use Rattle.machine.specs.Laws.Next.{tick-command}
 use Rattle.machine.specs.Laws.Inputs.{output-value, input-value}
@@ -78,7 +78,7 @@ module _ (p : Plan) (r : Running) {t due : ℕ} {ranges reach : List ℕ} {value
   takes = rw (ready .tick) (takes-next p r (ready .sound) (ready .paused))
 
   abbrev q : List ℤ
-  q = outputs p r t
+  q = outputsThen p r t
 
   abbrev u : List ℤ
   u = inputsThen p (r .inputs) t
@@ -200,7 +200,7 @@ module _ (p : Plan) (r : Running) {t due : ℕ} {ranges reach : List ℕ} {value
             (λ i h. node-at i h ∙ ap (λ vs. intAt vs i) (ready .values-are)) nodes nodes-then
 
         outputs-then : outputsIn (p .counts .n) v3 ≡ q
-        unfolding outputs
+        unfolding outputsThen
         outputs-then =
             rw values-then
             (outputs-read p rules q u (length-row (pos 0) 32 (p .counts .n) _) (λ i h. row-unused (pos 0) 32 (p .counts .n) _ i h))
@@ -258,15 +258,15 @@ module _ (p : Plan) (r : Running) {t due : ℕ} {ranges reach : List ℕ} {value
             count-then = counted ∙ rw moved-then (countOf-mask (moves p engine (r .d) t) (p .counts .n) 32 (limits .n))
 
             figures-then : motion x s l d
-                ≡ motion (takenAt p r t (moves p engine (r .d) t) .x) (takenAt p r t (moves p engine (r .d) t) .s)
-                (takenAt p r t (moves p engine (r .d) t) .l) (takenAt p r t (moves p engine (r .d) t) .d)
+                ≡ motion (figuresAfter p r t (moves p engine (r .d) t) .x) (figuresAfter p r t (moves p engine (r .d) t) .s)
+                (figuresAfter p r t (moves p engine (r .d) t) .l) (figuresAfter p r t (moves p engine (r .d) t) .d)
             figures-then =
                 move ∙ rw (ready .ranges-are, moved-then) (moved-figures p r (ready .sound) t takes v3 value-then (moves p engine (r .d) t) shaped)
 
             pub running-then : _≡_ {A = Running}
                 (runningOf (p .counts) x s l d v3 (record { clock = t; next = next; instants = r .clocks .instants + 1; updates = r .clocks .updates + grown }))
                 (instant p engine r)
-            unfolding instant takenAt
+            unfolding instant figuresAfter
             running-then =
                 rw (
                   ap (λ m. m .x) figures-then,

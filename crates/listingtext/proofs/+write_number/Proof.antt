@@ -34,27 +34,27 @@ module _ (t : ℕ) where
     more : decimal (start .args .number) ≡ decimal (start .args .number / 10) ++ (digit (start .args .number % 10) ∷ [])
     more = decimal-more (start .args .number) (c .before .before .before .before .if1 .left)
 
-    room : length (decimal (start .args .number / 10)) < length (start .args .buf .now)
+    room : length (decimal (start .args .number / 10)) < length (start .args .buffer .now)
     room = omega (arith, ap length more ∙ length-append (decimal (start .args .number / 10)) _, start .pre .1)
 
-  cast-buf : lts.Need-cast-buf (claims t) (write-number-at t) write-number.Post
-  cast-buf c = omega arith
+  cast-buffer : lts.Need-cast-buffer (claims t) (write-number-at t) write-number.Post
+  cast-buffer c = omega arith
 
-  add-buf : lts.Need-add-buf (claims t) (write-number-at t) write-number.Post
-  add-buf c = omega arith
+  add-buffer : lts.Need-add-buffer (claims t) (write-number-at t) write-number.Post
+  add-buffer c = omega arith
 
-  slice-write-buf : lts.Need-slice-write-buf (claims t) (write-number-at t) write-number.Post
-  slice-write-buf c = omega (arith, decimal-some (c .before .before .args .number))
+  slice-write-buffer : lts.Need-slice-write-buffer (claims t) (write-number-at t) write-number.Post
+  slice-write-buffer c = omega (arith, decimal-some (c .before .before .args .number))
 
   same-length : lts.Need-same-length (claims t) (write-number-at t) write-number.Post
-  same-length c = length-set (c .before .before .args .buf .now) 0 _
+  same-length c = length-set (c .before .before .args .buffer .now) 0 _
 
   returns : lts.Need-returns (claims t) (write-number-at t) write-number.Post
   returns c =
       let a = c .before .before .args in
       let small = c .if1 .taken in
-      let room : 0 < length (a .buf .now) = omega (arith, decimal-some (a .number), c .before .before .pre) in
-      rw (decimal-one (a .number) small) (then-byte (nothing (a .buf .now)) (digit (a .number)) room)
+      let room : 0 < length (a .buffer .now) = omega (arith, decimal-some (a .number), c .before .before .pre) in
+      rw (decimal-one (a .number) small) (then-byte (nothing (a .buffer .now)) (digit (a .number)) room)
 
   write-number-requires : lts.Need-write-number-requires (claims t) (write-number-at t) write-number.Post
   write-number-requires c κs =
@@ -63,14 +63,14 @@ module _ (t : ℕ) where
       let size = ap length more ∙ length-append (decimal (s .args .number / 10)) _ in
       (omega (arith, s .pre .0, c .before .if1 .left), omega (arith, s .pre .1, size))
 
-  cast-buf-2 : lts.Need-cast-buf-2 (claims t) (write-number-at t) write-number.Post
-  cast-buf-2 c = omega arith
+  cast-buffer-2 : lts.Need-cast-buffer-2 (claims t) (write-number-at t) write-number.Post
+  cast-buffer-2 c = omega arith
 
-  add-buf-2 : lts.Need-add-buf-2 (claims t) (write-number-at t) write-number.Post
-  add-buf-2 c = omega arith
+  add-buffer-2 : lts.Need-add-buffer-2 (claims t) (write-number-at t) write-number.Post
+  add-buffer-2 c = omega arith
 
-  slice-write-buf-2 : lts.Need-slice-write-buf-2 (claims t) (write-number-at t) write-number.Post
-  slice-write-buf-2 c = omega (arith, c .before .before .write-number .ensures .size, c .before .before .write-number .kept, room c)
+  slice-write-buffer-2 : lts.Need-slice-write-buffer-2 (claims t) (write-number-at t) write-number.Post
+  slice-write-buffer-2 c = omega (arith, c .before .before .write-number .ensures .size, c .before .before .write-number .kept, room c)
 
   add-result : lts.Need-add-result (claims t) (write-number-at t) write-number.Post
   add-result c = omega (arith, c .before .before .write-number .ensures .size, room c, start c .good)
@@ -87,15 +87,15 @@ module _ (t : ℕ) where
 pub +write-number-spec : {M : Type 1} → statement M
 +write-number-spec =
     close μ-write-number λ t. lts.spec (claims t) (write-number-at t) write-number.Post
-    (cast-buf t)
-    (add-buf t)
-    (slice-write-buf t)
+    (cast-buffer t)
+    (add-buffer t)
+    (slice-write-buffer t)
     (same-length t)
     (returns t)
     (write-number-requires t)
-    (cast-buf-2 t)
-    (add-buf-2 t)
-    (slice-write-buf-2 t)
+    (cast-buffer-2 t)
+    (add-buffer-2 t)
+    (slice-write-buffer-2 t)
     (add-result t)
     (same-length-2 t)
     (returns-2 t)

@@ -28,21 +28,21 @@ module _ (c : tie.After-slice-known2) where
   abbrev start : tie.Start
   start = c .before .before .before .before .before .before
 
-  one : Printed endWord (start .args .buf .now) (c .before .before .write-text .result) (c .before .before .write-text .last .0)
+  one : Printed endWord (start .args .buffer .now) (c .before .before .write-text .result) (c .before .before .write-text .last .0)
   one = c .before .before .write-text .ensures
 
 module _ (c : tie.After-slice-known3) where
   abbrev first : tie.After-slice-known2
   first = c .before .before .before .before
 
-  two : Printed (upToStatus (start first)) (start first .args .buf .now) (c .before .before .write-field .result) (c .before .before .write-field .last .0)
+  two : Printed (upToStatus (start first)) (start first .args .buffer .now) (c .before .before .write-field .result) (c .before .before .write-field .last .0)
   two = then-text (one first) (c .before .before .write-field .ensures)
 
 module _ (c : tie.After-slice-known4) where
   abbrev second : tie.After-slice-known3
   second = c .before .before .before .before
 
-  three : Printed (upToClock (start (first second))) (start (first second) .args .buf .now) (c .before .before .write-field2 .result)
+  three : Printed (upToClock (start (first second))) (start (first second) .args .buffer .now) (c .before .before .write-field2 .result)
       (c .before .before .write-field2 .last .0)
   three = then-text (two second) (c .before .before .write-field2 .ensures)
 
@@ -50,7 +50,7 @@ module _ (c : tie.After-slice-known5) where
   abbrev third : tie.After-slice-known4
   third = c .before .before .before .before
 
-  four : Printed (upToInstants (start (first (second third)))) (start (first (second third)) .args .buf .now) (c .before .before .write-field3 .result)
+  four : Printed (upToInstants (start (first (second third)))) (start (first (second third)) .args .buffer .now) (c .before .before .write-field3 .result)
       (c .before .before .write-field3 .last .0)
   four = then-text (three third) (c .before .before .write-field3 .ensures)
 

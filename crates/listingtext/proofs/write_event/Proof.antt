@@ -24,8 +24,8 @@ module _ (c : tie.After-slice-known2) where
   abbrev tick : List ℕ
   tick = field (decimal (start .args .tick)) space
 
-  one : Printed tick (start .args .buf .now) (c .before .before .write-field .result) (c .before .before .write-field .last .0)
-  one = then-text (nothing (start .args .buf .now)) (c .before .before .write-field .ensures)
+  one : Printed tick (start .args .buffer .now) (c .before .before .write-field .result) (c .before .before .write-field .last .0)
+  one = then-text (nothing (start .args .buffer .now)) (c .before .before .write-field .ensures)
 
   abbrev source : List ℕ
   source = field (decimal (start .args .source)) space
@@ -34,7 +34,7 @@ module _ (c : tie.After-slice-known3) where
   abbrev first : tie.After-slice-known2
   first = c .before .before .before .before
 
-  two : Printed (tick first ++ source first) (start first .args .buf .now) (c .before .before .write-field2 .result) (c .before .before .write-field2 .last .0)
+  two : Printed (tick first ++ source first) (start first .args .buffer .now) (c .before .before .write-field2 .result) (c .before .before .write-field2 .last .0)
   two = then-text (one first) (c .before .before .write-field2 .ensures)
 
 write-field-requires : tie.Need-write-field-requires
@@ -43,7 +43,7 @@ write-field-requires c κs =
     let start = c .before .before in
     let tick = field (decimal (start .args .tick)) space in
     let source = field (decimal (start .args .source)) space in
-    more-fits (nothing (start .args .buf .now)) tick (front-fits tick source (front-fits (tick ++ source) _ (start .pre)))
+    more-fits (nothing (start .args .buffer .now)) tick (front-fits tick source (front-fits (tick ++ source) _ (start .pre)))
 
 write-field-requires-2 : tie.Need-write-field-requires-2
 unfolding eventLine

@@ -24,29 +24,29 @@ write-number-requires : tie.Need-write-number-requires
 write-number-requires c κs =
     let start = c .before .before in
     let a = start .args in
-    omega (arith, length-behind (a .buf .now) (a .at), length-append (decimal (a .number)) (a .end ∷ []), start .pre)
+    omega (arith, length-behind (a .buffer .now) (a .at), length-append (decimal (a .number)) (a .end ∷ []), start .pre)
 
 -- ---- behind the call: the number is written, and there is room for what ends it
 module _ (c : tie.After-slice-known2) where
   abbrev start : tie.Start
   start = c .before .before .before .before .before
 
-  room : start .args .at + (length (decimal (start .args .number)) + 1) ≤ length (start .args .buf .now)
+  room : start .args .at + (length (decimal (start .args .number)) + 1) ≤ length (start .args .buffer .now)
   room = omega (arith, length-append (decimal (start .args .number)) (start .args .end ∷ []), start .pre)
 
-  number : PrintedAt (start .args .at) (decimal (start .args .number)) (start .args .buf .now) (start .args .at + c .before .before .write-number .result)
-      (back (start .args .buf .now) (start .args .at) (c .before .before .write-number .last .0))
+  number : PrintedAt (start .args .at) (decimal (start .args .number)) (start .args .buffer .now) (start .args .at + c .before .before .write-number .result)
+      (back (start .args .buffer .now) (start .args .at) (c .before .before .write-number .last .0))
   number = in-part (start .args .at) (omega (arith, room)) (c .before .before .write-number .ensures)
 
-  inside : (start .args .at + c .before .before .write-number .result < length (start .args .buf .now))
-      × (start .args .at + length (decimal (start .args .number)) ≤ length (start .args .buf .now))
+  inside : (start .args .at + c .before .before .write-number .result < length (start .args .buffer .now))
+      × (start .args .at + length (decimal (start .args .number)) ≤ length (start .args .buffer .now))
   inside = (omega (arith, room, number .size), omega (arith, room))
 
 add-last : tie.Need-add-last
 add-last c = omega (arith, inside c)
 
-slice-write-buf : tie.Need-slice-write-buf
-slice-write-buf c = omega (arith, inside c, length-at (number c) (omega (arith, inside c)))
+slice-write-buffer : tie.Need-slice-write-buffer
+slice-write-buffer c = omega (arith, inside c, length-at (number c) (omega (arith, inside c)))
 
 add-result : tie.Need-add-result
 add-result c = omega (arith, inside c, start c .good)
@@ -66,7 +66,7 @@ write-field-spec =
     part-write-number-end
     write-number-requires
     add-last
-    slice-write-buf
+    slice-write-buffer
     add-result
     same-length
     returns)

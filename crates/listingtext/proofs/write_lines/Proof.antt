@@ -16,13 +16,13 @@ use Rattle.listingtext.proofs.write_lines.Statement.{statement}
 use Rattle.listingtext.proofs.write_lines.Tie as tie
 
 abbrev Inv-loop : tie.InvT-loop
-Inv-loop buf₀ events count at₀ i₀ buf at i = (i ≤ count) × Printed (linesOf events i) buf₀ at buf
+Inv-loop buffer₀ events count at₀ i₀ buffer at i = (i ≤ count) × Printed (linesOf events i) buffer₀ at buffer
 
 abbrev μ-loop : tie.MeasureT-loop
-μ-loop buf₀ events count at₀ i₀ buf at i = count - i
+μ-loop buffer₀ events count at₀ i₀ buffer at i = count - i
 
 loop-holds : tie.Need-loop-holds Inv-loop μ-loop
-loop-holds c = (omega arith, begun (c .before .before .args .events .now) (c .before .before .args .buf .now))
+loop-holds c = (omega arith, begun (c .before .before .args .events .now) (c .before .before .args .buffer .now))
 
 mul-read-u32 : tie.Need-mul-read-u32 Inv-loop μ-loop
 mul-read-u32 c = search needs
@@ -50,7 +50,7 @@ read-i32-requires c κs = search needs
 
 -- the lines that are written fit
 lines-most : (c : tie.At-loop Inv-loop μ-loop)
-    → length (linesOf (c .before .before .before .args .events .now) (c .loop .i)) ≤ length (c .before .before .before .args .buf .now)
+    → length (linesOf (c .before .before .before .args .events .now) (c .loop .i)) ≤ length (c .before .before .before .args .buffer .now)
 lines-most c =
     let s = c .before .before .before in
     lines-fit-to (s .args .events .now) (c .loop .i) (s .args .count) (c .loop .inv .0) (s .pre .1)
@@ -71,10 +71,10 @@ module _ (c : tie.After-read-i32 Inv-loop μ-loop) where
       line-read bytes (inside .before .loop .i) (c .before .before .read-u32 .ensures .0) (c .before .read-u322 .ensures .0)
       (toZ-ofZ (sfits-of (c .read-i32 .ok)) ∙ c .read-i32 .ensures)
 
-  fits : length (linesOf bytes (inside .before .loop .i) ++ lineAt bytes (inside .before .loop .i)) ≤ length (start .args .buf .now)
+  fits : length (linesOf bytes (inside .before .loop .i) ++ lineAt bytes (inside .before .loop .i)) ≤ length (start .args .buffer .now)
   fits = omega (arith, lines-fit bytes (inside .before .loop .i) (start .args .count) (inside .loop-test .taken), start .pre .1)
 
-  room : inside .before .loop .at + length (lineAt bytes (inside .before .loop .i)) ≤ length (inside .before .loop .buf)
+  room : inside .before .loop .at + length (lineAt bytes (inside .before .loop .i)) ≤ length (inside .before .loop .buffer)
   room = more-fits (inside .before .loop .inv .1) (lineAt bytes (inside .before .loop .i)) fits
 
 -- and written
@@ -85,12 +85,12 @@ module _ (c : tie.After-slice-known2 Inv-loop μ-loop) where
   abbrev loop : tie.At-loop Inv-loop μ-loop
   loop = inside read .before
 
-  now-line : PrintedAt (loop .loop .at) (lineAt (bytes read) (loop .loop .i)) (loop .loop .buf) (loop .loop .at + c .before .before .write-event .result)
-      (back (loop .loop .buf) (loop .loop .at) (c .before .before .write-event .last .0))
+  now-line : PrintedAt (loop .loop .at) (lineAt (bytes read) (loop .loop .i)) (loop .loop .buffer) (loop .loop .at + c .before .before .write-event .result)
+      (back (loop .loop .buffer) (loop .loop .at) (c .before .before .write-event .last .0))
   now-line = in-part (loop .loop .at) (omega (arith, room read)) (rw (line read) at (c .before .before .write-event .ensures))
 
-  more : Printed (linesOf (bytes read) (loop .loop .i + 1)) (start read .args .buf .now) (loop .loop .at + c .before .before .write-event .result)
-      (back (loop .loop .buf) (loop .loop .at) (c .before .before .write-event .last .0))
+  more : Printed (linesOf (bytes read) (loop .loop .i + 1)) (start read .args .buffer .now) (loop .loop .at + c .before .before .write-event .result)
+      (back (loop .loop .buffer) (loop .loop .at) (c .before .before .write-event .last .0))
   more = rw (lines-more (bytes read) (loop .loop .i)) (then-text (loop .loop .inv .1) now-line)
 
 sub-write-event : tie.Need-sub-write-event Inv-loop μ-loop
@@ -105,7 +105,7 @@ part-write-event-end c = search needs
 write-event-requires : tie.Need-write-event-requires Inv-loop μ-loop
 write-event-requires c κs =
     let l = inside (c .before) .before .loop in
-    rw (line (c .before)) (omega (arith, room (c .before), length-behind (l .buf) (l .at)))
+    rw (line (c .before)) (omega (arith, room (c .before), length-behind (l .buffer) (l .at)))
 
 add-at : tie.Need-add-at Inv-loop μ-loop
 add-at c = omega (arith, room (read c), now-line c .size, length-printed (loop c .loop .inv .1) (lines-most (loop c)), start (read c) .good)

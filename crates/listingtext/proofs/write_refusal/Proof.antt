@@ -22,14 +22,14 @@ module _ (c : tie.After-slice-known2) where
   abbrev start : tie.Start
   start = c .before .before .before .before .before .before
 
-  one : Printed refusedWord (start .args .buf .now) (c .before .before .write-text .result) (c .before .before .write-text .last .0)
+  one : Printed refusedWord (start .args .buffer .now) (c .before .before .write-text .result) (c .before .before .write-text .last .0)
   one = c .before .before .write-text .ensures
 
 module _ (c : tie.After-slice-known3) where
   abbrev first : tie.After-slice-known2
   first = c .before .before .before .before
 
-  two : Printed (upToNumber (start first)) (start first .args .buf .now) (c .before .before .write-field .result) (c .before .before .write-field .last .0)
+  two : Printed (upToNumber (start first)) (start first .args .buffer .now) (c .before .before .write-field .result) (c .before .before .write-field .last .0)
   two = then-text (one first) (c .before .before .write-field .ensures)
 
 slice-aggregate-write-text : tie.Need-slice-aggregate-write-text

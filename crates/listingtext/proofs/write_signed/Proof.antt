@@ -36,23 +36,23 @@ module _ (c : tie.Then1) where
       signed-below (start .args .value) (rw (bits start) at (c .if1 .taken))
       ∙ ap (λ (n : ℕ). minus ∷ decimal n) (sym (c .before .magnitude .ensures ∙ ap natAbs (bits start)))
 
-  room : length (minus ∷ decimal size) ≤ length (start .args .buf .now)
+  room : length (minus ∷ decimal size) ≤ length (start .args .buffer .now)
   room = rw text at (start .pre)
 
   -- the sign
-  sign : Printed (minus ∷ []) (start .args .buf .now) 1 (set (start .args .buf .now) 0 minus)
-  sign = then-byte (nothing (start .args .buf .now)) minus (omega (arith, room))
+  sign : Printed (minus ∷ []) (start .args .buffer .now) 1 (set (start .args .buffer .now) 0 minus)
+  sign = then-byte (nothing (start .args .buffer .now)) minus (omega (arith, room))
 
 -- and the number behind it
 module _ (c : tie.After-slice-known2) where
   abbrev signed : tie.Then1
   signed = c .before .before .before .before
 
-  both : Printed (minus ∷ decimal (size signed)) (start signed .args .buf .now) (1 + c .before .before .write-number .result)
-      (back (set (start signed .args .buf .now) 0 minus) 1 (c .before .before .write-number .last .0))
+  both : Printed (minus ∷ decimal (size signed)) (start signed .args .buffer .now) (1 + c .before .before .write-number .result)
+      (back (set (start signed .args .buffer .now) 0 minus) 1 (c .before .before .write-number .last .0))
   both =
       then-text (sign signed)
-      (in-part 1 (omega (arith, room signed, length-set (start signed .args .buf .now) 0 minus)) (c .before .before .write-number .ensures))
+      (in-part 1 (omega (arith, room signed, length-set (start signed .args .buffer .now) 0 minus)) (c .before .before .write-number .ensures))
 
 -- ---- from 0 on
 plain : (c : tie.Else1) → signedDecimal (c .before .before .before .args .value) ≡ decimal (c .before .magnitude .result)
@@ -61,14 +61,14 @@ plain c =
     signed-from (start .args .value) (rw (bits start) at (c .if1 .left))
     ∙ ap decimal (sym (c .before .magnitude .ensures ∙ ap natAbs (bits start)))
 
-slice-write-buf : tie.Need-slice-write-buf
-slice-write-buf c = omega (arith, room c)
+slice-write-buffer : tie.Need-slice-write-buffer
+slice-write-buffer c = omega (arith, room c)
 
 sub-write-number : tie.Need-sub-write-number
-sub-write-number c = omega (arith, room c, length-set (start c .args .buf .now) 0 minus)
+sub-write-number c = omega (arith, room c, length-set (start c .args .buffer .now) 0 minus)
 
 part-write-number-start : tie.Need-part-write-number-start
-part-write-number-start c = omega (arith, room c, length-set (start c .args .buf .now) 0 minus)
+part-write-number-start c = omega (arith, room c, length-set (start c .args .buffer .now) 0 minus)
 
 part-write-number-end : tie.Need-part-write-number-end
 part-write-number-end c = search needs
@@ -76,7 +76,7 @@ part-write-number-end c = search needs
 write-number-requires : tie.Need-write-number-requires
 write-number-requires c κs =
     let a = start (c .before) .args in
-    omega (arith, room (c .before), length-behind (set (a .buf .now) 0 minus) 1, length-set (a .buf .now) 0 minus)
+    omega (arith, room (c .before), length-behind (set (a .buffer .now) 0 minus) 1, length-set (a .buffer .now) 0 minus)
 
 add-result : tie.Need-add-result
 add-result c = omega (arith, c .before .before .write-number .ensures .size, room (signed c), start (signed c) .good)
@@ -101,7 +101,7 @@ write-signed-spec =
     tie.close
     (tie.spec
     magnitude-requires
-    slice-write-buf
+    slice-write-buffer
     sub-write-number
     part-write-number-start
     part-write-number-end

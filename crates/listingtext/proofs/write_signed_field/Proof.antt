@@ -31,29 +31,29 @@ write-signed-requires : tie.Need-write-signed-requires
 write-signed-requires c κs =
     let start = c .before .before in
     let a = start .args in
-    rw (bits start) (omega (arith, length-behind (a .buf .now) (a .at), length-append (signedDecimal (a .value)) (a .end ∷ []), start .pre))
+    rw (bits start) (omega (arith, length-behind (a .buffer .now) (a .at), length-append (signedDecimal (a .value)) (a .end ∷ []), start .pre))
 
 -- ---- behind the call: the number is written, and there is room for what ends it
 module _ (c : tie.After-slice-known2) where
   abbrev start : tie.Start
   start = c .before .before .before .before .before
 
-  room : start .args .at + (length (signedDecimal (start .args .value)) + 1) ≤ length (start .args .buf .now)
+  room : start .args .at + (length (signedDecimal (start .args .value)) + 1) ≤ length (start .args .buffer .now)
   room = omega (arith, length-append (signedDecimal (start .args .value)) (start .args .end ∷ []), start .pre)
 
-  number : PrintedAt (start .args .at) (signedDecimal (start .args .value)) (start .args .buf .now) (start .args .at + c .before .before .write-signed .result)
-      (back (start .args .buf .now) (start .args .at) (c .before .before .write-signed .last .0))
+  number : PrintedAt (start .args .at) (signedDecimal (start .args .value)) (start .args .buffer .now) (start .args .at + c .before .before .write-signed .result)
+      (back (start .args .buffer .now) (start .args .at) (c .before .before .write-signed .last .0))
   number = in-part (start .args .at) (omega (arith, room)) (rw (bits start) at (c .before .before .write-signed .ensures))
 
-  inside : (start .args .at + c .before .before .write-signed .result < length (start .args .buf .now))
-      × (start .args .at + length (signedDecimal (start .args .value)) ≤ length (start .args .buf .now))
+  inside : (start .args .at + c .before .before .write-signed .result < length (start .args .buffer .now))
+      × (start .args .at + length (signedDecimal (start .args .value)) ≤ length (start .args .buffer .now))
   inside = (omega (arith, room, number .size), omega (arith, room))
 
 add-last : tie.Need-add-last
 add-last c = omega (arith, inside c)
 
-slice-write-buf : tie.Need-slice-write-buf
-slice-write-buf c = omega (arith, inside c, length-at (number c) (omega (arith, inside c)))
+slice-write-buffer : tie.Need-slice-write-buffer
+slice-write-buffer c = omega (arith, inside c, length-at (number c) (omega (arith, inside c)))
 
 add-result : tie.Need-add-result
 add-result c = omega (arith, inside c, start c .good)
@@ -73,7 +73,7 @@ write-signed-field-spec =
     part-write-signed-end
     write-signed-requires
     add-last
-    slice-write-buf
+    slice-write-buffer
     add-result
     same-length
     returns)

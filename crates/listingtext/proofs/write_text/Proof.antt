@@ -8,19 +8,19 @@ use Rattle.listingtext.proofs.write_text.Statement.{statement}
 use Rattle.listingtext.proofs.write_text.Tie as tie
 
 abbrev Inv-loop : tie.InvT-loop
-Inv-loop buf₀ text i₀ buf i = (i ≤ length text) × Printed (take i text) buf₀ i buf
+Inv-loop buffer₀ text i₀ buffer i = (i ≤ length text) × Printed (take i text) buffer₀ i buffer
 
 abbrev μ-loop : tie.MeasureT-loop
-μ-loop buf₀ text i₀ buf i = length text - i
+μ-loop buffer₀ text i₀ buffer i = length text - i
 
 loop-holds : tie.Need-loop-holds Inv-loop μ-loop
-loop-holds c = (omega arith, nothing (c .args .buf .now))
+loop-holds c = (omega arith, nothing (c .args .buffer .now))
 
-shared-slice-read-buf : tie.Need-shared-slice-read-buf Inv-loop μ-loop
-shared-slice-read-buf c = omega arith
+shared-slice-read-buffer : tie.Need-shared-slice-read-buffer Inv-loop μ-loop
+shared-slice-read-buffer c = omega arith
 
-slice-write-buf : tie.Need-slice-write-buf Inv-loop μ-loop
-slice-write-buf c =
+slice-write-buffer : tie.Need-slice-write-buffer Inv-loop μ-loop
+slice-write-buffer c =
     let l = c .before .before .loop in
     omega (arith, length-printed (l .inv .1) (omega (arith, l .inv .1 .size, c .before .before .before .pre)))
 
@@ -50,8 +50,8 @@ write-text-spec =
     Inv-loop
     μ-loop
     loop-holds
-    shared-slice-read-buf
-    slice-write-buf
+    shared-slice-read-buffer
+    slice-write-buffer
     add-i
     loop-less
     loop-again

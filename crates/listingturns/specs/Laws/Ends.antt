@@ -6,7 +6,7 @@ use Prim.Native.Nat.{ℕ, zero, suc, _+_, _≤_, _<_}
 use native.Mathlib.Omega.{arith}
 use lib.ListN.{replicate, replicate-append-replicate}
 use Rattle.plan.specs.declared.Plan.{Plan}
-use Rattle.machine.specs.Instant.{takenAt, nextTickOf, instant}
+use Rattle.machine.specs.Instant.{figuresAfter, nextTickOf, instant}
 use Rattle.machine.specs.Status.{statusOf, isPaused}
 use Rattle.machine.specs.Runs.{after, events}
 use Rattle.machine.specs.Sound.{SoundRunning}
@@ -36,7 +36,7 @@ module _ (p : Plan) (engine : Engine) where
       (events-append p (replicate a engine) (replicate b engine) r)
 
   instant-clock : (r : Running) → SoundRunning p r → r .clocks .clock < instant p engine r .clocks .clock
-  unfolding instant takenAt
+  unfolding instant figuresAfter
   instant-clock r ok = tick-after p r ok
 
   -- ---- the budget that is enough: each instant moves the clock on, and none is behind the horizon

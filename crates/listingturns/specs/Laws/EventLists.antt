@@ -14,7 +14,7 @@ use Rattle.plan.specs.Lists.{joined}
 use Rattle.plan.specs.declared.Plan.{Plan}
 use Rattle.machine.specs.Values.{valueWith}
 use Rattle.machine.specs.Reach.{changes}
-use Rattle.machine.specs.Instant.{eventBytes, eventsAt, inputsThen, outputs, nextTickOf, instant, eventsOf}
+use Rattle.machine.specs.Instant.{eventBytes, eventsAt, inputsThen, outputsThen, nextTickOf, instant, eventsOf}
 use Rattle.machine.specs.Status.{isPaused}
 use Rattle.machine.specs.Runs.{events}
 use Rattle.machine.specs.Laws.EventWords.{length-event, event-source}
@@ -64,7 +64,7 @@ module _ (p : Plan) (few : p .counts .n + p .counts .m ≤ 10 ^ 2) where
   unfolding eventsOf eventsAt
   instant-list r =
       let t = nextTickOf p r in
-      chosen (changes p (r .d) t) t (λ i. valueWith p (outputs p r t) (inputsThen p (r .inputs) t) zero i) (p .counts .n + p .counts .m) few
+      chosen (changes p (r .d) t) t (λ i. valueWith p (outputsThen p r t) (inputsThen p (r .inputs) t) zero i) (p .counts .n + p .counts .m) few
 
   pub run-list : (engine : Engine) (b : ℕ) (r : Running) → EventList (events p engine b r)
   unfolding events

@@ -13,7 +13,7 @@ use Rattle.plan.specs.declared.Plan.{Plan}
 use Rattle.machine.specs.Values.{rateOf}
 use Rattle.machine.specs.Due.{dueOf}
 use Rattle.machine.specs.Start.{startSlope, startDue, startOf}
-use Rattle.machine.specs.Instant.{positionAt, inputsThen, moves, outputs, slopeThen, dueThen, takenAt, nextTickOf, instant, eventsOf}
+use Rattle.machine.specs.Instant.{positionAt, inputsThen, moves, outputsThen, slopeThen, dueThen, figuresAfter, nextTickOf, instant, eventsOf}
 use Rattle.machine.specs.Status.{statusOf}
 use Rattle.machine.specs.Runs.{positionOf}
 use Rattle.machine.specs.Plain.{Plain, withRatesAndDues, plainStart, plainNextTick, plainPosition, plainOutputs, plainInstant, plainEventsOf}
@@ -68,8 +68,8 @@ module _ (p : Plan) (r : Running) (ok : SoundRunning p r) where
     unfolding statusOf plainStatus
     same-status = status-same p (r .d) (nextTickOf p r) _ _ same-position ∙ rw (same-tick, a .d)
 
-    pub same-outputs : outputs p r (nextTickOf p r) ≡ plainOutputs p m
-    unfolding outputs plainOutputs
+    pub same-outputs : outputsThen p r (nextTickOf p r) ≡ plainOutputs p m
+    unfolding outputsThen plainOutputs
     same-outputs = row-ext (pos 0) 32 (p .counts .n) _ _ (λ i h. rw (same-position i h, same-tick, a .d, a .q))
 
     pub same-inputs-then : inputsThen p (r .inputs) (nextTickOf p r) ≡ inputsThen p (m .inputs) (plainNextTick p m)
@@ -99,7 +99,7 @@ module _ (p : Plan) (r : Running) (ok : SoundRunning p r) where
         rw (x-then p (count-limits p (ok .plan .counts)) r (nextTickOf p r) i h, same-position i h, same-outputs, same-slope i, new-x-at i h, same-tick)
 
     pub agrees-then : (engine : Engine) → Agrees p (instant p engine r) (plainInstant p m)
-    unfolding instant takenAt plainInstant withRatesAndDues positionOf
+    unfolding instant figuresAfter plainInstant withRatesAndDues positionOf
     agrees-then engine =
         let t = nextTickOf p r in
         let who = moves p engine (r .d) t in

@@ -16,7 +16,7 @@ use Rattle.plan.specs.Laws.CountLimits.{CountLimits}
 use Rattle.plan.specs.declared.Plan.{Plan}
 use Rattle.machine.specs.Values.{nodeValue, valueWith, valueOf, sumOver, rateOf}
 use Rattle.machine.specs.Reach.{isDue, setsInput, isCommanded, changes, dependsWith, linkReaches, reached}
-use Rattle.machine.specs.Instant.{inputThen, inputsThen, outputs, slopeThen}
+use Rattle.machine.specs.Instant.{inputThen, inputsThen, outputsThen, slopeThen}
 use Rattle.machine.specs.Laws.InstantFigures.{output-kept}
 use Rattle.machine.specs.declared.Running.{Running}
 
@@ -100,5 +100,5 @@ module _ (p : Plan) (d : List ℕ) (t : ℕ) (q u q₀ u₀ : List ℤ)
 pub slope-frame : (p : Plan) → CountLimits p → (r : Running) (t i : ℕ) → reached p (r .d) t i ≡ false → slopeThen p r t i ≡ rateOf p (r .q) (r .inputs) i
 unfolding slopeThen
 slope-frame p limits r t =
-    rate-kept p (r .d) t (outputs p r t) (inputsThen p (r .inputs) t) (r .q) (r .inputs) (output-kept p limits r t)
+    rate-kept p (r .d) t (outputsThen p r t) (inputsThen p (r .inputs) t) (r .q) (r .inputs) (output-kept p limits r t)
     (λ j h e. input-kept p (r .inputs) t j (limits .m) h e)

@@ -11,7 +11,7 @@ use Rattle.bitset.specs.Laws.Counts.{countOf-ext, countOf-all, countOf-le}
 use Rattle.plan.specs.Lists.{natAt}
 use Rattle.plan.specs.Laws.CountLimits.{count-limits}
 use Rattle.plan.specs.declared.Plan.{Plan}
-use Rattle.machine.specs.Instant.{moves, takenAt, nextTickOf, instant}
+use Rattle.machine.specs.Instant.{moves, figuresAfter, nextTickOf, instant}
 use Rattle.machine.specs.Plain.{Plain, plainNextTick, lazyCount}
 use Rattle.machine.specs.Updates.{growth, movedNow}
 use Rattle.machine.specs.Sound.{SoundRunning}
@@ -44,12 +44,12 @@ module _ (p : Plan) (r : Running) (ok : SoundRunning p r) (m : Plain) (a : Agree
       go Eager = countOf-all (p .counts .n)
 
   pub instant-updates : instant p engine r .clocks .updates ≡ r .clocks .updates + growth p engine m
-  unfolding instant takenAt
+  unfolding instant figuresAfter
   instant-updates = rw moved-count
 
   -- "either way this is the number of integrators with l = c after it"
   pub instant-moved : movedNow p (instant p engine r) ≡ growth p engine m
-  unfolding movedNow instant takenAt
+  unfolding movedNow instant figuresAfter
   instant-moved = countOf-ext _ _ (p .counts .n) marked ∙ moved-count
     where
       t : ℕ
@@ -58,7 +58,7 @@ module _ (p : Plan) (r : Running) (ok : SoundRunning p r) (m : Plain) (a : Agree
       who : ℕ → Bool
       who = moves p engine (r .d) t
 
-      marked : (i : ℕ) → i < p .counts .n → eqb (natAt (takenAt p r t who .l) i) t ≡ who i
+      marked : (i : ℕ) → i < p .counts .n → eqb (natAt (figuresAfter p r t who .l) i) t ≡ who i
       marked i h = rw (l-at p (count-limits p (ok .plan .counts)) r t who i h) (go (who i))
         where
           go : (b : Bool) → eqb (cond b t (natAt (r .l) i)) t ≡ b

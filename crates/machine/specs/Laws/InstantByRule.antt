@@ -13,7 +13,7 @@ use Rattle.plan.specs.Laws.CountLimits.{CountLimits, count-limits}
 use Rattle.plan.specs.declared.Plan.{Plan}
 use Rattle.machine.specs.Due.{upperLevel, lowerLevel, dueOf}
 use Rattle.machine.specs.Reach.{isDue, reached}
-use Rattle.machine.specs.Instant.{positionAt, outputs, slopeThen, dueThen, takenAt}
+use Rattle.machine.specs.Instant.{positionAt, outputsThen, slopeThen, dueThen, figuresAfter}
 use Rattle.machine.specs.Sound.{SoundRunning}
 use Rattle.machine.specs.Laws.BetweenLevels.{BetweenLevels}
 use Rattle.machine.specs.Laws.Due.{due-later}
@@ -58,30 +58,30 @@ module _ (p : Plan) (r : Running) (ok : SoundRunning p r) (t : ℕ) (after : r .
     not-reached : (i : ℕ) → i < p .counts .n → moved i ≡ false → reached p (r .d) t i ≡ false
     not-reached i h e = or-false (isDue (r .d) t i) (reached p (r .d) t i) (covers i h e) .1
 
-    pub slopes-then : takenAt p r t moved .s ≡ row (pos 0) 32 (p .counts .n) (slopeThen p r t)
-    unfolding takenAt
+    pub slopes-then : figuresAfter p r t moved .s ≡ row (pos 0) 32 (p .counts .n) (slopeThen p r t)
+    unfolding figuresAfter
     slopes-then = row-ext (pos 0) 32 (p .counts .n) _ _ (λ i h. go i h (moved i) refl)
       where
         go : (i : ℕ) → i < p .counts .n → (b : Bool) → moved i ≡ b → cond b (slopeThen p r t i) (intAt (r .s) i) ≡ slopeThen p r t i
         go i h true e = refl
         go i h false e = sym (slope-kept i h (not-reached i h e))
 
-    pub dues-then : takenAt p r t moved .d ≡ row 0 32 (p .counts .n) (dueThen p r t)
-    unfolding takenAt
+    pub dues-then : figuresAfter p r t moved .d ≡ row 0 32 (p .counts .n) (dueThen p r t)
+    unfolding figuresAfter
     dues-then = row-ext 0 32 (p .counts .n) _ _ (λ i h. go i h (moved i) refl)
       where
         go : (i : ℕ) → i < p .counts .n → (b : Bool) → moved i ≡ b → cond b (dueThen p r t i) (natAt (r .d) i) ≡ dueThen p r t i
         go i h true e = refl
         go i h false e = sym (due-kept i h (not-due i h e) (not-reached i h e))
 
-    pub slope-at : (i : ℕ) → i < p .counts .n → intAt (takenAt p r t moved .s) i ≡ slopeThen p r t i
+    pub slope-at : (i : ℕ) → i < p .counts .n → intAt (figuresAfter p r t moved .s) i ≡ slopeThen p r t i
     slope-at i h = rw slopes-then (row-at (pos 0) 32 (p .counts .n) _ i (limits .n) h)
 
-    pub due-at : (i : ℕ) → i < p .counts .n → natAt (takenAt p r t moved .d) i ≡ dueThen p r t i
+    pub due-at : (i : ℕ) → i < p .counts .n → natAt (figuresAfter p r t moved .d) i ≡ dueThen p r t i
     due-at i h = rw dues-then (row-at 0 32 (p .counts .n) _ i (limits .n) h)
 
     -- the position at the instant's tick does not depend on who moved
-    pub place-then : (i : ℕ) → i < p .counts .n → positionAt (takenAt p r t moved) t i ≡ positionAt r t i
+    pub place-then : (i : ℕ) → i < p .counts .n → positionAt (figuresAfter p r t moved) t i ≡ positionAt r t i
     unfolding positionAt
     place-then i h = rw (x-at p limits r t moved i h, l-at p limits r t moved i h, slope-at i h) (go (moved i) refl)
       where
@@ -94,12 +94,12 @@ module _ (p : Plan) (r : Running) (ok : SoundRunning p r) (t : ℕ) (after : r .
 
     -- and the due tick is by rule from where and when the integrator was moved last
     pub due-by-rule : (i : ℕ) → i < p .counts .n →
-        dueThen p r t i ≡ dueOf p (outputs p r t) i (cond (moved i) t (natAt (r .l) i)) (cond (moved i) (positionAt r t i) (intAt (r .x) i)) (slopeThen p r t i)
+        dueThen p r t i ≡ dueOf p (outputsThen p r t) i (cond (moved i) t (natAt (r .l) i)) (cond (moved i) (positionAt r t i) (intAt (r .x) i)) (slopeThen p r t i)
     unfolding dueThen dueOf upperLevel lowerLevel
     due-by-rule i h = go (moved i) refl
       where
         go : (b : Bool) → moved i ≡ b →
-            dueThen p r t i ≡ dueOf p (outputs p r t) i (cond b t (natAt (r .l) i)) (cond b (positionAt r t i) (intAt (r .x) i)) (slopeThen p r t i)
+            dueThen p r t i ≡ dueOf p (outputsThen p r t) i (cond b t (natAt (r .l) i)) (cond b (positionAt r t i) (intAt (r .x) i)) (slopeThen p r t i)
         go true e = rw (x-then p limits r t i h)
         go false e =
             due-kept i h (not-due i h e) (not-reached i h e) ∙ ok .integrators i h .due

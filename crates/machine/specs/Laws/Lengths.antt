@@ -9,7 +9,7 @@ use Rattle.words.specs.Word.{Bytes}
 use Rattle.words.specs.Laws.Reading.{bytes-append}
 use Rattle.plan.specs.declared.Plan.{Plan}
 use Rattle.machine.specs.Reach.{changes}
-use Rattle.machine.specs.Instant.{inputsThen, outputs, nextTickOf, instant, eventsOf}
+use Rattle.machine.specs.Instant.{inputsThen, outputsThen, nextTickOf, instant, eventsOf}
 use Rattle.machine.specs.Status.{isPaused}
 use Rattle.machine.specs.Runs.{events}
 use Rattle.machine.specs.Laws.SelectedBlocks.{no-bytes}
@@ -24,7 +24,7 @@ module _ (p : Plan) where
       let t = nextTickOf p r in
       omega (
         arith,
-        length-events p t (r .d) (outputs p r t) (inputsThen p (r .inputs) t),
+        length-events p t (r .d) (outputsThen p r t) (inputsThen p (r .inputs) t),
         countOf-le (changes p (r .d) t) (p .counts .n + p .counts .m),
       )
 

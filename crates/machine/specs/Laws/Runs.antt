@@ -7,7 +7,7 @@ use Prim.Native.Nat.{ℕ, zero, suc, _+_, _≤_, _<_}
 use native.Mathlib.Omega.{arith}
 use lib.ListN.{length, replicate}
 use Rattle.plan.specs.declared.Plan.{Plan}
-use Rattle.machine.specs.Instant.{takenAt, instant, eventsOf}
+use Rattle.machine.specs.Instant.{figuresAfter, instant, eventsOf}
 use Rattle.machine.specs.Status.{statusPaused, statusOf, isPaused}
 use Rattle.machine.specs.Runs.{after, events}
 use Rattle.machine.specs.Plain.{Plain, plainInstant, plainStatus, plainFrom, plainEventsFrom}
@@ -115,7 +115,7 @@ module _ (p : Plan) where
 
   -- ---- the clock goes on
   instant-clock : (engine : Engine) (r : Running) → SoundRunning p r → r .clocks .clock < instant p engine r .clocks .clock
-  unfolding instant takenAt
+  unfolding instant figuresAfter
   instant-clock engine r ok = tick-after p r ok
 
   clock-least : (engines : List Engine) (r : Running) → SoundRunning p r → r .clocks .clock ≤ afterBy engines r .clocks .clock

@@ -6,7 +6,7 @@ use Rattle.plan.specs.Format.{PlanWidths}
 use Rattle.plan.specs.Laws.Rows.{length-row}
 use Rattle.plan.specs.declared.Plan.{Plan}
 use Rattle.machine.specs.Start.{startOf}
-use Rattle.machine.specs.Instant.{inputsThen, outputs, takenAt, instant}
+use Rattle.machine.specs.Instant.{inputsThen, outputsThen, figuresAfter, instant}
 use Rattle.machine.specs.Status.{isPaused}
 use Rattle.machine.specs.Runs.{after}
 use Rattle.machine.specs.Sound.{RunningWidths}
@@ -27,7 +27,7 @@ module _ (p : Plan) where
       }
 
   pub instant-shaped : (engine : Engine) (r : Running) → RunningWidths (instant p engine r)
-  unfolding instant takenAt outputs inputsThen
+  unfolding instant figuresAfter outputsThen inputsThen
   instant-shaped engine r =
       record {
         x = length-row (pos 0) 32 (p .counts .n) _;

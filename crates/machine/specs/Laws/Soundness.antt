@@ -17,7 +17,7 @@ use Rattle.plan.specs.Laws.TestMeanings.{within-size}
 use Rattle.plan.specs.declared.Plan.{Plan}
 use Rattle.machine.specs.Due.{dueOf}
 use Rattle.machine.specs.Reach.{isDue, reached}
-use Rattle.machine.specs.Instant.{positionAt, inputsThen, moves, outputs, slopeThen, dueThen, takenAt, nextTickOf, instant}
+use Rattle.machine.specs.Instant.{positionAt, inputsThen, moves, outputsThen, slopeThen, dueThen, figuresAfter, nextTickOf, instant}
 use Rattle.machine.specs.Status.{isPaused}
 use Rattle.machine.specs.Sound.{SoundIntegrator, SoundRunning}
 use Rattle.machine.specs.Laws.BetweenLevels.{near-between, near-itself}
@@ -52,7 +52,7 @@ module _ (p : Plan) (r : Running) (ok : SoundRunning p r) (t : ℕ) (takes : Tak
   from : r .clocks .clock ≤ t
   from = omega (arith, takes .after)
 
-  pub output-size : (i : ℕ) → i < p .counts .n → ∣ intAt (outputs p r t) i ∣ ≤ M
+  pub output-size : (i : ℕ) → i < p .counts .n → ∣ intAt (outputsThen p r t) i ∣ ≤ M
   output-size i h = rw (outputs-at p limits r t i h) (go (isDue (r .d) t i) refl)
     where
       go : (b : Bool) → isDue (r .d) t i ≡ b → ∣ cond b (positionAt r t i) (intAt (r .q) i) ∣ ≤ M
@@ -63,7 +63,7 @@ module _ (p : Plan) (r : Running) (ok : SoundRunning p r) (t : ℕ) (takes : Tak
   input-then-size = inputs-then-size p (ok .plan) (r .inputs) t (λ k l. within-size M _ .0 (ok .inputs k l))
 
   -- a due integrator stands at its output; the others stay between their levels
-  pub near-output : (i : ℕ) → i < p .counts .n → pos ∣ positionAt r t i -ℤ intAt (outputs p r t) i ∣ <ℤ intAt (p .integrators .quanta) i
+  pub near-output : (i : ℕ) → i < p .counts .n → pos ∣ positionAt r t i -ℤ intAt (outputsThen p r t) i ∣ <ℤ intAt (p .integrators .quanta) i
   near-output i h = rw (outputs-at p limits r t i h) (go (isDue (r .d) t i) refl)
     where
       go : (b : Bool) → isDue (r .d) t i ≡ b → pos ∣ positionAt r t i -ℤ cond b (positionAt r t i) (intAt (r .q) i) ∣ <ℤ intAt (p .integrators .quanta) i
@@ -73,10 +73,10 @@ module _ (p : Plan) (r : Running) (ok : SoundRunning p r) (t : ℕ) (takes : Tak
   -- whoever moves
   module _ (moved : ℕ → Bool) (covers : (i : ℕ) → i < p .counts .n → moved i ≡ false → (isDue (r .d) t i || reached p (r .d) t i) ≡ false) where
     -- one that does not move is not due, and keeps its output
-    near-then : (i : ℕ) → i < p .counts .n → pos ∣ intAt (takenAt p r t moved .x) i -ℤ intAt (outputs p r t) i ∣ <ℤ intAt (p .integrators .quanta) i
+    near-then : (i : ℕ) → i < p .counts .n → pos ∣ intAt (figuresAfter p r t moved .x) i -ℤ intAt (outputsThen p r t) i ∣ <ℤ intAt (p .integrators .quanta) i
     near-then i h = rw (x-at p limits r t moved i h) (go (moved i) refl)
       where
-        go : (b : Bool) → moved i ≡ b → pos ∣ cond b (positionAt r t i) (intAt (r .x) i) -ℤ intAt (outputs p r t) i ∣ <ℤ intAt (p .integrators .quanta) i
+        go : (b : Bool) → moved i ≡ b → pos ∣ cond b (positionAt r t i) (intAt (r .x) i) -ℤ intAt (outputsThen p r t) i ∣ <ℤ intAt (p .integrators .quanta) i
         go true e = near-output i h
         go false e =
             rw (output-kept p limits r t i h (not-due p r ok t from (takes .least) moved covers i h e)) (ok .integrators i h .near)
@@ -88,8 +88,8 @@ module _ (p : Plan) (r : Running) (ok : SoundRunning p r) (t : ℕ) (takes : Tak
         go true = omega arith
         go false = omega (arith, takes .after, ok .integrators i h .moved)
 
-    integrator-then : (i : ℕ) → i < p .counts .n → SoundIntegrator p (takenAt p r t moved) i
-    unfolding takenAt slopeThen dueThen dueOf
+    integrator-then : (i : ℕ) → i < p .counts .n → SoundIntegrator p (figuresAfter p r t moved) i
+    unfolding figuresAfter slopeThen dueThen dueOf
     integrator-then i h =
         let soon : t < never = omega (arith, takes .until, ok .plan .horizon .1) in
         record {
@@ -108,8 +108,8 @@ module _ (p : Plan) (r : Running) (ok : SoundRunning p r) (t : ℕ) (takes : Tak
               (due-by-rule p r ok t from (takes .least) moved covers i h);
         }
 
-    pub sound-then : SoundRunning p (takenAt p r t moved)
-    unfolding takenAt outputs inputsThen
+    pub sound-then : SoundRunning p (figuresAfter p r t moved)
+    unfolding figuresAfter outputsThen inputsThen
     sound-then =
         record {
           plan = ok .plan;

@@ -12,7 +12,7 @@ use Rattle.plan.specs.declared.Plan.{Plan}
 use Rattle.machine.specs.Values.{rateOf}
 use Rattle.machine.specs.Due.{dueOf}
 use Rattle.machine.specs.Reach.{isDue}
-use Rattle.machine.specs.Instant.{positionAt, moves, Moves, outputs, slopeThen, dueThen, takenAt, nextTickOf, instant}
+use Rattle.machine.specs.Instant.{positionAt, moves, Moves, outputsThen, slopeThen, dueThen, figuresAfter, nextTickOf, instant}
 use Rattle.machine.specs.Laws.Inputs.{input-set, input-not-set}
 use Rattle.machine.specs.Laws.Reach.{reach-means}
 use Rattle.machine.specs.Laws.InstantFigures.{output-due, output-not-due, x-then, x-at, l-at, s-at, d-at}
@@ -42,21 +42,21 @@ module _ (p : Plan) (rules : PlanRules p) (engine : Engine) (r : Running) where
 
   -- ---- 1. outputs
   pub step-due : (i : ℕ) → i < p .counts .n → natAt (r .d) i ≡ t → intAt (then .q) i ≡ positionAt r t i
-  unfolding instant takenAt outputs
+  unfolding instant figuresAfter outputsThen
   step-due = output-due p limits (r .d) t (positionAt r t) (r .q)
 
   pub step-not-due : (i : ℕ) → i < p .counts .n → (natAt (r .d) i ≡ t → ⊥) → intAt (then .q) i ≡ intAt (r .q) i
-  unfolding instant takenAt outputs
+  unfolding instant figuresAfter outputsThen
   step-not-due = output-not-due p limits (r .d) t (positionAt r t) (r .q)
 
   -- ---- 2. inputs
   pub step-set : (j e : ℕ) → j < p .counts .m → e < p .counts .commands → natAt (p .commands .ticks) e ≡ t → natAt (p .commands .inputs) e ≡ j → intAt (then .inputs) j ≡ intAt (p .commands .values) e
-  unfolding instant takenAt
+  unfolding instant figuresAfter
   step-set = input-set p rules (r .inputs) t
 
   pub step-not-set : (j : ℕ) → j < p .counts .m → ((e : ℕ) → e < p .counts .commands → natAt (p .commands .ticks) e ≡ t → natAt (p .commands .inputs) e ≡ j → ⊥)
       → intAt (then .inputs) j ≡ intAt (r .inputs) j
-  unfolding instant takenAt
+  unfolding instant figuresAfter
   step-not-set = input-not-set p rules (r .inputs) t
 
   -- ---- 5. who moves
@@ -73,11 +73,11 @@ module _ (p : Plan) (rules : PlanRules p) (engine : Engine) (r : Running) where
     step-l = l-at p limits r t (moves p engine (r .d) t) i h ∙ rw moving
 
     pub step-s : intAt (then .s) i ≡ rateOf p (then .q) (then .inputs) i
-    unfolding instant takenAt slopeThen
+    unfolding instant figuresAfter slopeThen
     step-s = s-at p limits r t (moves p engine (r .d) t) i h ∙ rw moving
 
     pub step-d : natAt (then .d) i ≡ dueOf p (then .q) i t (intAt (then .x) i) (intAt (then .s) i)
-    unfolding instant takenAt slopeThen dueThen
+    unfolding instant figuresAfter slopeThen dueThen
     step-d =
         d-at p limits r t (moves p engine (r .d) t) i h ∙ rw (moving, step-x, step-s, x-then p limits r t i h)
 

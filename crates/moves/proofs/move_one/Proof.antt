@@ -6,7 +6,7 @@ use mir.Val.{SFits}
 use mir.Facts.{toZ-ofZ}
 use Rattle.integers.specs.Laws.Signed64.{rd}
 use Rattle.plan.specs.Lists.{intAt}
-use Rattle.moves.specs.Motion.{motion, placeOf, slopeOf}
+use Rattle.moves.specs.Motion.{motion, positionThen, slopeOf}
 use Rattle.moves.specs.Laws.Moving.{move-stores}
 use Rattle.moves.proofs.move_one.Statement.{statement}
 use Rattle.moves.proofs.move_one.Tie as tie
@@ -14,9 +14,9 @@ use Rattle.moves.proofs.move_one.Tie as tie
 -- where the integrator is at t, and its new slope
 place : (c : tie.After-position) → let a = c .before .before .before .before .args in
     rd (c .position .result)
-    ≡ placeOf (a .quanta .now) (a .sources .now) (a .coefficients .now) (a .ranges .now) (a .t) (a .values .now) (a .i)
+    ≡ positionThen (a .quanta .now) (a .sources .now) (a .coefficients .now) (a .ranges .now) (a .t) (a .values .now) (a .i)
     (motion (a .x .now) (a .s .now) (a .l .now) (a .d .now))
-unfolding placeOf
+unfolding positionThen
 place c =
     let a = c .before .before .before .before .args in
     let x : SFits w64 (intAt (a .x .now) (a .i)) = sfits-of (c .before .before .before .position-arg .given) in

@@ -16,7 +16,7 @@ use Rattle.plan.specs.Lists.{natAt, intAt, row}
 use Rattle.plan.specs.Laws.CountLimits.{CountLimits, count-limits}
 use Rattle.plan.specs.declared.Plan.{Plan}
 use Rattle.machine.specs.Values.{valueOf}
-use Rattle.machine.specs.Instant.{positionAt, inputsThen, outputs, slopeThen, xThen, dueThen, takenAt}
+use Rattle.machine.specs.Instant.{positionAt, inputsThen, outputsThen, slopeThen, xThen, dueThen, figuresAfter}
 use Rattle.machine.specs.Sound.{SoundRunning, RunningWidths}
 use Rattle.machine.specs.Laws.Values.{integrator-value}
 use Rattle.machine.specs.Laws.InstantFigures.{x-then}
@@ -26,7 +26,7 @@ use Rattle.rates.specs.Links.{rangesOf}
 use Rattle.rates.specs.Laws.OwnRange.{own-rated, own-rate}
 use Rattle.timing.specs.Laws.Statuses.{ready-at}
 use Rattle.timing.specs.Laws.Dues.{due-ready-then, due-is-then}
-use Rattle.moves.specs.Motion.{Motion, motion, placeOf, slopeOf, dueFrom, afterMove, AllMovable}
+use Rattle.moves.specs.Motion.{Motion, motion, positionThen, slopeOf, dueFrom, afterMove, AllMovable}
 use Rattle.moves.specs.Laws.Moving.{Figures, figuresAt, Full, movedFigures, move-full, move-own, move-others}
 use Rattle.steps.specs.Laws.MaskLoops.{Stores, Visited, visited, row-is}
 
@@ -84,23 +84,23 @@ module _ (quanta : List ℤ) (sources : List ℕ) (coefficients : List ℤ) (ran
 
 -- ---- at an instant; `values` holds the values of all sources there
 module _ (p : Plan) (r : Running) (sound : SoundRunning p r) (t : ℕ) (takes : Takes p r t) (values : List ℤ)
-    (same : (i : ℕ) → i < p .counts .n + p .counts .m + p .counts .k → intAt values i ≡ valueOf p (outputs p r t) (inputsThen p (r .inputs) t) i) (moved : ℕ → Bool) where
+    (same : (i : ℕ) → i < p .counts .n + p .counts .m + p .counts .k → intAt values i ≡ valueOf p (outputsThen p r t) (inputsThen p (r .inputs) t) i) (moved : ℕ → Bool) where
   limits : CountLimits p
   limits = count-limits p (sound .plan .counts)
 
   abbrev before : Motion
   before = motion (r .x) (r .s) (r .l) (r .d)
 
-  place : (i : ℕ) → placeOf (p .integrators .quanta) (p .links .sources) (p .links .coefficients) (rangesOf p) t values i before ≡ positionAt r t i
-  unfolding placeOf positionAt
+  place : (i : ℕ) → positionThen (p .integrators .quanta) (p .links .sources) (p .links .coefficients) (rangesOf p) t values i before ≡ positionAt r t i
+  unfolding positionThen positionAt
   place i = refl
 
-  output : (i : ℕ) → i < p .counts .n → intAt values i ≡ intAt (outputs p r t) i
-  output i h = same i (omega arith) ∙ integrator-value p (outputs p r t) (inputsThen p (r .inputs) t) i h
+  output : (i : ℕ) → i < p .counts .n → intAt values i ≡ intAt (outputsThen p r t) i
+  output i h = same i (omega arith) ∙ integrator-value p (outputsThen p r t) (inputsThen p (r .inputs) t) i h
 
   slope : (i : ℕ) → i < p .counts .n → slopeOf (p .integrators .quanta) (p .links .sources) (p .links .coefficients) (rangesOf p) t values i ≡ slopeThen p r t i
   unfolding slopeOf slopeThen
-  slope i h = own-rate p (sound .plan) values (outputs p r t) (inputsThen p (r .inputs) t) same i h
+  slope i h = own-rate p (sound .plan) values (outputsThen p r t) (inputsThen p (r .inputs) t) same i h
 
   pub all-movable : ((i : ℕ) → ∣ intAt values i ∣ ≤ M)
       → AllMovable (p .integrators .quanta) (p .links .sources) (p .links .coefficients) (rangesOf p) t values (maskOf moved (p .counts .n)) before
@@ -132,8 +132,8 @@ module _ (p : Plan) (r : Running) (sound : SoundRunning p r) (t : ℕ) (takes : 
 
   pub moved-figures : RunningWidths r
       → each (afterMove (p .integrators .quanta) (p .links .sources) (p .links .coefficients) (rangesOf p) t values) (has (maskOf moved (p .counts .n))) 32 before
-      ≡ motion (takenAt p r t moved .x) (takenAt p r t moved .s) (takenAt p r t moved .l) (takenAt p r t moved .d)
-  unfolding takenAt
+      ≡ motion (figuresAfter p r t moved .x) (figuresAfter p r t moved .s) (figuresAfter p r t moved .l) (figuresAfter p r t moved .d)
+  unfolding figuresAfter
   moved-figures shaped =
       let u = sound .running-unused in
       moved-rows (p .integrators .quanta) (p .links .sources) (p .links .coefficients) (rangesOf p) t values moved (p .counts .n) (limits .n) before

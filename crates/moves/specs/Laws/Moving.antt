@@ -14,7 +14,7 @@ use Rattle.bitset.specs.Mask.{has, lowestOf, restOf}
 use Rattle.bitset.specs.Laws.Visiting.{has-lowest, has-rest}
 use Rattle.plan.specs.Lists.{natAt, intAt}
 use Rattle.machine.specs.Due.{dueTick}
-use Rattle.moves.specs.Motion.{Motion, motion, placeOf, slopeOf, dueFrom, afterMove, Movable, AllMovable}
+use Rattle.moves.specs.Motion.{Motion, motion, positionThen, slopeOf, dueFrom, afterMove, Movable, AllMovable}
 
 -- the figures of one integrator
 pub record Figures : Type 0 where
@@ -50,7 +50,7 @@ module _ (quanta : List ℤ) (sources : List ℕ) (coefficients : List ℤ) (ran
 
   -- stored one by one
   pub move-stores : (j : ℕ) (m : Motion) {place slope : ℤ} {due : ℕ}
-      → place ≡ placeOf quanta sources coefficients ranges t values j m
+      → place ≡ positionThen quanta sources coefficients ranges t values j m
       → slope ≡ slopeOf quanta sources coefficients ranges t values j
       → due ≡ dueTick t place (intAt values j +ℤ intAt quanta j) (intAt values j -ℤ intAt quanta j) slope
       → motion (set (m .x) j place) (set (m .s) j slope) (set (m .l) j t) (set (m .d) j due) ≡ move j m
@@ -62,7 +62,7 @@ module _ (quanta : List ℤ) (sources : List ℕ) (coefficients : List ℤ) (ran
   move-full j m f = record { x = simp length-set (f .x); s = simp length-set (f .s); l = simp length-set (f .l); d = simp length-set (f .d) }
 
   pub move-own : (j : ℕ) (m : Motion) → Full m → j < 32 → figuresAt (move j m) j ≡ movedFigures j (figuresAt m j)
-  unfolding afterMove movedFigures placeOf
+  unfolding afterMove movedFigures positionThen
   move-own j m f h =
       rw (
         getD-set-same (m .x) j _ (pos 0) (omega (arith, f .x)),
@@ -88,7 +88,7 @@ module _ (quanta : List ℤ) (sources : List ℕ) (coefficients : List ℤ) (ran
     movable-lowest = all (lowestOf 32 left) (has-lowest 32 left some wide)
 
     pub movable-rest : AllMovable quanta sources coefficients ranges t values (restOf left) (move (lowestOf 32 left) m)
-    unfolding placeOf
+    unfolding positionThen
     movable-rest i h =
         let j = lowestOf 32 left in
         let both = and-eq-true-iff (has left i) (not (eqb i j)) .0 (sym (has-rest 32 left i some wide) ∙ h) in

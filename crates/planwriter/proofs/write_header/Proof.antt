@@ -36,7 +36,7 @@ returns c =
     let horizon = pairs .before .before .before .before in
     let start = horizon .before .before .before in
     let a = start .args in
-    let old = now (a .buf) in
+    let old = now (a .buffer) in
     let first = more (begin old) (a .horizon) (horizon .write-u32 .ensures) .words in
     let h = start .pre .0 in
     written-part (a .horizon ∷ []) (joined (pairEntry (now (a .counts))) sections) old 4 first refl (omega arith) (pairs .write-pairs .ensures)

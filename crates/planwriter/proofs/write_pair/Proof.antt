@@ -20,7 +20,7 @@ returns c =
     let c1 = c2 .before .before .before .before in
     let start = c1 .before .before .before in
     let a = start .args in
-    let w1 = more (begin (now (a .buf))) (a .offset) (c1 .write-u32 .ensures) in
+    let w1 = more (begin (now (a .buffer))) (a .offset) (c1 .write-u32 .ensures) in
     more w1 (a .size) (c2 .write-u322 .ensures) .words
 
 pub write-pair-spec : {M : Type 1} → statement M

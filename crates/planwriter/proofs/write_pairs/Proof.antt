@@ -14,13 +14,13 @@ use Rattle.planwriter.proofs.write_pairs.Statement.{statement}
 use Rattle.planwriter.proofs.write_pairs.Tie as tie
 
 abbrev Inv-loop : tie.InvT-loop
-Inv-loop buf₀ counts section₀ buf section = (section ≤ sections) × BeginsWith (joined (pairEntry counts) section) buf₀ buf
+Inv-loop buffer₀ counts section₀ buffer section = (section ≤ sections) × BeginsWith (joined (pairEntry counts) section) buffer₀ buffer
 
 abbrev μ-loop : tie.MeasureT-loop
-μ-loop buf₀ counts section₀ buf section = sections - section
+μ-loop buffer₀ counts section₀ buffer section = sections - section
 
 loop-holds : tie.Need-loop-holds Inv-loop μ-loop
-loop-holds c = let a = c .before .args in (omega arith, none (pairEntry (now (a .counts))) (now (a .buf)))
+loop-holds c = let a = c .before .args in (omega arith, none (pairEntry (now (a .counts))) (now (a .buffer)))
 
 section-offset-requires : tie.Need-section-offset-requires Inv-loop μ-loop
 section-offset-requires c κs = (omega arith, c .before .before .before .pre .1)
@@ -46,7 +46,7 @@ write-pair-requires c κs =
     let start = inside .before .before .before in
     let cs = now (start .args .counts) in
     let k = inside .before .loop .section in
-    let l = length-behind (inside .before .loop .buf) (8 * k) in
+    let l = length-behind (inside .before .loop .buffer) (8 * k) in
     omega (arith, offset-limit cs (start .pre .1) k (omega arith), length-limit cs (start .pre .1) k (omega arith))
 
 add-section : tie.Need-add-section Inv-loop μ-loop
@@ -64,7 +64,7 @@ loop-again c =
     let offset = done .before .before .before .section-offset .ensures in
     let size = done .before .before .section-length .ensures in
     let e = rw (offset, size) at (done .write-pair .ensures) in
-    let more = entry (pairEntry (now (a .counts))) 2 (λ _. refl) (now (a .buf)) (b .section) (8 * b .section) (b .inv .1) (omega arith) (omega arith) e in
+    let more = entry (pairEntry (now (a .counts))) 2 (λ _. refl) (now (a .buffer)) (b .section) (8 * b .section) (b .inv .1) (omega arith) (omega arith) e in
     (omega arith, more)
 
 same-length : tie.Need-same-length Inv-loop μ-loop
@@ -74,7 +74,7 @@ returns : tie.Need-returns Inv-loop μ-loop
 returns c =
     let a = c .before .before .before .args in
     let b = c .before .loop in
-    all (pairEntry (now (a .counts))) (now (a .buf)) (b .inv .0) (c .loop-test .left) (b .inv .1)
+    all (pairEntry (now (a .counts))) (now (a .buffer)) (b .inv .0) (c .loop-test .left) (b .inv .1)
 
 pub write-pairs-spec : {M : Type 1} → statement M
 write-pairs-spec =

@@ -80,38 +80,38 @@ buffer-commands c =
     back (buffer-links (before-commands c)) at (c .write-commands .last .0)
 
 -- ---- what is written in it
-stage-header : (c : tie.After-write-header) → let a = entry-header c .args in WrittenUpTo (a .t1) (now (a .buf)) 0 (buffer-header c)
+stage-header : (c : tie.After-write-header) → let a = entry-header c .args in WrittenUpTo (a .t1) (now (a .buffer)) 0 (buffer-header c)
 unfolding countList
 stage-header c =
     let a = entry-header c .args in
     let tested = c .before .before .before in
-    headed (a .t1) (now (a .buf)) (tested .before .section-offset .ensures) (omega (arith, tested .if1 .left)) (c .write-header .ensures)
+    headed (a .t1) (now (a .buffer)) (tested .before .section-offset .ensures) (omega (arith, tested .if1 .left)) (c .write-header .ensures)
 
-stage-integrators : (c : tie.After-write-integrators) → let a = entry-integrators c .args in WrittenUpTo (a .t1) (now (a .buf)) 1 (buffer-integrators c)
+stage-integrators : (c : tie.After-write-integrators) → let a = entry-integrators c .args in WrittenUpTo (a .t1) (now (a .buffer)) 1 (buffer-integrators c)
 unfolding countList sectionWords entryWords integratorWords
 stage-integrators c =
     let offset = c .before .before .before .before .before .section-offset2 .ensures in
     next (stage-header (before-integrators c)) (omega arith) offset (c .write-integrators .ensures)
 
-stage-inputs : (c : tie.After-write-inputs) → let a = entry-inputs c .args in WrittenUpTo (a .t1) (now (a .buf)) 2 (buffer-inputs c)
+stage-inputs : (c : tie.After-write-inputs) → let a = entry-inputs c .args in WrittenUpTo (a .t1) (now (a .buffer)) 2 (buffer-inputs c)
 unfolding countList sectionWords entryWords inputWords
 stage-inputs c =
     let offset = c .before .before .before .before .section-offset3 .ensures in
     next (stage-integrators (before-inputs c)) (omega arith) offset (c .write-inputs .ensures)
 
-stage-nodes : (c : tie.After-write-nodes) → let a = entry-nodes c .args in WrittenUpTo (a .t1) (now (a .buf)) 3 (buffer-nodes c)
+stage-nodes : (c : tie.After-write-nodes) → let a = entry-nodes c .args in WrittenUpTo (a .t1) (now (a .buffer)) 3 (buffer-nodes c)
 unfolding countList sectionWords entryWords nodeWords
 stage-nodes c =
     let offset = c .before .before .before .before .before .before .before .before .section-offset4 .ensures in
     next (stage-inputs (before-nodes c)) (omega arith) offset (c .write-nodes .ensures)
 
-stage-links : (c : tie.After-write-links) → let a = entry-links c .args in WrittenUpTo (a .t1) (now (a .buf)) 4 (buffer-links c)
+stage-links : (c : tie.After-write-links) → let a = entry-links c .args in WrittenUpTo (a .t1) (now (a .buffer)) 4 (buffer-links c)
 unfolding countList sectionWords entryWords linkWords
 stage-links c =
     let offset = c .before .before .before .before .before .before .section-offset5 .ensures in
     next (stage-nodes (before-links c)) (omega arith) offset (c .write-links .ensures)
 
-stage-commands : (c : tie.After-write-commands) → let a = entry-commands c .args in WrittenUpTo (a .t1) (now (a .buf)) 5 (buffer-commands c)
+stage-commands : (c : tie.After-write-commands) → let a = entry-commands c .args in WrittenUpTo (a .t1) (now (a .buffer)) 5 (buffer-commands c)
 unfolding countList sectionWords entryWords commandWords
 stage-commands c =
     let offset = c .before .before .before .before .before .before .section-offset6 .ensures in
@@ -129,7 +129,7 @@ returns : tie.Need-returns
 unfolding countList
 returns c =
     let a = c .before .before .before .before .args in
-    short (a .t1) (now (a .buf)) (c .before .section-offset .ensures) (omega (arith, c .if1 .taken))
+    short (a .t1) (now (a .buffer)) (c .before .section-offset .ensures) (omega (arith, c .if1 .taken))
 
 write-header-requires : tie.Need-write-header-requires
 unfolding countList
@@ -137,7 +137,7 @@ write-header-requires c κs =
     let tested = c .before .before in
     let start = tested .before .before .before .before in
     let a = start .args in
-    let room = header-room (a .t1) (now (a .buf)) (tested .before .section-offset .ensures) (omega (arith, tested .if1 .left)) in
+    let room = header-room (a .t1) (now (a .buffer)) (tested .before .section-offset .ensures) (omega (arith, tested .if1 .left)) in
     (room, limits start)
 
 section-offset-requires-2 : tie.Need-section-offset-requires-2
@@ -274,7 +274,7 @@ returns-2 c =
     let done = c .before .before in
     let header = before-integrators (before-inputs (before-nodes (before-links (before-commands done)))) in
     let a = entry-header header .args in
-    filed (a .t1) (now (a .buf)) (header .before .before .before .before .section-offset .ensures) (stage-commands done)
+    filed (a .t1) (now (a .buffer)) (header .before .before .before .before .section-offset .ensures) (stage-commands done)
 
 pub write-plan-spec : {M : Type 1} → statement M
 write-plan-spec =

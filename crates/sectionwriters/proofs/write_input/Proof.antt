@@ -16,7 +16,7 @@ returns c =
     let c1 = c .before .before in
     let start = c1 .before .before .before in
     let a = start .args in
-    more-signed (begin (now (a .buf))) (a .first) (start .pre .1) (c1 .write-i32 .ensures) .words
+    more-signed (begin (now (a .buffer))) (a .first) (start .pre .1) (c1 .write-i32 .ensures) .words
 
 pub write-input-spec : {M : Type 1} → statement M
 write-input-spec = tie.close (tie.spec write-i32-requires same-length returns)

@@ -13,17 +13,17 @@ use Rattle.sectionwriters.proofs.write_inputs.Statement.{statement}
 use Rattle.sectionwriters.proofs.write_inputs.Tie as tie
 
 abbrev Inv-loop : tie.InvT-loop
-Inv-loop buf₀ m firsts j₀ buf j = (j ≤ m) × BeginsWith (joined (inputEntry firsts) j) buf₀ buf
+Inv-loop buffer₀ m firsts j₀ buffer j = (j ≤ m) × BeginsWith (joined (inputEntry firsts) j) buffer₀ buffer
 
 abbrev μ-loop : tie.MeasureT-loop
-μ-loop buf₀ m firsts j₀ buf j = m - j
+μ-loop buffer₀ m firsts j₀ buffer j = m - j
 
 -- the words of each entry
 abbrev entries : tie.Start Inv-loop μ-loop → ℕ → List ℕ
 entries c = let a = c .args in inputEntry (now (a .firsts))
 
 loop-holds : tie.Need-loop-holds Inv-loop μ-loop
-loop-holds c = (omega arith, none (entries (c .before)) (now (c .before .args .buf)))
+loop-holds c = (omega arith, none (entries (c .before)) (now (c .before .args .buffer)))
 
 mul-write-input : tie.Need-mul-write-input Inv-loop μ-loop
 mul-write-input c = search needs
@@ -49,7 +49,7 @@ write-input-requires c κs =
     let p = inside .before .before .before .pre .1 in
     let j = inside .before .loop .j in
     let h = inside .loop-test .taken in
-    let l = length-behind (inside .before .loop .buf) (4 * j) in
+    let l = length-behind (inside .before .loop .buffer) (4 * j) in
     (omega arith, rd-small p j h)
 
 add-j : tie.Need-add-j Inv-loop μ-loop
@@ -66,7 +66,7 @@ loop-again c =
     let b = inside .before .loop in
     let h = inside .loop-test .taken in
     let e = rw (rd-at (start .pre .1) (b .j) h) at (done .write-input .ensures) in
-    let more = entry (entries start) 1 (λ _. refl) (now (start .args .buf)) (b .j) (4 * b .j) (b .inv .1) (omega arith) (omega arith) e in
+    let more = entry (entries start) 1 (λ _. refl) (now (start .args .buffer)) (b .j) (4 * b .j) (b .inv .1) (omega arith) (omega arith) e in
     (omega arith, more)
 
 same-length : tie.Need-same-length Inv-loop μ-loop
@@ -76,7 +76,7 @@ returns : tie.Need-returns Inv-loop μ-loop
 returns c =
     let start = c .before .before .before in
     let b = c .before .loop in
-    all (entries start) (now (start .args .buf)) (b .inv .0) (c .loop-test .left) (b .inv .1)
+    all (entries start) (now (start .args .buffer)) (b .inv .0) (c .loop-test .left) (b .inv .1)
 
 pub write-inputs-spec : {M : Type 1} → statement M
 write-inputs-spec =

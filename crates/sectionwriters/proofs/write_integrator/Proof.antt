@@ -20,7 +20,7 @@ returns c =
     let c1 = c2 .before .before .before .before in
     let start = c1 .before .before .before in
     let a = start .args in
-    let w1 = more-signed (begin (now (a .buf))) (a .start) (start .pre .1) (c1 .write-i32 .ensures) in
+    let w1 = more-signed (begin (now (a .buffer))) (a .start) (start .pre .1) (c1 .write-i32 .ensures) in
     more-signed w1 (a .quantum) (start .pre .2) (c2 .write-i322 .ensures) .words
 
 pub write-integrator-spec : {M : Type 1} → statement M

@@ -13,17 +13,17 @@ use Rattle.sectionwriters.proofs.write_integrators.Statement.{statement
 use Rattle.sectionwriters.proofs.write_integrators.Tie as tie
 
 abbrev Inv-loop : tie.InvT-loop
-Inv-loop buf₀ n starts quanta i₀ buf i = (i ≤ n) × BeginsWith (joined (integratorEntry starts quanta) i) buf₀ buf
+Inv-loop buffer₀ n starts quanta i₀ buffer i = (i ≤ n) × BeginsWith (joined (integratorEntry starts quanta) i) buffer₀ buffer
 
 abbrev μ-loop : tie.MeasureT-loop
-μ-loop buf₀ n starts quanta i₀ buf i = n - i
+μ-loop buffer₀ n starts quanta i₀ buffer i = n - i
 
 -- the words of each entry
 abbrev entries : tie.Start Inv-loop μ-loop → ℕ → List ℕ
 entries c = let a = c .args in integratorEntry (now (a .starts)) (now (a .quanta))
 
 loop-holds : tie.Need-loop-holds Inv-loop μ-loop
-loop-holds c = (omega arith, none (entries (c .before)) (now (c .before .args .buf)))
+loop-holds c = (omega arith, none (entries (c .before)) (now (c .before .args .buffer)))
 
 mul-write-integrator : tie.Need-mul-write-integrator Inv-loop μ-loop
 mul-write-integrator c = search needs
@@ -55,7 +55,7 @@ write-integrator-requires c κs =
     let p = inside .before .before .before .pre .1 in
     let i = inside .before .loop .i in
     let h = inside .loop-test .taken in
-    let l = length-behind (inside .before .loop .buf) (8 * i) in
+    let l = length-behind (inside .before .loop .buffer) (8 * i) in
     (omega arith, rd-small (p .0) i h, rd-small (p .1) i h)
 
 add-i : tie.Need-add-i Inv-loop μ-loop
@@ -72,7 +72,7 @@ loop-again c =
     let b = inside .before .loop in
     let h = inside .loop-test .taken in
     let e = rw (rd-at (start .pre .1 .0) (b .i) h, rd-at (start .pre .1 .1) (b .i) h) at (done .write-integrator .ensures) in
-    let more = entry (entries start) 2 (λ _. refl) (now (start .args .buf)) (b .i) (8 * b .i) (b .inv .1) (omega arith) (omega arith) e in
+    let more = entry (entries start) 2 (λ _. refl) (now (start .args .buffer)) (b .i) (8 * b .i) (b .inv .1) (omega arith) (omega arith) e in
     (omega arith, more)
 
 same-length : tie.Need-same-length Inv-loop μ-loop
@@ -82,7 +82,7 @@ returns : tie.Need-returns Inv-loop μ-loop
 returns c =
     let start = c .before .before .before in
     let b = c .before .loop in
-    all (entries start) (now (start .args .buf)) (b .inv .0) (c .loop-test .left) (b .inv .1)
+    all (entries start) (now (start .args .buffer)) (b .inv .0) (c .loop-test .left) (b .inv .1)
 
 pub write-integrators-spec : {M : Type 1} → statement M
 write-integrators-spec =

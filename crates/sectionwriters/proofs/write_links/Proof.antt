@@ -13,17 +13,17 @@ use Rattle.sectionwriters.proofs.write_links.Statement.{statement}
 use Rattle.sectionwriters.proofs.write_links.Tie as tie
 
 abbrev Inv-loop : tie.InvT-loop
-Inv-loop buf₀ links targets sources coefficients e₀ buf e = (e ≤ links) × BeginsWith (joined (tripleEntry targets sources coefficients) e) buf₀ buf
+Inv-loop buffer₀ links targets sources coefficients e₀ buffer e = (e ≤ links) × BeginsWith (joined (tripleEntry targets sources coefficients) e) buffer₀ buffer
 
 abbrev μ-loop : tie.MeasureT-loop
-μ-loop buf₀ links targets sources coefficients e₀ buf e = links - e
+μ-loop buffer₀ links targets sources coefficients e₀ buffer e = links - e
 
 -- the words of each entry
 abbrev entries : tie.Start Inv-loop μ-loop → ℕ → List ℕ
 entries c = let a = c .args in tripleEntry (now (a .targets)) (now (a .sources)) (now (a .coefficients))
 
 loop-holds : tie.Need-loop-holds Inv-loop μ-loop
-loop-holds c = (omega arith, none (entries (c .before)) (now (c .before .args .buf)))
+loop-holds c = (omega arith, none (entries (c .before)) (now (c .before .args .buffer)))
 
 mul-write-triple : tie.Need-mul-write-triple Inv-loop μ-loop
 mul-write-triple c = search needs
@@ -61,7 +61,7 @@ write-triple-requires c κs =
     let p = inside .before .before .before .pre .1 in
     let e = inside .before .loop .e in
     let h = inside .loop-test .taken in
-    let l = length-behind (inside .before .loop .buf) (12 * e) in
+    let l = length-behind (inside .before .loop .buffer) (12 * e) in
     (omega arith, p .0 .small e h, p .1 .small e h, rd-small (p .2) e h)
 
 add-e : tie.Need-add-e Inv-loop μ-loop
@@ -78,7 +78,7 @@ loop-again c =
     let b = inside .before .loop in
     let h = inside .loop-test .taken in
     let e = rw (rd-at (start .pre .1 .2) (b .e) h) at (done .write-triple .ensures) in
-    let more = entry (entries start) 3 (λ _. refl) (now (start .args .buf)) (b .e) (12 * b .e) (b .inv .1) (omega arith) (omega arith) e in
+    let more = entry (entries start) 3 (λ _. refl) (now (start .args .buffer)) (b .e) (12 * b .e) (b .inv .1) (omega arith) (omega arith) e in
     (omega arith, more)
 
 same-length : tie.Need-same-length Inv-loop μ-loop
@@ -88,7 +88,7 @@ returns : tie.Need-returns Inv-loop μ-loop
 returns c =
     let start = c .before .before .before in
     let b = c .before .loop in
-    all (entries start) (now (start .args .buf)) (b .inv .0) (c .loop-test .left) (b .inv .1)
+    all (entries start) (now (start .args .buffer)) (b .inv .0) (c .loop-test .left) (b .inv .1)
 
 pub write-links-spec : {M : Type 1} → statement M
 write-links-spec =

@@ -13,17 +13,17 @@ use Rattle.sectionwriters.proofs.write_nodes.Statement.{statement}
 use Rattle.sectionwriters.proofs.write_nodes.Tie as tie
 
 abbrev Inv-loop : tie.InvT-loop
-Inv-loop buf₀ k kinds a b lows highs j₀ buf j = (j ≤ k) × BeginsWith (joined (nodeEntry kinds a b lows highs) j) buf₀ buf
+Inv-loop buffer₀ k kinds a b lows highs j₀ buffer j = (j ≤ k) × BeginsWith (joined (nodeEntry kinds a b lows highs) j) buffer₀ buffer
 
 abbrev μ-loop : tie.MeasureT-loop
-μ-loop buf₀ k kinds a b lows highs j₀ buf j = k - j
+μ-loop buffer₀ k kinds a b lows highs j₀ buffer j = k - j
 
 -- the words of each entry
 abbrev entries : tie.Start Inv-loop μ-loop → ℕ → List ℕ
 entries c = let a = c .args in nodeEntry (now (a .kinds)) (now (a .a)) (now (a .b)) (now (a .lows)) (now (a .highs))
 
 loop-holds : tie.Need-loop-holds Inv-loop μ-loop
-loop-holds c = (omega arith, none (entries (c .before)) (now (c .before .args .buf)))
+loop-holds c = (omega arith, none (entries (c .before)) (now (c .before .args .buffer)))
 
 mul-write-node : tie.Need-mul-write-node Inv-loop μ-loop
 mul-write-node c = search needs
@@ -73,7 +73,7 @@ write-node-requires c κs =
     let p = inside .before .before .before .pre .1 in
     let j = inside .before .loop .j in
     let h = inside .loop-test .taken in
-    let l = length-behind (inside .before .loop .buf) (20 * j) in
+    let l = length-behind (inside .before .loop .buffer) (20 * j) in
     (omega arith, p .0 .small j h, p .1 .small j h, p .2 .small j h, rd-small (p .3) j h, rd-small (p .4) j h)
 
 add-j : tie.Need-add-j Inv-loop μ-loop
@@ -90,7 +90,7 @@ loop-again c =
     let b = inside .before .loop in
     let h = inside .loop-test .taken in
     let e = rw (rd-at (start .pre .1 .3) (b .j) h, rd-at (start .pre .1 .4) (b .j) h) at (done .write-node .ensures) in
-    let more = entry (entries start) 5 (λ _. refl) (now (start .args .buf)) (b .j) (20 * b .j) (b .inv .1) (omega arith) (omega arith) e in
+    let more = entry (entries start) 5 (λ _. refl) (now (start .args .buffer)) (b .j) (20 * b .j) (b .inv .1) (omega arith) (omega arith) e in
     (omega arith, more)
 
 same-length : tie.Need-same-length Inv-loop μ-loop
@@ -100,7 +100,7 @@ returns : tie.Need-returns Inv-loop μ-loop
 returns c =
     let start = c .before .before .before in
     let b = c .before .loop in
-    all (entries start) (now (start .args .buf)) (b .inv .0) (c .loop-test .left) (b .inv .1)
+    all (entries start) (now (start .args .buffer)) (b .inv .0) (c .loop-test .left) (b .inv .1)
 
 pub write-nodes-spec : {M : Type 1} → statement M
 write-nodes-spec =

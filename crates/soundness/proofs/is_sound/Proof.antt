@@ -18,9 +18,9 @@ use Rattle.soundness.proofs.is_sound.Tie as tie
 -- the tests in their order, of the state at the entry
 abbrev tests : tie.Start → List Bool
 tests c =
-    let p = c .args .st .plan in (countsKept p && isClean (planFinding p)) ∷ planUnusedZero p ∷ runningSound p (c .args .st .run) ∷ []
+    let p = c .args .state .plan in (countsKept p && isClean (planFinding p)) ∷ planUnusedZero p ∷ runningSound p (c .args .state .run) ∷ []
 
-all-of : (c : tie.Start) → passes (tests c) 3 ≡ isSound (c .args .st)
+all-of : (c : tie.Start) → passes (tests c) 3 ≡ isSound (c .args .state)
 unfolding passes every isSound planSound
 all-of c = refl
 
@@ -41,7 +41,7 @@ passed2 c = next (passed1 (c .before .before)) (search (needs, held))
 running-sound-requires : tie.Need-running-sound-requires
 running-sound-requires c κs =
     let p = passed2 (c .before) in
-    let plan = p .entry .args .st .plan in
+    let plan = p .entry .args .state .plan in
     plan-rules plan .0 (and-eq-true-iff (countsKept plan) (isClean (planFinding plan)) .0 (passed-at p 0 (lit< tt)))
 
 returns-3 : tie.Need-returns-3

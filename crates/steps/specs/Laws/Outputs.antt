@@ -12,7 +12,7 @@ use Rattle.plan.specs.Numbers.{sourceWidth}
 use Rattle.plan.specs.Laws.CountLimits.{CountLimits}
 use Rattle.plan.specs.declared.Plan.{Plan}
 use Rattle.machine.specs.Reach.{isDue}
-use Rattle.machine.specs.Instant.{positionAt, outputs}
+use Rattle.machine.specs.Instant.{positionAt, outputsThen}
 use Rattle.machine.specs.Laws.InstantFigures.{outputs-at}
 use Rattle.machine.specs.declared.Running.{Running}
 use Rattle.steps.specs.Outputs.{afterOutput}
@@ -51,5 +51,5 @@ module _ (p : Plan) (limits : CountLimits p) (r : Running) (t due : ℕ) (due-se
 
   -- where the values before held the outputs before, those now hold the new ones
   pub outputs-are : ((i : ℕ) → i < p .counts .n → intAt before i ≡ intAt (r .q) i)
-      → (i : ℕ) → i < p .counts .n → intAt values i ≡ intAt (outputs p r t) i
+      → (i : ℕ) → i < p .counts .n → intAt values i ≡ intAt (outputsThen p r t) i
   outputs-are same i h = all-stored .at i h ∙ rw (same i h) (sym (outputs-at p limits r t i h))

@@ -15,7 +15,7 @@ use Rattle.plan.specs.declared.Plan.{Plan}
 use Rattle.machine.specs.Values.{rateOf}
 use Rattle.machine.specs.Due.{upperLevel, lowerLevel, dueTick, dueOf}
 use Rattle.machine.specs.Start.{startSlope, startDue}
-use Rattle.machine.specs.Instant.{positionAt, inputsThen, outputs, slopeThen, dueThen}
+use Rattle.machine.specs.Instant.{positionAt, inputsThen, outputsThen, slopeThen, dueThen}
 use Rattle.machine.specs.Sound.{SoundRunning}
 use Rattle.machine.specs.Laws.BetweenLevels.{BetweenLevels, near-between, near-itself}
 use Rattle.machine.specs.Laws.Sizes.{rate-most}
@@ -29,15 +29,15 @@ pub due-ready : (p : Plan) → PlanRules p → (q u : List ℤ) → ((i : ℕ) �
     → (from : ℕ) → from ≤ p .horizon → (i : ℕ) → i < p .counts .n → (x : ℤ) → BetweenLevels p q i x
     → DueReady from x (intAt q i) (intAt (p .integrators .quanta) i) (rateOf p q u i)
 unfolding upperLevel lowerLevel
-due-ready p rules q u outputs inputs from early i used x inside =
+due-ready p rules q u outputsThen inputs from early i used x inside =
     record {
       early = omega (arith, rules .horizon .1);
-      output = outputs i used;
+      output = outputsThen i used;
       least = rules .integrators i used .least;
       most = rules .integrators i used .most;
       above = inside .above;
       below = inside .below;
-      slow = rate-most p q u rules outputs inputs i;
+      slow = rate-most p q u rules outputsThen inputs i;
     }
 
 -- ---- at the start
@@ -66,15 +66,15 @@ module _ (p : Plan) (r : Running) (ok : SoundRunning p r) where
 
   -- ---- at an instant, whether it is due or not
   pub due-ready-then : (t : ℕ) → Takes p r t → (i : ℕ) → i < p .counts .n
-      → DueReady t (positionAt r t i) (intAt (outputs p r t) i) (intAt (p .integrators .quanta) i) (slopeThen p r t i)
+      → DueReady t (positionAt r t i) (intAt (outputsThen p r t) i) (intAt (p .integrators .quanta) i) (slopeThen p r t i)
   unfolding slopeThen
   due-ready-then t takes i used =
-      due-ready p (ok .plan) (outputs p r t) (inputsThen p (r .inputs) t) (output-size p r ok t takes) (input-then-size p r ok t takes)
+      due-ready p (ok .plan) (outputsThen p r t) (inputsThen p (r .inputs) t) (output-size p r ok t takes) (input-then-size p r ok t takes)
       t (takes .until) i used (positionAt r t i)
-      (near-between p (outputs p r t) i (positionAt r t i) .0 (near-output p r ok t takes i used))
+      (near-between p (outputsThen p r t) i (positionAt r t i) .0 (near-output p r ok t takes i used))
 
 pub due-is-then : (p : Plan) → CountLimits p → (r : Running) (t i : ℕ) → i < p .counts .n
-    → dueTick t (positionAt r t i) (intAt (outputs p r t) i +ℤ intAt (p .integrators .quanta) i) (intAt (outputs p r t) i -ℤ intAt (p .integrators .quanta) i) (slopeThen p r t i)
+    → dueTick t (positionAt r t i) (intAt (outputsThen p r t) i +ℤ intAt (p .integrators .quanta) i) (intAt (outputsThen p r t) i -ℤ intAt (p .integrators .quanta) i) (slopeThen p r t i)
     ≡ dueThen p r t i
 unfolding dueThen dueOf upperLevel lowerLevel
 due-is-then p limits r t i used = rw (x-then p limits r t i used)

@@ -7,9 +7,7 @@ mod fields;
 
 pub use fields::{Field, Words};
 
-use cup_check::limits::{
-    COMMANDS_MAX, INPUTS_MAX, INTEGRATORS_MAX, LINKS_MAX, NODES_MAX, TABLE_SOURCES,
-};
+use cup_check::limits::{COMMANDS, INPUTS, INTEGRATORS, LINKS, NODES, SOURCES};
 use cup_check::raw::{
     RawClocks, RawCommands, RawCounts, RawInputs, RawIntegrators, RawLinks, RawNodes, RawPlan,
     RawRunning, RawState,
@@ -32,8 +30,8 @@ pub struct Counts {
 #[repr(C)]
 #[allow(missing_docs)]
 pub struct Integrators {
-    pub starts: [i64; INTEGRATORS_MAX],
-    pub quanta: [i64; INTEGRATORS_MAX],
+    pub starts: [i64; INTEGRATORS],
+    pub quanta: [i64; INTEGRATORS],
 }
 
 /// `CupInputs`.
@@ -41,7 +39,7 @@ pub struct Integrators {
 #[repr(C)]
 #[allow(missing_docs)]
 pub struct Inputs {
-    pub firsts: [i64; INPUTS_MAX],
+    pub firsts: [i64; INPUTS],
 }
 
 /// `CupNodes`; `a` and `b` are source numbers.
@@ -49,11 +47,11 @@ pub struct Inputs {
 #[repr(C)]
 #[allow(missing_docs)]
 pub struct Nodes {
-    pub kinds: [usize; NODES_MAX],
-    pub a: [usize; NODES_MAX],
-    pub b: [usize; NODES_MAX],
-    pub lows: [i64; NODES_MAX],
-    pub highs: [i64; NODES_MAX],
+    pub kinds: [usize; NODES],
+    pub a: [usize; NODES],
+    pub b: [usize; NODES],
+    pub lows: [i64; NODES],
+    pub highs: [i64; NODES],
 }
 
 /// `CupLinks`.
@@ -61,9 +59,9 @@ pub struct Nodes {
 #[repr(C)]
 #[allow(missing_docs)]
 pub struct Links {
-    pub targets: [usize; LINKS_MAX],
-    pub sources: [usize; LINKS_MAX],
-    pub coefficients: [i64; LINKS_MAX],
+    pub targets: [usize; LINKS],
+    pub sources: [usize; LINKS],
+    pub coefficients: [i64; LINKS],
 }
 
 /// `CupCommands`; `inputs` are input numbers, counted from 0.
@@ -71,9 +69,9 @@ pub struct Links {
 #[repr(C)]
 #[allow(missing_docs)]
 pub struct Commands {
-    pub ticks: [u32; COMMANDS_MAX],
-    pub inputs: [usize; COMMANDS_MAX],
-    pub values: [i64; COMMANDS_MAX],
+    pub ticks: [u32; COMMANDS],
+    pub inputs: [usize; COMMANDS],
+    pub values: [i64; COMMANDS],
 }
 
 /// `CupPlan`: what the plan file says, with 0 in unused entries.
@@ -106,12 +104,12 @@ pub struct Clocks {
 #[repr(C)]
 #[allow(missing_docs)]
 pub struct Running {
-    pub x: [i64; INTEGRATORS_MAX],
-    pub q: [i64; INTEGRATORS_MAX],
-    pub s: [i64; INTEGRATORS_MAX],
-    pub l: [u32; INTEGRATORS_MAX],
-    pub d: [u32; INTEGRATORS_MAX],
-    pub inputs: [i64; INPUTS_MAX],
+    pub x: [i64; INTEGRATORS],
+    pub q: [i64; INTEGRATORS],
+    pub s: [i64; INTEGRATORS],
+    pub l: [u32; INTEGRATORS],
+    pub d: [u32; INTEGRATORS],
+    pub inputs: [i64; INPUTS],
     pub clocks: Clocks,
 }
 
@@ -182,20 +180,20 @@ pub struct Positioned {
 pub struct Tables {
     /// The first link whose target is i or above, or the number of links if there is none, for i
     /// up to n; so integrator i's links are those from its entry to before the next one's.
-    pub ranges: [usize; INTEGRATORS_MAX + 1],
+    pub ranges: [usize; INTEGRATORS + 1],
     /// For each source the integrators, and from bit 32 on the nodes, that its change reaches; of
     /// a node its own bit too.
-    pub reach: [u64; TABLE_SOURCES],
+    pub reach: [u64; SOURCES],
     /// The value of each source.
-    pub values: [i64; TABLE_SOURCES],
+    pub values: [i64; SOURCES],
 }
 
 impl Tables {
     /// What is answered for a state that is not sound.
     pub const NONE: Tables = Tables {
-        ranges: [0; INTEGRATORS_MAX + 1],
-        reach: [0; TABLE_SOURCES],
-        values: [0; TABLE_SOURCES],
+        ranges: [0; INTEGRATORS + 1],
+        reach: [0; SOURCES],
+        values: [0; SOURCES],
     };
 }
 

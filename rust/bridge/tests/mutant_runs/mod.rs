@@ -6,7 +6,7 @@ use cup_check::calls::{Checker, Loaded, Positioned, Ran, Simulator, Written};
 use cup_check::engine::{self, Engine};
 use cup_check::generate::states::moved_to_clock;
 use cup_check::limits::{
-    ACCEPTED, BUDGET_MAX, EVENT_BYTES, FINISHED, PAUSED, RANGE, REFUSED_BUDGET,
+    ACCEPTED, EVENT_BYTES, FINISHED, LARGEST_BUDGET, PAUSED, RANGE, REFUSED_BUDGET,
     REFUSED_INTEGRATOR_NUMBER, REFUSED_RUN_BUFFER, REFUSED_UNSOUND,
 };
 use cup_check::raw::RawState;
@@ -148,14 +148,16 @@ impl MutantCalls {
     /// The engine and the budget that are run instead of those asked for; the buffer is long enough for
     /// `fitting` instants.
     fn instead(&self, engine: Engine, budget: u64, fitting: u64) -> (Engine, u64) {
-        let accepted = budget <= BUDGET_MAX && budget <= fitting;
+        let accepted = budget <= LARGEST_BUDGET && budget <= fitting;
         let budget = match self.mutant {
             Mutant::OnlyFirstInstant if accepted => budget.min(1),
             Mutant::LastInstantLeftOut if accepted => budget.saturating_sub(1),
-            Mutant::OneInstantTooMany if budget < fitting.min(BUDGET_MAX) => budget + 1,
+            Mutant::OneInstantTooMany if budget < fitting.min(LARGEST_BUDGET) => budget + 1,
             Mutant::ZeroBudgetTakesOne if fitting > 0 => budget.max(1),
             Mutant::BudgetIn32Bits => u64::from(budget as u32),
-            Mutant::OneAboveAccepted if budget == BUDGET_MAX + 1 && fitting >= budget => BUDGET_MAX,
+            Mutant::OneAboveAccepted if budget == LARGEST_BUDGET + 1 && fitting >= budget => {
+                LARGEST_BUDGET
+            }
             _ => budget,
         };
         match self.mutant {
@@ -192,7 +194,7 @@ impl MutantCalls {
                 let last = ran.written - EVENT_BYTES..ran.written;
                 buffer.copy_within(last, 0);
             }
-            Mutant::MostDeclined if asked.budget == BUDGET_MAX => {
+            Mutant::MostDeclined if asked.budget == LARGEST_BUDGET => {
                 *ran = decline(before, REFUSED_BUDGET)
             }
             Mutant::ExactBufferDeclined if asks > 0 && room == asks => {
@@ -250,7 +252,7 @@ impl MutantCalls {
                 ran.number = REFUSED_RUN_BUFFER
             }
             Mutant::BudgetBeforeUnsound
-                if number == REFUSED_UNSOUND && asked.budget > BUDGET_MAX =>
+                if number == REFUSED_UNSOUND && asked.budget > LARGEST_BUDGET =>
             {
                 ran.number = REFUSED_BUDGET;
             }

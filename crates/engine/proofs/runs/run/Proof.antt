@@ -22,8 +22,8 @@ use Rattle.engine.proofs.runs.run.Statement.{statement}
 use Rattle.engine.proofs.runs.run.Tie as tie
 
 abbrev Inv-loop : tie.InvT-loop
-Inv-loop engine budget buf₀ st _ _ _ _ _ _ _ _ _ _ _ buf values x s l d clocks end taken =
-    law.Progress (st .plan) engine budget (st .run) buf₀ (runningOf (st .plan .counts) x s l d values clocks) values end taken buf
+Inv-loop engine budget buffer₀ st _ _ _ _ _ _ _ _ _ _ _ buffer values x s l d clocks end taken =
+    law.Progress (st .plan) engine budget (st .run) buffer₀ (runningOf (st .plan .counts) x s l d values clocks) values end taken buffer
 
 abbrev μ-loop : tie.MeasureT-loop
 μ-loop _ budget _ _ _ _ _ _ _ _ _ _ _ _ _ _ _ _ _ _ _ _ _ taken = budget - taken
@@ -105,7 +105,7 @@ loop-holds : tie.Need-loop-holds Inv-loop μ-loop
 loop-holds c =
     let values = c .before .before .before .before .before in
     let s = before-values values in
-    law.begun (p s) (s .args .engine) (s .args .budget) (r s) (s .args .buf .now) (shaped s) (sound s) (s .pre .room)
+    law.begun (p s) (s .args .engine) (s .args .budget) (r s) (s .args .buffer .now) (shaped s) (sound s) (s .pre .room)
     (values .source-values .ensures)
 
 -- ---- what lies ahead
@@ -152,7 +152,7 @@ module _ (c : tie.After-take-instant-arg12 Inv-loop μ-loop) where
 
   ready : let a = ahead (turn c) in let l = loop a .loop in let b = before-values (values a) in
       InstantReady (p b) (ranges .link-ranges .result) (reach .reach-table .result) (a .look-ahead .result .tick) (a .look-ahead .result .due)
-      (runningOf (p b .counts) (l .x) (l .s) (l .l) (l .d) (l .values) (l .clocks)) (l .values) (l .end) (length (l .buf))
+      (runningOf (p b .counts) (l .x) (l .s) (l .l) (l .d) (l .values) (l .clocks)) (l .values) (l .end) (length (l .buffer))
   unfolding rangesOf reachTable
   ready =
       let t = turn c in

@@ -75,7 +75,7 @@ run-requires : tie.Need-run-requires
 run-requires c κs =
     let e = c .before .before .before in
     let a = e .before .before .before .before .args in
-    run-ready (a .engine) (a .state) (a .budget) (now (a .buf)) (sound (e .before)) (e .if2 .left) (c .before .if3 .left)
+    run-ready (a .engine) (a .state) (a .budget) (now (a .buffer)) (sound (e .before)) (e .if2 .left) (c .before .if3 .left)
 
 number-requires : tie.Need-number-requires
 number-requires c κs = search needs

@@ -15,10 +15,10 @@ use Rattle.steps.proofs.events.write_events.Statement.{statement}
 use Rattle.steps.proofs.events.write_events.Tie as tie
 
 abbrev Inv-loop : tie.InvT-loop
-Inv-loop t changed values buf₀ at left₀ end₀ buf left end = Writing t values changed at buf₀ left end buf
+Inv-loop t changed values buffer₀ at left₀ end₀ buffer left end = Writing t values changed at buffer₀ left end buffer
 
 abbrev μ-loop : tie.MeasureT-loop
-μ-loop t changed values buf₀ at left₀ end₀ buf left end = left
+μ-loop t changed values buffer₀ at left₀ end₀ buffer left end = left
 
 loop-holds : tie.Need-loop-holds Inv-loop μ-loop
 loop-holds c = begun (c .before .fits .changed .fits) (c .before .pre)
@@ -55,7 +55,7 @@ write-triple-requires c κs =
     let start = inside .before .before .before in
     let p = some inside in
     let small = value-small (l .inv) p (source .ensures) in (
-      omega (arith, length-behind (l .buf) (l .end), room (l .inv) p (source .ensures)),
+      omega (arith, length-behind (l .buffer) (l .end), room (l .inv) p (source .ensures)),
       start .fits .t .fits,
       omega (arith, source-lt (l .inv) p (source .ensures)),
       rw (rd32 (intAt (start .args .values .now) (source .result)) small) small,
@@ -89,7 +89,7 @@ loop-again c =
     let event = a .t ∷ source .result ∷ wordOf value ∷ [] in
     let small = value-small (l .inv) p (source .ensures) in
     turn (l .inv) p (source .ensures) (c .rest64 .ensures)
-    (put-back (l .buf) (l .end) event (rw (rd32 value small) at (written .ensures)))
+    (put-back (l .buffer) (l .end) event (rw (rd32 value small) at (written .ensures)))
 
 same-length : tie.Need-same-length Inv-loop μ-loop
 same-length c = c .before .loop .inv .size

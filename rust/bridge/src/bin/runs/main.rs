@@ -6,7 +6,7 @@ mod sides;
 use cup_bridge::machine::{echo, sound};
 use cup_bridge::timing::{repeated, times, warn_of_checks, Repeated};
 use cup_check::file::rules;
-use cup_check::limits::{BUDGET_MAX, FINISHED, LISTING_BUDGET, PAUSED};
+use cup_check::limits::{FINISHED, LARGEST_BUDGET, LISTING_BUDGET, PAUSED};
 use cup_check::plan::Plan;
 use sides::{Course, Start};
 use std::hint::black_box;
@@ -47,7 +47,7 @@ fn main() {
 fn print_speeds(plans: &[(String, Plan)]) {
     println!("Thousands of instants a second, over {INSTANTS} instants");
     print_head("plan, budget; links; moved and events an instant; clock");
-    for budget in [LISTING_BUDGET, BUDGET_MAX] {
+    for budget in [LISTING_BUDGET, LARGEST_BUDGET] {
         for (name, plan) in plans {
             let start = start_of(plan);
             let course = Course {
@@ -81,7 +81,7 @@ fn print_calls(plans: &[(String, Plan)]) {
             repeated(|| echo(black_box(start.state()))),
         ])
         .map(|times| times.best / 1e3);
-        for budget in [0, 1, BUDGET_MAX] {
+        for budget in [0, 1, LARGEST_BUDGET] {
             let course = Course { budget, calls: 1 };
             start.agreed(course);
             let taken = timed(&start, course);
@@ -97,7 +97,7 @@ fn print_chains() {
     print_head("cups; instants; calls; moved and events an instant");
     for cups in [1, 8, 32] {
         let start = start_of(&plans::chain(cups));
-        let budget = BUDGET_MAX;
+        let budget = LARGEST_BUDGET;
         let course = Course { budget, calls: 10 };
         let end = start.agreed(course);
         let clocks = &end.state.run.clocks;

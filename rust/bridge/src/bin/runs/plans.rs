@@ -1,8 +1,6 @@
 //! The plans that are timed. All of them keep going for thousands of instants, but for the chains.
 
-use cup_check::limits::{
-    COMMANDS_MAX, GRAINS, HORIZON_MAX, INPUTS_MAX, INTEGRATORS_MAX, LINKS_MAX, NODES_MAX,
-};
+use cup_check::limits::{COMMANDS, GRAINS, INPUTS, INTEGRATORS, LARGEST_HORIZON, LINKS, NODES};
 use cup_check::plan::Plan;
 
 /// Links of each integrator, which make 256 for 32.
@@ -20,9 +18,9 @@ const COMMANDED_EACH: u32 = 300;
 /// reads a threshold, which turns round when a cup has passed an input's value, and then inputs,
 /// nodes and other cups in turn.
 pub fn mixed(n: usize) -> Plan {
-    let mut plan = with_inputs(with_cups(Plan::new(HORIZON_MAX), n));
-    for node in 0..NODES_MAX {
-        let (cup, input) = (node * 5 % n, plan.input_source(node % INPUTS_MAX));
+    let mut plan = with_inputs(with_cups(Plan::new(LARGEST_HORIZON), n));
+    for node in 0..NODES {
+        let (cup, input) = (node * 5 % n, plan.input_source(node % INPUTS));
         let (below, gain) = (plan.node_source(node) - 1, plan.input_source(0));
         plan = match node % 4 {
             0 => plan.threshold(cup, input, DRIVE, -DRIVE),
@@ -46,17 +44,17 @@ pub fn mixed(n: usize) -> Plan {
 /// 32 cups with 8 links each, 8 inputs, 16 nodes and 64 commands, in which a cup that is due reaches
 /// one other: the cups swing in pairs, and all else that they read are inputs and nodes over inputs.
 pub fn pairs() -> Plan {
-    let n = INTEGRATORS_MAX;
-    let mut plan = with_inputs(with_cups(Plan::new(HORIZON_MAX), n));
-    for node in 0..NODES_MAX {
-        let inputs = [node, node + 3].map(|input| plan.input_source(input % INPUTS_MAX));
+    let n = INTEGRATORS;
+    let mut plan = with_inputs(with_cups(Plan::new(LARGEST_HORIZON), n));
+    for node in 0..NODES {
+        let inputs = [node, node + 3].map(|input| plan.input_source(input % INPUTS));
         plan = plan.difference(inputs[0], inputs[1]);
     }
     for cup in 0..n {
         let (partner, speed) = (cup ^ 1, if cup % 2 == 0 { -30 } else { 30 });
         plan = plan.link(cup, partner, speed);
         for step in 1..LINKS_EACH {
-            plan = plan.link(cup, n + cup % INPUTS_MAX + 2 * step, 1);
+            plan = plan.link(cup, n + cup % INPUTS + 2 * step, 1);
         }
     }
     with_commands(plan)
@@ -87,7 +85,7 @@ fn with_cups(mut plan: Plan, n: usize) -> Plan {
 }
 
 fn with_inputs(mut plan: Plan) -> Plan {
-    for input in 0..INPUTS_MAX as i64 {
+    for input in 0..INPUTS as i64 {
         plan = plan.input(GRAINS / 2 + 900_000 * input);
     }
     plan
@@ -103,14 +101,14 @@ fn with_links(mut plan: Plan, cup: usize, mut named: Vec<usize>) -> Plan {
         };
         plan = plan.link(cup, source, coefficient);
     }
-    assert!(plan.links.len() <= LINKS_MAX);
+    assert!(plan.links.len() <= LINKS);
     plan
 }
 
 /// Input 0 stays as it is, since a product has it as its gain.
 fn with_commands(mut plan: Plan) -> Plan {
-    for number in 0..COMMANDS_MAX {
-        let input = 1 + number % (INPUTS_MAX - 1);
+    for number in 0..COMMANDS {
+        let input = 1 + number % (INPUTS - 1);
         let value = 700_000 * (number as i64 % 9 - 3);
         plan = plan.command((number as u32 + 1) * COMMANDED_EACH, input, value);
     }

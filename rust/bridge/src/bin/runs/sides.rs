@@ -6,7 +6,7 @@ use cup_check::calls;
 use cup_check::engine::run::run;
 use cup_check::engine::{Engine, Rules, State as Readable};
 use cup_check::fast::{run_lazy, Fast};
-use cup_check::limits::{ACCEPTED, BUDGET_MAX, EVENT_BYTES, PAUSED};
+use cup_check::limits::{ACCEPTED, EVENT_BYTES, LARGEST_BUDGET, PAUSED};
 use cup_check::plan::Plan;
 use cup_check::raw::RawState;
 use cup_check::status::Status;
@@ -49,7 +49,7 @@ impl End {
 impl Start {
     pub fn of(plan: &Plan) -> Start {
         let raw = RawState::start(plan);
-        let room = BUDGET_MAX as usize * plan.events_per_instant() * EVENT_BYTES;
+        let room = LARGEST_BUDGET as usize * plan.events_per_instant() * EVENT_BYTES;
         Start {
             proved: State::from(&raw),
             kept: Fast::prepared(&raw),

@@ -5,7 +5,7 @@ use crate::campaign::signs::{count_signs, SIGNS};
 use cup_check::compare::counts::{self, STATUSES};
 use cup_check::engine::Engine;
 use cup_check::generate::Fill;
-use cup_check::limits::INTEGRATORS_MAX;
+use cup_check::limits::INTEGRATORS;
 use cup_check::met::Met;
 use cup_check::plain::{Plain, Taken};
 use cup_check::plan::Plan;
@@ -31,7 +31,7 @@ const MOVED: [&str; 4] = ["1 moved", "2 to 7 moved", "8 to 31 moved", "32 moved"
 const OF_MANY: [&str; 2] = ["all of many moved", "some of many moved"];
 
 /// Instants of either engine by their commands.
-const COMMANDS: [&str; 3] = ["no command", "one command", "two commands or more"];
+const COMMANDS_MET: [&str; 3] = ["no command", "one command", "two commands or more"];
 
 /// What [`counts`] counts of the instants of the lazy engine, and of all calls.
 const COUNTED: [&str; 10] = [
@@ -60,7 +60,7 @@ pub fn required() -> Met {
     met.require("range, several due", ENOUGH);
     met.require_each(MOVED, ENOUGH);
     met.require_each(OF_MANY, ENOUGH);
-    met.require_each(COMMANDS, ENOUGH);
+    met.require_each(COMMANDS_MET, ENOUGH);
     met.require_each(COUNTED, ENOUGH);
     met
 }
@@ -70,7 +70,7 @@ pub fn count_state(met: &mut Met, fill: Fill, state: &RawState) {
     met.count("states");
     met.count(format!("{fill:?}"));
     count_signs(met, state);
-    met.count_if(state.plan.counts.n == INTEGRATORS_MAX, "32 integrators");
+    met.count_if(state.plan.counts.n == INTEGRATORS, "32 integrators");
 }
 
 /// Counts an accepted call from a state, by the plain machine after it.
@@ -88,7 +88,7 @@ pub fn count_answer(met: &mut Met, engine: Engine, before: &RawState, plain: &Pl
 /// Counts an instant that moves so many integrators.
 pub fn count_instant(met: &mut Met, taken: &Taken, moved: usize, engine: Engine, plan: &Plan) {
     met.count(TAKEN[usize::from(engine == Engine::Eager)]);
-    met.count(COMMANDS[taken.commanded.len().min(2)]);
+    met.count(COMMANDS_MET[taken.commanded.len().min(2)]);
     if engine == Engine::Eager {
         return;
     }

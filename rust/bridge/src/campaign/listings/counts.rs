@@ -1,8 +1,8 @@
 //! What the campaign over listings counts, and how often it has to be met.
 
-use super::{Input, Sort, INPUTS};
+use super::{Input, Sort, INPUTS_COMPARED};
 use cup_check::limits::{
-    FILE_BYTES_MAX, FINISHED, HEADER_BYTES, LISTING_BUDGET, LISTING_BYTES, RANGE, REFUSED_COMMAND,
+    FINISHED, HEADER_BYTES, LISTING_BUDGET, LISTING_INPUT, LONGEST_FILE, RANGE, REFUSED_COMMAND,
     REFUSED_SHORT,
 };
 use cup_check::met::Met;
@@ -29,7 +29,7 @@ const CASES: [&str; 12] = [
 /// What has to be met.
 pub fn required() -> Met {
     let mut met = Met::default();
-    met.require("inputs", INPUTS);
+    met.require("inputs", INPUTS_COMPARED);
     met.require_each(["lines", "bytes of the longest listing"], 1);
     met.require_each(Sort::ALL.map(|sort| format!("{sort:?}")), ENOUGH);
     let refused = (REFUSED_SHORT..=REFUSED_COMMAND).map(|number| format!("refused {number}"));
@@ -55,9 +55,9 @@ pub fn count_input(met: &mut Met, input: &Input, listing: &str) {
     let has = [
         length == 0,
         (1..HEADER_BYTES).contains(&length),
-        length == FILE_BYTES_MAX && accepted,
-        length == LISTING_BYTES,
-        length > LISTING_BYTES,
+        length == LONGEST_FILE && accepted,
+        length == LISTING_INPUT,
+        length > LISTING_INPUT,
         input.pieces > 1 && accepted,
         !accepted && figure(2) > 0,
         instants == Some(0),

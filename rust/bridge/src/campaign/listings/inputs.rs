@@ -7,7 +7,7 @@ use cup_check::file::layout::{assemble, section_bytes};
 use cup_check::file::{encode, read};
 use cup_check::generate::{files, Family, Rng};
 use cup_check::limits::{
-    Section, COMMANDS_MAX, COMMAND_BYTES, EVENT_BYTES, HEADER_BYTES, LISTING_BUDGET, LISTING_BYTES,
+    Section, COMMANDS, COMMAND_BYTES, EVENT_BYTES, HEADER_BYTES, LISTING_BUDGET, LISTING_INPUT,
     PAUSED,
 };
 use cup_check::plan::Plan;
@@ -146,7 +146,7 @@ fn beginning(rng: &mut Rng, family: Family) -> Vec<u8> {
 fn with_more(rng: &mut Rng, family: Family) -> Vec<u8> {
     let family = rng.pick(&[family, Family::Full, Family::Wide]);
     let file = plan_file(rng, family);
-    let room = LISTING_BYTES.saturating_sub(file.len());
+    let room = LISTING_INPUT.saturating_sub(file.len());
     let more = rng.pick(&[1, 2, room, room + 1, 5_000, 100_000]);
     [file, random(rng, more)].concat()
 }
@@ -155,6 +155,6 @@ fn with_more(rng: &mut Rng, family: Family) -> Vec<u8> {
 fn beyond_reading(rng: &mut Rng) -> Vec<u8> {
     let plan = Family::Full.plan(rng);
     let mut sections = section_bytes(&plan);
-    sections[Section::Commands as usize].resize(COMMANDS_MAX * COMMAND_BYTES + 512, 0);
+    sections[Section::Commands as usize].resize(COMMANDS * COMMAND_BYTES + 512, 0);
     assemble(plan.horizon, &sections)
 }

@@ -14,7 +14,7 @@ use cup_check::generate::Rng;
 use cup_check::listing::listing;
 
 /// Inputs that the gate compares at least.
-pub const INPUTS: u64 = 6_000;
+pub const INPUTS_COMPARED: u64 = 6_000;
 
 /// What to compare on.
 #[derive(Clone, Copy, Debug)]
@@ -29,7 +29,7 @@ impl Campaign {
     /// A campaign by the variables CUP_LISTINGS and CUP_SEED, or the gate's without them.
     pub fn asked_for() -> Campaign {
         Campaign {
-            inputs: number("CUP_LISTINGS", INPUTS),
+            inputs: number("CUP_LISTINGS", INPUTS_COMPARED),
             seed: number("CUP_SEED", 0),
         }
     }

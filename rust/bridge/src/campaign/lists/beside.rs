@@ -10,8 +10,8 @@ use cup_check::compare::{Beside, Called, Found, Marked};
 use cup_check::engine::Engine;
 use cup_check::generate::near::change;
 use cup_check::generate::{plans, run_list, Breakage, Call, Fill, Rng};
-use cup_check::limits::{BUDGET_MAX, EVENT_BYTES, LISTING_BUDGET, REFUSED_UNSOUND};
-use cup_check::limits::{INPUTS_MAX, INTEGRATORS_MAX};
+use cup_check::limits::{EVENT_BYTES, LARGEST_BUDGET, LISTING_BUDGET, REFUSED_UNSOUND};
+use cup_check::limits::{INPUTS, INTEGRATORS};
 use cup_check::met::Met;
 use cup_check::raw::RawState;
 use cup_check::sound::is_sound;
@@ -28,7 +28,7 @@ const OTHER_CALLS: usize = 2;
 const OTHER_BUDGET: u64 = 20;
 
 /// The bytes of the largest instant.
-const INSTANT_BYTES: usize = (INTEGRATORS_MAX + INPUTS_MAX) * EVENT_BYTES;
+const INSTANT_BYTES: usize = (INTEGRATORS + INPUTS) * EVENT_BYTES;
 
 /// Who is compared between the calls of a list.
 pub struct Between<'a> {
@@ -94,9 +94,14 @@ impl Between<'_> {
         let state = self.unsound(near);
         let n = state.plan.counts.n;
         for engine in [Engine::Lazy, Engine::Eager] {
-            let budget =
-                self.rng
-                    .pick(&[0, 1, LISTING_BUDGET, BUDGET_MAX, BUDGET_MAX + 1, u64::MAX]);
+            let budget = self.rng.pick(&[
+                0,
+                1,
+                LISTING_BUDGET,
+                LARGEST_BUDGET,
+                LARGEST_BUDGET + 1,
+                u64::MAX,
+            ]);
             let length = self
                 .rng
                 .pick(&[0, EVENT_BYTES - 1, EVENT_BYTES, INSTANT_BYTES, 1_000]);
@@ -145,7 +150,7 @@ impl Between<'_> {
         let plan = plans::any(rng);
         let state = rng.pick(&Fill::ALL).state(rng, &plan);
         let list = run_list(rng, plan.events_per_instant());
-        let short = |call: &Call| call.budget <= OTHER_BUDGET || call.budget > BUDGET_MAX;
+        let short = |call: &Call| call.budget <= OTHER_BUDGET || call.budget > LARGEST_BUDGET;
         let list: Vec<Call> = list.into_iter().filter(short).take(OTHER_CALLS).collect();
         continued_list(self.simulator, &plan, &state, &list, &mut Met::default())
     }

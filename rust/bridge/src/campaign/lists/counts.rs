@@ -7,7 +7,7 @@ use cup_check::compare::Called;
 use cup_check::engine::Engine;
 use cup_check::generate::{Call, Family, Fill};
 use cup_check::limits::{
-    Section, BUDGET_MAX, EVENT_BYTES, FINISHED, INTEGRATORS_MAX, LISTING_BUDGET, NODES_MAX, RANGE,
+    Section, EVENT_BYTES, FINISHED, INTEGRATORS, LARGEST_BUDGET, LISTING_BUDGET, NODES, RANGE,
 };
 use cup_check::met::Met;
 use cup_check::plan::{Plan, LIMIT};
@@ -122,9 +122,9 @@ pub fn count_plan(met: &mut Met, family: Family, fill: Option<Fill>, plan: &Plan
         links == 0,
         commands == 0,
         m + k + links + commands == 0,
-        n == INTEGRATORS_MAX,
+        n == INTEGRATORS,
         counts.by_section() == Section::ALL.map(Section::most),
-        longest_chain(plan) == NODES_MAX,
+        longest_chain(plan) == NODES,
     ];
     for (shape, has) in SHAPES.into_iter().zip(has) {
         met.count_if(has, shape);
@@ -157,16 +157,16 @@ const BUDGETS: [&str; 9] = [
 ];
 
 fn class_of(budget: u64) -> usize {
-    const ONE_ABOVE: u64 = BUDGET_MAX + 1;
+    const ONE_ABOVE: u64 = LARGEST_BUDGET + 1;
     match budget {
         0 => 0,
         1 => 1,
         2..LISTING_BUDGET => 2,
         LISTING_BUDGET => 3,
-        BUDGET_MAX => 5,
+        LARGEST_BUDGET => 5,
         ONE_ABOVE => 6,
         u64::MAX => 8,
-        _ if budget < BUDGET_MAX => 4,
+        _ if budget < LARGEST_BUDGET => 4,
         _ => 7,
     }
 }
@@ -187,7 +187,7 @@ fn buffer_of(call: &Call, state: &RawState) -> Option<usize> {
     let room = state.plan.counts.events_per_instant() * EVENT_BYTES;
     let asked = u128::from(call.budget) * room as u128;
     let length = call.buffer as u128;
-    if call.budget > BUDGET_MAX {
+    if call.budget > LARGEST_BUDGET {
         return (length >= asked).then_some(6);
     }
     Some(match length {
