@@ -16,7 +16,7 @@ use Rattle.plan.specs.Encoding.{fileLength, encode}
 use Rattle.plan.specs.declared.Plan.{Plan}
 use Rattle.machine.specs.Start.{startState, idleState}
 use Rattle.machine.specs.Status.{statusNumber, statusIntegrator, statusOf}
-use Rattle.machine.specs.Runs.{after, events, positionOf}
+use Rattle.machine.specs.Runs.{afterRun, eventsOfRun, positionOf}
 use Rattle.machine.specs.SoundTest.{isSound}
 use Rattle.machine.specs.declared.State.{State}
 use Rattle.machine.specs.declared.Engine.{Engine}
@@ -69,10 +69,10 @@ runNumber st budget room = cond (isSound st) (runNumberIfSound (st .plan) budget
 module _ (engine : Engine) (st : State) (budget : ℕ) where
   -- the state after an accepted run, and the bytes of its events
   unfoldable pub ranState : State
-  ranState = record { plan = st .plan; run = after (st .plan) engine budget (st .run) }
+  ranState = record { plan = st .plan; run = afterRun (st .plan) engine budget (st .run) }
 
   unfoldable pub ranEvents : List ℕ
-  ranEvents = events (st .plan) engine budget (st .run)
+  ranEvents = eventsOfRun (st .plan) engine budget (st .run)
 
   -- "answers status, integrator (0 unless range) and bytes written from the buffer's start; later bytes keep their value"
   unfoldable pub runOf : List ℕ → Ran

@@ -18,7 +18,7 @@ use Rattle.machine.specs.Values.{valueOf, sumOver, rateOf}
 use Rattle.machine.specs.Due.{upperLevel, lowerLevel, distance, ticksTo}
 use Rattle.machine.specs.Instant.{positionAt, nextTickOf, eventsOf}
 use Rattle.machine.specs.Status.{statusOf}
-use Rattle.machine.specs.Runs.{events, positionOf}
+use Rattle.machine.specs.Runs.{eventsOfRun, positionOf}
 use Rattle.machine.specs.declared.Running.{Running}
 use Rattle.machine.specs.declared.State.{State}
 use Rattle.machine.specs.declared.Engine.{Engine}
@@ -117,7 +117,7 @@ module _ (p : Plan) (r : Running) where
     pub updates : r .clocks .updates ≤ mostIntegrators * largestHorizon
     -- the bytes of an instant's events, of a run's, and of the listing program's runs
     pub instant : length (eventsOf p r) ≤ 480
-    pub bytes : (engine : Engine) (budget : ℕ) → length (events p engine budget r) ≤ bytesNeeded p budget
+    pub bytes : (engine : Engine) (budget : ℕ) → length (eventsOfRun p engine budget r) ≤ bytesNeeded p budget
     pub room : (budget : ℕ) → budget ≤ largestBudget → bytesNeeded p budget ≤ 491520
     pub listing : bytesNeeded p listingBudget ≤ 30720
     pub printed : PrintedLimits

@@ -11,7 +11,7 @@ pub mod Limits
 use Rattle.calls.specs.Promises.Numbers.{NumbersMean}
 use Rattle.calls.specs.Promises.Files.{EveryFile, EveryHeader, EveryPlace, EveryView, LoadThenWrite, WriteThenLoad, LoadWidths}
 use Rattle.calls.specs.Promises.Machine.{ValuesMean, DueLeast, DueBetween, CommandMeans, StartMeans, NextMeans, StepsMean, ReachMeans}
-use Rattle.calls.specs.Promises.Machine.{Frame, EventsRead, StatusMeans, RunTakes, PlainStarts, PlainMeans, PlainTakes}
+use Rattle.calls.specs.Promises.Machine.{UnreachedKeepsRate, EventsRead, StatusMeans, RunTakes, PlainStarts, PlainMeans, PlainTakes}
 use Rattle.calls.specs.Promises.Lists.{ListsMean, GrowthMeans, Demand3}
 use Rattle.calls.specs.Promises.Sessions.{EverySession, SessionsExist}
 use Rattle.calls.specs.Promises.States.{SoundMeans, LoadSound, RunSound, IdleLoaded, NextDetermined, RunMoves, RunWidths}
@@ -36,7 +36,7 @@ pub record EveryPromise : Type 0 where
   pub next-means : NextMeans
   pub steps-mean : StepsMean
   pub reach-means : ReachMeans
-  pub frame : Frame
+  pub unreached-keeps-rate : UnreachedKeepsRate
   pub events-read : EventsRead
   pub status-means : StatusMeans
   pub run-takes : RunTakes

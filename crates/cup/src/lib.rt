@@ -168,13 +168,13 @@ pub extern "C" fn cup_tables(state: State) -> Tables
         n,
         m,
         k,
-        &state.run.q,
-        &state.run.inputs,
         &state.plan.nodes.kinds,
         &state.plan.nodes.a,
         &state.plan.nodes.b,
         &state.plan.nodes.lows,
         &state.plan.nodes.highs,
+        &state.run.q,
+        &state.run.inputs,
     );
     Tables {
         ranges,

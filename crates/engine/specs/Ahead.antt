@@ -24,9 +24,9 @@ module _ (n commands : ℕ) (ticks : List ℕ) (x s : List ℤ) (l d : List ℕ)
   pub record AheadReady : Type 0 where
     pub few : n ≤ mostIntegrators
     pub listed : commands ≤ mostCommands
-    pub positions : DuePositionsReady dueAhead tickAhead x s l
+    pub positions : DuePositionsReady tickAhead dueAhead x s l
 
 unfoldable pub aheadOf : (horizon n commands : ℕ) (ticks : List ℕ) (x s : List ℤ) (l d : List ℕ) (next : ℕ) → Ahead
 aheadOf horizon n commands ticks x s l d next =
     let t = tickAhead n commands ticks x s l d next in let due = dueAhead n commands ticks x s l d next in
-    record { tick = t; due = due; status = statusBy horizon n t (firstFrom (barsIn due t x s l) 0 n) }
+    record { tick = t; due = due; status = statusBy horizon n t (firstFrom (barsIn t due x s l) 0 n) }

@@ -4,7 +4,7 @@ use lib.ListN.{length}
 use Rattle.plan.specs.Numbers.{eventSize}
 use Rattle.plan.specs.declared.Plan.{Plan}
 use Rattle.machine.specs.Status.{statusOf}
-use Rattle.machine.specs.Runs.{after, events}
+use Rattle.machine.specs.Runs.{afterRun, eventsOfRun}
 use Rattle.machine.specs.Sound.{Sound}
 use Rattle.machine.specs.declared.Running.{Running}
 use Rattle.machine.specs.declared.State.{State}
@@ -15,9 +15,9 @@ use Rattle.engine.specs.declared.runs.Ended.{Ended}
 unfoldable pub endedOf : (p : Plan) (engine : Engine) (budget : ℕ) (r : Running) → Ended
 endedOf p engine budget r =
     record {
-      status = statusOf p (after p engine budget r);
-      written = length (events p engine budget r);
-      run = after p engine budget r;
+      status = statusOf p (afterRun p engine budget r);
+      written = length (eventsOfRun p engine budget r);
+      run = afterRun p engine budget r;
     }
 
 -- a sound state, and room for the events of each instant

@@ -1,7 +1,7 @@
 // "A run with budget b takes b instants, or fewer if the status is first 1 or 2".
 ghost use mathlib.Core.Path.{_≡_};
 ghost use lib.ListN.{length};
-ghost use Rattle.machine.specs.Runs.{events};
+ghost use Rattle.machine.specs.Runs.{eventsOfRun};
 ghost use Rattle.steps.specs.Events.{putAt};
 ghost use Rattle.engine.specs.RunAnswer.{endedOf, RunReady};
 use crate::ahead::look_ahead;
@@ -25,10 +25,10 @@ pub struct Ended {
 
 // The tables are worked out once; in the loop the plan's arrays are lent where they lie, and those of the running figures as local copies. Outputs and input
 // values stand in the values of sources alone, and are read out of them at the end.
-pub fn run(state: State, engine: Engine, budget: u64, buffer: &mut [u8]) -> Ended
+pub fn run(engine: Engine, state: State, budget: u64, buffer: &mut [u8]) -> Ended
     requires { ⌜ RunReady state budget (length (now buffer)) ⌝ }
     ensures answer { λ r. ⌜ r ≡ endedOf (state .plan) engine budget (state .run) ⌝ }
-    ensures buffer { λ _. ⌜ now (buffer .exit) ≡ putAt (now (buffer .entry)) 0 (events (state .plan) engine budget (state .run)) ⌝ }
+    ensures buffer { λ _. ⌜ now (buffer .exit) ≡ putAt (now (buffer .entry)) 0 (eventsOfRun (state .plan) engine budget (state .run)) ⌝ }
 {
     let counts = state.plan.counts;
     let r = state.run;
@@ -47,13 +47,13 @@ pub fn run(state: State, engine: Engine, budget: u64, buffer: &mut [u8]) -> Ende
         counts.n,
         counts.m,
         counts.k,
-        &state.run.q,
-        &state.run.inputs,
         &state.plan.nodes.kinds,
         &state.plan.nodes.a,
         &state.plan.nodes.b,
         &state.plan.nodes.lows,
         &state.plan.nodes.highs,
+        &state.run.q,
+        &state.run.inputs,
     );
     let mut x = r.x;
     let mut s = r.s;

@@ -9,7 +9,7 @@ use lib.ListN.{length}
 use Rattle.plan.specs.Numbers.{eventSize, acceptance}
 use Rattle.plan.specs.declared.Plan.{Plan}
 use Rattle.machine.specs.Status.{statusNumber, statusOf}
-use Rattle.machine.specs.Runs.{after, events}
+use Rattle.machine.specs.Runs.{afterRun, eventsOfRun}
 use Rattle.machine.specs.declared.Running.{Running}
 use Rattle.machine.specs.declared.Engine.the-variants.{Lazy}
 use Rattle.listingtext.specs.Lines.{linesOf, endLine, refusalLine}
@@ -26,7 +26,7 @@ endLineOf p r = endLine (statusNumber (statusOf p r)) (r .clocks .clock) (r .clo
 -- The lines of a lazy run from r on with a budget b, and the end line of where it ends. With the horizon for a budget the run always ends with
 -- status 1 or 2 (`ListingStops`), since each instant moves the clock on.
 unfoldable pub listingOfRun : Plan → ℕ → Running → List ℕ
-listingOfRun p b r = eventLines (events p Lazy b r) ++ endLineOf p (after p Lazy b r)
+listingOfRun p b r = eventLines (eventsOfRun p Lazy b r) ++ endLineOf p (afterRun p Lazy b r)
 
 -- the text for a file: "a declined plan prints "refused", number, entry"
 unfoldable pub listingOf : List ℕ → List ℕ

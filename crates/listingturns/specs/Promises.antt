@@ -8,7 +8,7 @@ use lib.ListN.{length, take, getD}
 use Rattle.words.specs.Word.{Bytes}
 use Rattle.plan.specs.Numbers.{longestFile, listingInput, acceptance}
 use Rattle.machine.specs.Status.{statusOf}
-use Rattle.machine.specs.Runs.{after}
+use Rattle.machine.specs.Runs.{afterRun}
 use Rattle.machine.specs.Sound.{Sound}
 use Rattle.machine.specs.declared.State.{State}
 use Rattle.machine.specs.declared.Engine.the-variants.{Lazy}
@@ -21,7 +21,7 @@ use Rattle.listingturns.specs.Turns.{textSpace, refusalSpace, turnState,
 
 -- a lazy run with the horizon for a budget ends with status 1 or 2
 abbrev pub ListingStops : Type 0
-ListingStops = (st : State) → Sound st → statusOf (st .plan) (after (st .plan) Lazy (st .plan .horizon) (st .run)) ≡ Paused → ⊥
+ListingStops = (st : State) → Sound st → statusOf (st .plan) (afterRun (st .plan) Lazy (st .plan .horizon) (st .run)) ≡ Paused → ⊥
 
 -- The loop ends: a turn leaves a sound state of the same plan, and where another turn follows it has moved the clock on, which never
 -- passes the horizon.

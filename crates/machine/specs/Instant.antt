@@ -46,8 +46,8 @@ unfoldable pub eventBytes : ℕ → ℕ → ℤ → List ℕ
 eventBytes t source value = flat (t ∷ source ∷ wordOf value ∷ [])
 
 -- at tick t, with the due ticks d before it, and the outputs q and input values u after it
-unfoldable pub eventsAt : (p : Plan) (t : ℕ) (d : List ℕ) (q u : List ℤ) → List ℕ
-eventsAt p t d q u = joined (λ i. cond (changes p d t i) (eventBytes t i (valueWith p q u zero i)) []) (p .counts .n + p .counts .m)
+unfoldable pub eventsAt : (p : Plan) (d : List ℕ) (t : ℕ) (q u : List ℤ) → List ℕ
+eventsAt p d t q u = joined (λ i. cond (changes p d t i) (eventBytes t i (valueWith p q u zero i)) []) (p .counts .n + p .counts .m)
 
 module _ (p : Plan) (r : Running) (t : ℕ) where
   -- 1. "The due integrators (d = t) take q = x+s×(t−l)." The others keep theirs.
@@ -94,4 +94,4 @@ module _ (p : Plan) where
   instant engine r = figuresAfter p r (nextTickOf r) (moves p engine (r .d) (nextTickOf r))
 
   unfoldable pub eventsOf : Running → List ℕ
-  eventsOf r = eventsAt p (nextTickOf r) (r .d) (outputsThen p r (nextTickOf r)) (inputsThen p (r .inputs) (nextTickOf r))
+  eventsOf r = eventsAt p (r .d) (nextTickOf r) (outputsThen p r (nextTickOf r)) (inputsThen p (r .inputs) (nextTickOf r))

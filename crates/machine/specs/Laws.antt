@@ -4,7 +4,7 @@ pub mod Due
 pub mod Next
 pub mod Status
 pub mod InstantFigures
-pub mod Frame
+pub mod Unreached
 pub mod Ascending
 pub mod NodeOrder
 pub mod Reach

@@ -64,7 +64,7 @@ module _ (p : Plan) where
       withRatesAndDues (row (pos 0) mostIntegrators (p .counts .n) (plainPosition plain)) (plainOutputs plain) (inputsThen p (plain .inputs) (plainNextTick plain)) (plainNextTick plain) (plain .instants + 1)
 
   unfoldable pub plainEventsOf : Plain → List ℕ
-  plainEventsOf plain = eventsAt p (plainNextTick plain) (plain .d) (plainOutputs plain) (inputsThen p (plain .inputs) (plainNextTick plain))
+  plainEventsOf plain = eventsAt p (plain .d) (plainNextTick plain) (plainOutputs plain) (inputsThen p (plain .inputs) (plainNextTick plain))
 
   unfoldable pub plainStatus : Plain → Status
   plainStatus plain = statusAt p (plain .d) (plainNextTick plain) (plainPosition plain)

@@ -11,14 +11,14 @@ use Rattle.machine.specs.declared.Engine.{Engine}
 
 module _ (p : Plan) (engine : Engine) where
   -- the running figures after a run
-  unfoldable pub after : ℕ → Running → Running
-  after zero r = r
-  after (suc b) r = cond (isPaused p r) (after b (instant p engine r)) r
+  unfoldable pub afterRun : ℕ → Running → Running
+  afterRun zero r = r
+  afterRun (suc b) r = cond (isPaused p r) (afterRun b (instant p engine r)) r
 
   -- the bytes of its events
-  unfoldable pub events : ℕ → Running → List ℕ
-  events zero r = []
-  events (suc b) r = cond (isPaused p r) (eventsOf p r ++ events b (instant p engine r)) []
+  unfoldable pub eventsOfRun : ℕ → Running → List ℕ
+  eventsOfRun zero r = []
+  eventsOfRun (suc b) r = cond (isPaused p r) (eventsOf p r ++ eventsOfRun b (instant p engine r)) []
 
 -- "Position call: x+s×(c−l) for a numbered integrator."
 unfoldable pub positionOf : Running → ℕ → ℤ

@@ -17,8 +17,8 @@ clipped z = limited (negℤ (pos M)) (pos M) z
 
 -- "Node kinds, with a and b the values of A and B: 0 is a−b; 1 is floor(a×b / 65,536); both then clipped to ±M .. 2 is a limited to lo..hi
 -- .. 3 is hi if a ≥ b, else lo."
-unfoldable pub nodeValue : (kind : ℕ) (lo hi a b : ℤ) → ℤ
-nodeValue kind lo hi a b =
+unfoldable pub nodeValue : (kind : ℕ) (a b lo hi : ℤ) → ℤ
+nodeValue kind a b lo hi =
     cond (eqb kind 0) (clipped (a -ℤ b))
     (cond (eqb kind 1) (clipped (floor65536 (a *ℤ b)))
     (cond (eqb kind 2) (limited lo hi a)
@@ -32,7 +32,7 @@ module _ (p : Plan) (q u : List ℤ) where
   valueWith zero i = cond (ltb i (p .counts .n)) (intAt q i) (cond (ltb i (p .counts .n + p .counts .m)) (intAt u (i - p .counts .n)) (pos 0))
   valueWith (suc j) i =
       cond (eqb i (p .counts .n + p .counts .m + j))
-      (nodeValue (natAt (p .nodes .kinds) j) (intAt (p .nodes .lows) j) (intAt (p .nodes .highs) j) (valueWith j (natAt (p .nodes .a) j)) (valueWith j (natAt (p .nodes .b) j)))
+      (nodeValue (natAt (p .nodes .kinds) j) (valueWith j (natAt (p .nodes .a) j)) (valueWith j (natAt (p .nodes .b) j)) (intAt (p .nodes .lows) j) (intAt (p .nodes .highs) j))
       (valueWith j i)
 
   -- "Node values are worked out in node order."

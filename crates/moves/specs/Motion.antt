@@ -31,7 +31,7 @@ module _ (quanta : List ℤ) (sources : List ℕ) (coefficients : List ℤ) (ran
   slopeOf i = rangeRate sources coefficients values (natAt ranges i) (natAt ranges (i + 1))
 
   unfoldable pub dueFrom : ℕ → ℤ → ℕ
-  dueFrom i place = dueTick t place (intAt values i +ℤ intAt quanta i) (intAt values i -ℤ intAt quanta i) (slopeOf i)
+  dueFrom i xThen = dueTick t xThen (intAt values i +ℤ intAt quanta i) (intAt values i -ℤ intAt quanta i) (slopeOf i)
 
   unfoldable pub afterMove : ℕ → Motion → Motion
   afterMove i m =

@@ -32,12 +32,12 @@ fn move_one<'a>(
         ≡ afterMove (now (quanta .entry)) (now (sources .entry)) (now (coefficients .entry)) (now (ranges .entry)) t (now (values .entry)) i
         (motion (now (x .entry)) (now (s .entry)) (now (l .entry)) (now (d .entry))) ⌝ }
 {
-    let place = position(x[i], s[i], l[i], t);
+    let x_then = position(x[i], s[i], l[i], t);
     let slope = rate(ranges[i], ranges[i + 1], sources, coefficients, values);
-    x[i] = place;
+    x[i] = x_then;
     s[i] = slope;
     l[i] = t;
-    d[i] = due_tick(t, place, values[i], quanta[i], slope);
+    d[i] = due_tick(t, x_then, values[i], quanta[i], slope);
 }
 
 // The integrators of a mask, lowest first.

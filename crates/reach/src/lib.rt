@@ -1,5 +1,5 @@
 // Which integrators a change reaches, and which nodes it touches: "dependence is followed down through lower-numbered nodes". A table, worked out once
-// for a run, has an entry of 64 bits for each source: bit i is set where a change of the source reaches integrator i, bit 32 + j where it touches node j.
+// for a run, has an entry of 64 bits for each source: bit i is set where a change of the source reaches integrator i, bit FIRST_NODE_BIT + j where it touches node j.
 ghost use mathlib.Core.Path.{_≡_};
 ghost use Prim.Native.Nat.{_+_, _/_, _%_, _^_, _≤_, _<_};
 ghost use Rattle.plan.specs.Numbers.{mostNodes, sourceWidth};
@@ -11,6 +11,9 @@ use bitset::with_bit64;
 use plan::LINKS;
 use plan::NODES;
 use plan::SOURCES;
+
+// The lower half of an entry is the integrators', the upper half the nodes'.
+const FIRST_NODE_BIT: usize = 32;
 
 // "a link of its own names" a source: each link's target goes into the entry of its source.
 fn link_entries<'a>(
@@ -39,7 +42,7 @@ fn own_entries(base: usize, k: usize, table: &mut [u64; SOURCES])
     let mut j: usize = 0;
     while j < k {
         let source = base + j;
-        table[source] = with_bit64(table[source], 32 + j);
+        table[source] = with_bit64(table[source], FIRST_NODE_BIT + j);
         j += 1;
     }
 }

@@ -43,7 +43,7 @@ fn run_by(engine: Engine, state: State, budget: u64, buffer: &mut [u8]) -> Ran
     if buffer.len() < needed {
         return declined(REFUSED_RUN_BUFFER, state);
     }
-    let ended = run(state, engine, budget, buffer);
+    let ended = run(engine, state, budget, buffer);
     let status = ended.status;
     let status_number = status.number();
     let integrator = status.integrator();

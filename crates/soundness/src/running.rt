@@ -53,13 +53,13 @@ pub fn running_sound(plan: Plan, run: Running) -> bool
         n,
         m,
         plan.counts.k,
-        &run.q,
-        &run.inputs,
         &plan.nodes.kinds,
         &plan.nodes.a,
         &plan.nodes.b,
         &plan.nodes.lows,
         &plan.nodes.highs,
+        &run.q,
+        &run.inputs,
     );
     let ranges = link_ranges(n, plan.counts.links, &plan.links.targets);
     let slopes = rates(

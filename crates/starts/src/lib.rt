@@ -50,13 +50,13 @@ pub fn start(plan: Plan) -> Running
         n,
         plan.counts.m,
         plan.counts.k,
-        &plan.integrators.starts,
-        &plan.inputs.firsts,
         &plan.nodes.kinds,
         &plan.nodes.a,
         &plan.nodes.b,
         &plan.nodes.lows,
         &plan.nodes.highs,
+        &plan.integrators.starts,
+        &plan.inputs.firsts,
     );
     let ranges = link_ranges(n, plan.counts.links, &plan.links.targets);
     let s = rates(

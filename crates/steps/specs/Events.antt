@@ -12,13 +12,13 @@ use Rattle.plan.specs.Lists.{intAt, joined}
 use Rattle.machine.specs.Instant.{eventBytes}
 
 -- one for each source in the mask, by ascending source number
-unfoldable pub eventsIn : ℕ → ℕ → List ℤ → List ℕ
-eventsIn changed t values = joined (λ i. cond (has changed i) (eventBytes t i (intAt values i)) []) 64
+unfoldable pub eventsIn : (t changed : ℕ) → List ℤ → List ℕ
+eventsIn t changed values = joined (λ i. cond (has changed i) (eventBytes t i (intAt values i)) []) 64
 
 -- bytes in the place of those from byte `at` on
 unfoldable pub putAt : List ℕ → ℕ → List ℕ → List ℕ
 putAt buffer at bytes = take at buffer ++ (bytes ++ drop (at + length bytes) buffer)
 
-pub record EventsReady (changed t : ℕ) (values : List ℤ) (at size : ℕ) : Type 0 where
-  pub room : at + length (eventsIn changed t values) ≤ size
+pub record EventsReady (t changed : ℕ) (values : List ℤ) (at size : ℕ) : Type 0 where
+  pub room : at + length (eventsIn t changed values) ≤ size
   pub sized : (i : ℕ) → has changed i ≡ true → ∣ intAt values i ∣ ≤ M

@@ -17,9 +17,9 @@ pub fn write_events<'a>(
     buffer: &mut [u8],
     at: usize,
 ) -> usize
-    requires { ⌜ EventsReady changed t (now values) at (length (now buffer)) ⌝ }
-    ensures end { λ r. ⌜ r ≡ at + length (eventsIn changed t (now (values .entry))) ⌝ }
-    ensures buffer { λ _. ⌜ now (buffer .exit) ≡ putAt (now (buffer .entry)) at (eventsIn changed t (now (values .entry))) ⌝ }
+    requires { ⌜ EventsReady t changed (now values) at (length (now buffer)) ⌝ }
+    ensures end { λ r. ⌜ r ≡ at + length (eventsIn t changed (now (values .entry))) ⌝ }
+    ensures buffer { λ _. ⌜ now (buffer .exit) ≡ putAt (now (buffer .entry)) at (eventsIn t changed (now (values .entry))) ⌝ }
 {
     let mut left = changed;
     let mut end = at;

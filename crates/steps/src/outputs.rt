@@ -18,7 +18,7 @@ pub fn set_outputs<'a>(
     l: &'a [u32; INTEGRATORS],
     values: &mut [i64; SOURCES],
 )
-    requires { ⌜ DuePositionsReady due t (now x) (now s) (now l) ⌝ }
+    requires { ⌜ DuePositionsReady t due (now x) (now s) (now l) ⌝ }
     ensures { λ _. ⌜ now (values .exit)
         ≡ each (afterOutput t (now (x .entry)) (now (s .entry)) (now (l .entry))) (has due) 32 (now (values .entry)) ⌝ }
 {

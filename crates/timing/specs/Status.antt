@@ -10,7 +10,7 @@ use Rattle.plan.specs.Numbers.{M}
 use Rattle.plan.specs.Lists.{natAt, intAt}
 use Rattle.timing.specs.Ticks.{PositionReady}
 
-module _ (due t : ℕ) (x s : List ℤ) (l : List ℕ) where
+module _ (t due : ℕ) (x s : List ℤ) (l : List ℕ) where
   -- integrator i is due, and its value at t is beyond ±M
   unfoldable pub barsIn : ℕ → Bool
   barsIn i = has due i && not (within M (intAt x i +ℤ intAt s i *ℤ pos (t - natAt l i)))

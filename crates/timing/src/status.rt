@@ -15,14 +15,14 @@ use plan::INTEGRATORS;
 // The lowest of the due integrators whose value at t is beyond ±M, or n.
 fn lowest_barring<'a>(
     n: usize,
-    due: u32,
     t: u32,
+    due: u32,
     x: &'a [i64; INTEGRATORS],
     s: &'a [i64; INTEGRATORS],
     l: &'a [u32; INTEGRATORS],
 ) -> usize
-    requires { ⌜ (n ≤ mostIntegrators) × (due < 2 ^ n) × DuePositionsReady due t (now x) (now s) (now l) ⌝ }
-    ensures { λ r. ⌜ r ≡ firstFrom (barsIn due t (now (x .entry)) (now (s .entry)) (now (l .entry))) 0 n ⌝ }
+    requires { ⌜ (n ≤ mostIntegrators) × (due < 2 ^ n) × DuePositionsReady t due (now x) (now s) (now l) ⌝ }
+    ensures { λ r. ⌜ r ≡ firstFrom (barsIn t due (now (x .entry)) (now (s .entry)) (now (l .entry))) 0 n ⌝ }
 {
     let mut left = due;
     while left != 0 {
@@ -46,8 +46,8 @@ pub fn status_at<'a>(
     s: &'a [i64; INTEGRATORS],
     l: &'a [u32; INTEGRATORS],
 ) -> Status
-    requires { ⌜ (n ≤ mostIntegrators) × (due < 2 ^ n) × ((t ≤ horizon) → DuePositionsReady due t (now x) (now s) (now l)) ⌝ }
-    ensures { λ r. ⌜ r ≡ statusBy horizon n t (firstFrom (barsIn due t (now (x .entry)) (now (s .entry)) (now (l .entry))) 0 n) ⌝ }
+    requires { ⌜ (n ≤ mostIntegrators) × (due < 2 ^ n) × ((t ≤ horizon) → DuePositionsReady t due (now x) (now s) (now l)) ⌝ }
+    ensures { λ r. ⌜ r ≡ statusBy horizon n t (firstFrom (barsIn t due (now (x .entry)) (now (s .entry)) (now (l .entry))) 0 n) ⌝ }
 {
     if t == State::NEVER {
         return Status::Finished;
@@ -55,7 +55,7 @@ pub fn status_at<'a>(
     if t > horizon {
         return Status::Finished;
     }
-    let lowest = lowest_barring(n, due, t, x, s, l);
+    let lowest = lowest_barring(n, t, due, x, s, l);
     if lowest < n {
         return Status::Range(lowest);
     }

@@ -29,7 +29,7 @@ inputsIn n m values = row (pos 0) mostInputs m (λ j. intAt values (n + j))
 module _ (kinds a b : List ℕ) (lows highs : List ℤ) (base : ℕ) where
   -- the value of node j by the values of its operands
   unfoldable pub nodeFrom : ℕ → List ℤ → ℤ
-  nodeFrom j values = nodeValue (natAt kinds j) (intAt lows j) (intAt highs j) (intAt values (natAt a j)) (intAt values (natAt b j))
+  nodeFrom j values = nodeValue (natAt kinds j) (intAt values (natAt a j)) (intAt values (natAt b j)) (intAt lows j) (intAt highs j)
 
   -- node j worked out
   unfoldable pub nodeStep : ℕ → List ℤ → List ℤ

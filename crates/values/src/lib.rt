@@ -29,7 +29,7 @@ fn clip(v: i64) -> i64
 // "0 is a−b; 1 is floor(a×b / 65,536); both then clipped to ±M .. 2 is a limited to lo..hi .. 3 is hi if a ≥ b, else lo."
 pub fn node_value(kind: usize, a: i64, b: i64, lo: i64, hi: i64) -> i64
     requires { ⌜ (∣ a ∣ ≤ M) × (∣ b ∣ ≤ M) ⌝ }
-    ensures { λ r. ⌜ r ≡ nodeValue kind lo hi a b ⌝ }
+    ensures { λ r. ⌜ r ≡ nodeValue kind a b lo hi ⌝ }
 {
     if kind == 0 {
         return clip(a - b);
@@ -118,13 +118,13 @@ pub fn source_values<'a>(
     n: usize,
     m: usize,
     k: usize,
-    q: &'a [i64; INTEGRATORS],
-    inputs: &'a [i64; INPUTS],
     kinds: &'a [usize; NODES],
     a: &'a [usize; NODES],
     b: &'a [usize; NODES],
     lows: &'a [i64; NODES],
     highs: &'a [i64; NODES],
+    q: &'a [i64; INTEGRATORS],
+    inputs: &'a [i64; INPUTS],
 ) -> [i64; SOURCES]
     requires { ⌜ (n ≤ mostIntegrators) × (m ≤ mostInputs)
         × NodesReady (now a) (now b) (now lows) (now highs) (outputAndInputValues n m (now q) (now inputs)) (n + m) k ⌝ }

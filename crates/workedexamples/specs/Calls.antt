@@ -30,7 +30,7 @@ use Rattle.machine.specs.Reach.{isDue, setsInput, isCommanded, changes, depends
 use Rattle.machine.specs.Instant.{positionAt, inputThen, inputsThen, moves, eventBytes, eventsAt, outputsThen, slopeThen, xThen, dueThen}
 use Rattle.machine.specs.Instant.{figuresAfter, nextTickOf, instant, eventsOf}
 use Rattle.machine.specs.Status.{statusNumber, statusIntegrator, statusPaused, bars, barring, statusBy, statusAt, statusOf, isPaused}
-use Rattle.machine.specs.Runs.{after, events, positionOf}
+use Rattle.machine.specs.Runs.{afterRun, eventsOfRun, positionOf}
 use Rattle.machine.specs.Plain.{withRatesAndDues, plainStart, plainNextTick, plainPosition, plainOutputs, plainInstant, plainEventsOf, plainStatus}
 use Rattle.machine.specs.Plain.{lazyCount, plainFrom, plainEventsFrom, plainAfter, plainEvents}
 use Rattle.plan.specs.Unused.{natsZeroFrom, intsZeroFrom, planUnusedZero}
@@ -182,7 +182,7 @@ unfolding examples ceilDiv limited within countOf numberAt bytesOf signedOf unsi
     nodeWords linkWords commandWords fileWords encode nodeValue valueWith valueOf sumOver rateOf upperLevel lowerLevel distance ticksTo
     dueTick dueOf nextCommand commandTick leastDue nextTick startSlope startDue startOf startState idleState isDue setsInput
     isCommanded changes dependsWith linkReaches reached positionAt inputThen inputsThen moves eventBytes eventsAt outputsThen slopeThen xThen
-    dueThen figuresAfter nextTickOf instant eventsOf bars barring statusNumber statusIntegrator statusPaused statusBy statusAt statusOf isPaused after events
+    dueThen figuresAfter nextTickOf instant eventsOf bars barring statusNumber statusIntegrator statusPaused statusBy statusAt statusOf isPaused afterRun eventsOfRun
     positionOf withRatesAndDues plainStart plainNextTick plainPosition plainOutputs plainInstant plainEventsOf plainStatus
     lazyCount plainFrom plainEventsFrom plainAfter plainEvents natsZeroFrom intsZeroFrom planUnusedZero planSound runningUnusedZero
     integratorSound runningSound isSound loadOf writeNumber writeOf bufferOfWrite bytesNeeded runNumberIfSound runNumber ranState ranEvents

@@ -30,7 +30,7 @@ use Rattle.machine.specs.Reach.{isDue, setsInput, isCommanded, changes, depends
 use Rattle.machine.specs.Instant.{positionAt, inputThen, inputsThen, moves, eventBytes, eventsAt, outputsThen, slopeThen, xThen, dueThen, figuresAfter}
 use Rattle.machine.specs.Instant.{nextTickOf, instant, eventsOf}
 use Rattle.machine.specs.Status.{statusNumber, statusIntegrator, statusPaused, bars, barring, statusBy, statusAt, statusOf, isPaused}
-use Rattle.machine.specs.Runs.{after, events, positionOf}
+use Rattle.machine.specs.Runs.{afterRun, eventsOfRun, positionOf}
 use Rattle.machine.specs.Plain.{withRatesAndDues, plainStart, plainNextTick, plainPosition, plainOutputs, plainInstant, plainStatus}
 use Rattle.machine.specs.Plain.{plainEventsOf, plainEventsFrom, plainEvents, lazyCount, plainFrom, plainAfter}
 use Rattle.machine.specs.SoundTest.{planSound, runningUnusedZero, integratorSound, runningSound, isSound}
@@ -95,10 +95,10 @@ beyondFile = fileOf 10 (0 ∷ 5 ∷ 1073741824 ∷ 1000 ∷ []) (5 ∷ []) [] (0
 
 -- ---- what the cases say of them
 abbrev lazily : Plan → ℕ → Running
-lazily p b = after p Lazy b (startOf p)
+lazily p b = afterRun p Lazy b (startOf p)
 
 abbrev eagerly : Plan → ℕ → Running
-eagerly p b = after p Eager b (startOf p)
+eagerly p b = afterRun p Eager b (startOf p)
 
 -- d of the cup's first integrator, whose quantum is 10, from l = 0
 abbrev dueFrom : ℤ → ℤ → ℤ → ℕ
@@ -200,17 +200,17 @@ further =
     ∷ case ℕ (dueFrom (pos 25) (pos 12) (negsuc 2)) 8
     ∷ case ℕ (dueFrom (negsuc 2) (pos 12) (pos 3)) 9
     -- the kinds of nodes: differences and products are clipped to ±M, products are rounded down
-    ∷ case ℤ (nodeValue 3 (pos 1) (pos 2) (pos 7) (pos 8)) (pos 1)
-    ∷ case ℤ (nodeValue 3 (pos 1) (pos 2) (pos 8) (pos 7)) (pos 2)
-    ∷ case ℤ (nodeValue 0 (pos 0) (pos 0) (pos 5) (pos 8)) (negsuc 2)
-    ∷ case ℤ (nodeValue 0 (pos 0) (pos 0) m minus-m) m
-    ∷ case ℤ (nodeValue 0 (pos 0) (pos 0) minus-m m) minus-m
-    ∷ case ℤ (nodeValue 1 (pos 0) (pos 0) m m) m
-    ∷ case ℤ (nodeValue 1 (pos 0) (pos 0) m minus-m) minus-m
-    ∷ case ℤ (nodeValue 1 (pos 0) (pos 0) (pos 131072) (pos 3)) (pos 6)
-    ∷ case ℤ (nodeValue 2 (negsuc 4) (pos 5) (pos 6) (pos 0)) (pos 5)
-    ∷ case ℤ (nodeValue 2 (negsuc 4) (pos 5) (negsuc 5) (pos 0)) (negsuc 4)
-    ∷ case ℤ (nodeValue 2 (negsuc 4) (pos 5) (pos 4) (pos 9)) (pos 4)
+    ∷ case ℤ (nodeValue 3 (pos 7) (pos 8) (pos 1) (pos 2)) (pos 1)
+    ∷ case ℤ (nodeValue 3 (pos 8) (pos 7) (pos 1) (pos 2)) (pos 2)
+    ∷ case ℤ (nodeValue 0 (pos 5) (pos 8) (pos 0) (pos 0)) (negsuc 2)
+    ∷ case ℤ (nodeValue 0 m minus-m (pos 0) (pos 0)) m
+    ∷ case ℤ (nodeValue 0 minus-m m (pos 0) (pos 0)) minus-m
+    ∷ case ℤ (nodeValue 1 m m (pos 0) (pos 0)) m
+    ∷ case ℤ (nodeValue 1 m minus-m (pos 0) (pos 0)) minus-m
+    ∷ case ℤ (nodeValue 1 (pos 131072) (pos 3) (pos 0) (pos 0)) (pos 6)
+    ∷ case ℤ (nodeValue 2 (pos 6) (pos 0) (negsuc 4) (pos 5)) (pos 5)
+    ∷ case ℤ (nodeValue 2 (negsuc 5) (pos 0) (negsuc 4) (pos 5)) (negsuc 4)
+    ∷ case ℤ (nodeValue 2 (pos 4) (pos 9) (negsuc 4) (pos 5)) (pos 4)
     -- a due value of −M passes, −M − 1 bars
     ∷ case ℤ (intAt (lazily (pump (negsuc 1073741822) 1 (negsuc 0) (pos 65536)) 1 .q) 0) minus-m
     ∷ case ℕ (statusNumber (statusOf (pump (negsuc 1073741822) 1 (negsuc 1) (pos 65536)) (lazily (pump (negsuc 1073741822) 1 (negsuc 1) (pos 65536)) 0))) 2
@@ -237,11 +237,11 @@ further =
     ∷ case ℕ (statusIntegrator (statusOf (planIn rangeFile) (startOf (planIn rangeFile)))) 1
     ∷ case ℕ (lazily (planIn rangeFile) 5 .clocks .clock) 0
     ∷ case ℤ (intAt (lazily (planIn rangeFile) 5 .inputs) 0) (pos 5)
-    ∷ case (List ℕ) (events (planIn rangeFile) Eager 5 (startOf (planIn rangeFile))) []
+    ∷ case (List ℕ) (eventsOfRun (planIn rangeFile) Eager 5 (startOf (planIn rangeFile))) []
     ∷ case ℕ (statusIntegrator (plainStatus (planIn rangeFile) (plainAfter (planIn rangeFile) 5))) 1
     -- two commands at one tick are one instant, by ascending source; a command that repeats a value, at the horizon, is obeyed
     ∷ case Bool (accepted commandsFile) true
-    ∷ case (List ℕ) (events (planIn commandsFile) Lazy 1 (startOf (planIn commandsFile))) (2 ∷ 0 ∷ 0 ∷ 0 ∷ 1 ∷ 0 ∷ 0 ∷ 0 ∷ 7 ∷ 0 ∷ 0 ∷ 0 ∷ 2 ∷ 0 ∷ 0 ∷ 0 ∷ 2 ∷ 0 ∷ 0 ∷ 0 ∷ 248 ∷ 255 ∷ 255 ∷ 255 ∷ [])
+    ∷ case (List ℕ) (eventsOfRun (planIn commandsFile) Lazy 1 (startOf (planIn commandsFile))) (2 ∷ 0 ∷ 0 ∷ 0 ∷ 1 ∷ 0 ∷ 0 ∷ 0 ∷ 7 ∷ 0 ∷ 0 ∷ 0 ∷ 2 ∷ 0 ∷ 0 ∷ 0 ∷ 2 ∷ 0 ∷ 0 ∷ 0 ∷ 248 ∷ 255 ∷ 255 ∷ 255 ∷ [])
     ∷ case ℕ (lazily (planIn commandsFile) 1 .clocks .next) 2
     ∷ case (List ℤ) (lazily (planIn commandsFile) 1 .inputs) (pos 7 ∷ negsuc 7 ∷ replicate 6 (pos 0))
     ∷ case ℕ (lazily (planIn commandsFile) 64 .clocks .instants) 2
@@ -252,7 +252,7 @@ further =
     -- due and commanded at one tick: events by ascending source, a coefficient below 0, both new values in the slopes, each level by its
     -- own quantum
     ∷ case Bool (accepted meetFile) true
-    ∷ case (List ℕ) (events (planIn meetFile) Lazy 1 (startOf (planIn meetFile)))
+    ∷ case (List ℕ) (eventsOfRun (planIn meetFile) Lazy 1 (startOf (planIn meetFile)))
     (4 ∷ 0 ∷ 0 ∷ 0 ∷ 0 ∷ 0 ∷ 0 ∷ 0 ∷ 12 ∷ 0 ∷ 0 ∷ 0 ∷ 4 ∷ 0 ∷ 0 ∷ 0 ∷ 2 ∷ 0 ∷ 0 ∷ 0 ∷ 5 ∷ 0 ∷ 0 ∷ 0 ∷ [])
     ∷ case (List ℤ) (lazily (planIn meetFile) 1 .s) (pos 5 ∷ negsuc 11 ∷ replicate 30 (pos 0))
     ∷ case (List ℕ) (lazily (planIn meetFile) 1 .d) (6 ∷ 88 ∷ replicate 30 0)
@@ -316,7 +316,7 @@ unfolding further ceilDiv limited within countOf numberAt bytesOf signedOf unsig
     valueOf sumOver rateOf upperLevel lowerLevel distance ticksTo dueTick dueOf nextCommand commandTick leastDue nextTick startSlope
     startDue startOf startState idleState isDue setsInput isCommanded changes dependsWith linkReaches reached positionAt inputThen
     inputsThen moves eventBytes eventsAt outputsThen slopeThen xThen dueThen figuresAfter nextTickOf instant eventsOf bars barring statusNumber statusIntegrator statusPaused
-    statusBy statusAt statusOf isPaused after events positionOf withRatesAndDues plainStart plainNextTick plainPosition plainOutputs plainInstant
+    statusBy statusAt statusOf isPaused afterRun eventsOfRun positionOf withRatesAndDues plainStart plainNextTick plainPosition plainOutputs plainInstant
     plainStatus plainEventsOf plainEventsFrom plainEvents lazyCount plainFrom plainAfter planSound runningUnusedZero integratorSound runningSound isSound
 further-right =
     refl & refl & refl & refl & refl & refl & refl & refl & refl & refl & refl & refl & refl & refl & refl & refl & refl & refl & refl & refl &

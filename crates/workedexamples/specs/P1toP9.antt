@@ -30,7 +30,7 @@ use Rattle.machine.specs.Reach.{isDue, setsInput, isCommanded, changes, depends
 use Rattle.machine.specs.Instant.{positionAt, inputThen, inputsThen, moves, eventBytes, eventsAt, outputsThen, slopeThen, xThen, dueThen, figuresAfter}
 use Rattle.machine.specs.Instant.{nextTickOf, instant, eventsOf}
 use Rattle.machine.specs.Status.{statusNumber, statusPaused, bars, barring, statusBy, statusAt, statusOf, isPaused}
-use Rattle.machine.specs.Runs.{after, events, positionOf}
+use Rattle.machine.specs.Runs.{afterRun, eventsOfRun, positionOf}
 use Rattle.machine.specs.SoundTest.{planSound, runningUnusedZero, integratorSound, runningSound, isSound}
 use Rattle.machine.specs.declared.Engine.{Engine}
 use Rattle.machine.specs.declared.Engine.the-variants.{Lazy, Eager}
@@ -165,11 +165,11 @@ p6-slopes = case (List ℤ) (loadOf sumsFile .state .run .s) (negsuc 0 ∷ negsu
 
 -- "Node 1 with 1 and −1: −1."
 abbrev p7-product : Case
-p7-product = case ℤ (nodeValue 1 (pos 0) (pos 0) (pos 1) (negsuc 0)) (negsuc 0)
+p7-product = case ℤ (nodeValue 1 (pos 1) (negsuc 0) (pos 0) (pos 0)) (negsuc 0)
 
 -- "Node 3 with a=b: hi.": lo is 1, hi is 2
 abbrev p8-comparison : Case
-p8-comparison = case ℤ (nodeValue 3 (pos 1) (pos 2) (pos 7) (pos 7)) (pos 2)
+p8-comparison = case ℤ (nodeValue 3 (pos 7) (pos 7) (pos 1) (pos 2)) (pos 2)
 
 -- ---- P9: "Due value M passes, M+1 bars."
 
@@ -219,7 +219,7 @@ unfolding p1-to-p9 ceilDiv limited within countOf numberAt bytesOf signedOf unsi
     nodeValue valueWith valueOf sumOver rateOf upperLevel lowerLevel distance ticksTo dueTick dueOf nextCommand commandTick leastDue nextTick
     startSlope startDue startOf startState isDue setsInput isCommanded changes dependsWith linkReaches reached positionAt inputThen
     inputsThen moves eventBytes eventsAt outputsThen slopeThen xThen dueThen figuresAfter nextTickOf instant eventsOf bars barring statusNumber statusPaused statusBy statusAt statusOf
-    isPaused after events positionOf planSound runningUnusedZero integratorSound runningSound isSound digitsIn decimal signedDecimal eventLine
+    isPaused afterRun eventsOfRun positionOf planSound runningUnusedZero integratorSound runningSound isSound digitsIn decimal signedDecimal eventLine
     endLine lineAt linesOf loadOf bytesNeeded runNumberIfSound runNumber ranState ranEvents runOf bufferOfRun positionNumber positionedOf eventLines
     endLineOf listingOfRun listingOf turnState turnMore turnText beginText turnsFrom printedIn
 p1-to-p9-right =

@@ -9,7 +9,7 @@ use Rattle.words.specs.Word.{Bytes}
 use Rattle.plan.specs.Lists.{natAt, intAt}
 use Rattle.plan.specs.Encoding.{encode}
 use Rattle.machine.specs.Status.{statusNumber, statusIntegrator, statusOf}
-use Rattle.machine.specs.Runs.{after, events}
+use Rattle.machine.specs.Runs.{afterRun, eventsOfRun}
 use Rattle.machine.specs.Sound.{Sound}
 use Rattle.machine.specs.declared.State.{State}
 use Rattle.machine.specs.declared.Engine.{Engine}
@@ -39,12 +39,12 @@ pub record AcceptedPromise (st : State) (buffer : List ℕ) : Type 0 where
       → (writeOf st buffer .length ≡ length (encode (st .plan))) × (writeOf st buffer .state ≡ st)
       × (bufferOfWrite st buffer ≡ encode (st .plan) ++ drop (length (encode (st .plan))) buffer)
   pub run : (engine : Engine) (budget : ℕ) → runOf engine st budget buffer .number ≡ 0
-      → (runOf engine st budget buffer .status ≡ statusNumber (statusOf (st .plan) (after (st .plan) engine budget (st .run))))
-      × (runOf engine st budget buffer .integrator ≡ statusIntegrator (statusOf (st .plan) (after (st .plan) engine budget (st .run))))
-      × (runOf engine st budget buffer .written ≡ length (events (st .plan) engine budget (st .run)))
-      × (runOf engine st budget buffer .state ≡ record { plan = st .plan; run = after (st .plan) engine budget (st .run) })
+      → (runOf engine st budget buffer .status ≡ statusNumber (statusOf (st .plan) (afterRun (st .plan) engine budget (st .run))))
+      × (runOf engine st budget buffer .integrator ≡ statusIntegrator (statusOf (st .plan) (afterRun (st .plan) engine budget (st .run))))
+      × (runOf engine st budget buffer .written ≡ length (eventsOfRun (st .plan) engine budget (st .run)))
+      × (runOf engine st budget buffer .state ≡ record { plan = st .plan; run = afterRun (st .plan) engine budget (st .run) })
       × (bufferOfRun engine st budget buffer
-      ≡ events (st .plan) engine budget (st .run) ++ drop (length (events (st .plan) engine budget (st .run))) buffer)
+      ≡ eventsOfRun (st .plan) engine budget (st .run) ++ drop (length (eventsOfRun (st .plan) engine budget (st .run))) buffer)
   -- "Position call: x+s×(c−l) for a numbered integrator"
   pub position : (i : ℕ) → positionedOf st i .number ≡ 0
       → (positionedOf st i .value ≡ intAt (st .run .x) i +ℤ intAt (st .run .s) i *ℤ pos (st .run .clocks .clock - natAt (st .run .l) i))

@@ -24,7 +24,7 @@ use Rattle.machine.specs.Start.{startState}
 use Rattle.machine.specs.Reach.{changes, Changed, reached, Reached}
 use Rattle.machine.specs.Instant.{positionAt, moves, Moves, nextTickOf, instant, eventsOf}
 use Rattle.machine.specs.Status.{statusNumber, statusIntegrator, statusOf}
-use Rattle.machine.specs.Runs.{after, events}
+use Rattle.machine.specs.Runs.{afterRun, eventsOfRun}
 use Rattle.machine.specs.Plain.{Plain, plainStart, plainNextTick, plainPosition, plainInstant, plainEventsOf, plainStatus}
 use Rattle.machine.specs.Plain.{plainAfter, plainEvents}
 use Rattle.machine.specs.declared.Running.{Running}
@@ -156,8 +156,8 @@ abbrev pub ReachMeans : Type 0
 ReachMeans = (p : Plan) (d : List ℕ) (t i : ℕ) → PlanRules p → ReachPromise p d t i
 
 -- an integrator that an instant does not reach keeps its rate
-abbrev pub Frame : Type 0
-Frame =
+abbrev pub UnreachedKeepsRate : Type 0
+UnreachedKeepsRate =
     (p : Plan) (engine : Engine) (r : Running) (i : ℕ) → PlanRules p → (Reached p (r .d) (nextTickOf p r) i → ⊥)
     → rateOf p (instant p engine r .q) (instant p engine r .inputs) i ≡ rateOf p (r .q) (r .inputs) i
 
@@ -195,11 +195,11 @@ StatusMeans =
 
 -- "A run with budget b takes b instants, or fewer if the status is first 1 or 2", from any figures
 pub record RunPromise (p : Plan) (engine : Engine) (r : Running) : Type 0 where
-  pub none : (after p engine 0 r ≡ r) × (events p engine 0 r ≡ [])
-  pub stopped : (b : ℕ) → (statusOf p r ≡ Paused → ⊥) → (after p engine b r ≡ r) × (events p engine b r ≡ [])
+  pub none : (afterRun p engine 0 r ≡ r) × (eventsOfRun p engine 0 r ≡ [])
+  pub stopped : (b : ℕ) → (statusOf p r ≡ Paused → ⊥) → (afterRun p engine b r ≡ r) × (eventsOfRun p engine b r ≡ [])
   pub taken : (b : ℕ) → statusOf p r ≡ Paused
-      → (after p engine (b + 1) r ≡ after p engine b (instant p engine r))
-      × (events p engine (b + 1) r ≡ eventsOf p r ++ events p engine b (instant p engine r))
+      → (afterRun p engine (b + 1) r ≡ afterRun p engine b (instant p engine r))
+      × (eventsOfRun p engine (b + 1) r ≡ eventsOf p r ++ eventsOfRun p engine b (instant p engine r))
 
 abbrev pub RunTakes : Type 0
 RunTakes = (p : Plan) (engine : Engine) (r : Running) → RunPromise p engine r

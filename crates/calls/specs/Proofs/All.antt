@@ -1,7 +1,7 @@
 -- Proof: every promise holds. Assumes nothing.
 use Rattle.calls.specs.Promises.{EveryPromise}
 use Rattle.calls.specs.Proofs.Numbers.{numbers-mean}
-use Rattle.calls.specs.Proofs.Machine.{command-means, next-means, status-means, reach-means, frame, due-least, due-between}
+use Rattle.calls.specs.Proofs.Machine.{command-means, next-means, status-means, reach-means, unreached-keeps-rate, due-least, due-between}
 use Rattle.calls.specs.Proofs.Steps.{values-mean, start-means, steps-mean, run-takes}
 use Rattle.calls.specs.Proofs.Calls.{every-number, accepted, every-buffer, declined}
 use Rattle.calls.specs.Proofs.Files.{every-file, every-view, load-widths}
@@ -35,7 +35,7 @@ every-promise =
       next-means = next-means;
       steps-mean = steps-mean;
       reach-means = reach-means;
-      frame = frame;
+      unreached-keeps-rate = unreached-keeps-rate;
       events-read = events-read;
       status-means = status-means;
       run-takes = run-takes;

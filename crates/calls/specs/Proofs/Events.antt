@@ -34,7 +34,7 @@ module _ (p : Plan) (ok : PlanRules p) (d : List ℕ) (t : ℕ) (position : ℕ 
   inputs = inputsThen p u t
 
   abbrev bytes : List ℕ
-  bytes = eventsAt p t d q inputs
+  bytes = eventsAt p d t q inputs
 
   -- the event of a source that changes
   event-at : (i : ℕ) (value : ℤ) → i < p .counts .n + p .counts .m → Changed p d t i → valueWith p q inputs 0 i ≡ value → ∣ value ∣ ≤ M
@@ -42,9 +42,9 @@ module _ (p : Plan) (ok : PlanRules p) (d : List ℕ) (t : ℕ) (position : ℕ 
   event-at i value h c e small =
       let changed = changes-means p d t i .1 c in
       record {
-        tick = events-tick p t d q inputs i h changed (omega (arith, paused-horizon p d t position paused, ok .horizon));
-        number = events-source p t d q inputs i h changed (omega (arith, limits));
-        signed = events-value p t d q inputs i h changed (rw e small) ∙ e;
+        tick = events-tick p d t q inputs i h changed (omega (arith, paused-horizon p d t position paused, ok .horizon));
+        number = events-source p d t q inputs i h changed (omega (arith, limits));
+        signed = events-value p d t q inputs i h changed (rw e small) ∙ e;
       }
 
   pub events-promise : EventsPromise p d t position bytes
@@ -56,7 +56,7 @@ module _ (p : Plan) (ok : PlanRules p) (d : List ℕ) (t : ℕ) (position : ℕ 
         event-at (p .counts .n + j) (intAt (p .commands .values) e) (omega arith) (commanded j e refl h l tick number)
         (input-value p q inputs j h ∙ input-set p ok u t j e h l tick number)
         (within-size M (intAt (p .commands .values) e) .0 (ok .commands e l .value));
-    no-other = length-events p t d q inputs;
+    no-other = length-events p d t q inputs;
   }
 
 pub events-read : EventsRead

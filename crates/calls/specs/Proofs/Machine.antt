@@ -11,11 +11,11 @@ use Rattle.machine.specs.Next.{nextTick}
 use Rattle.machine.specs.Instant.{positionAt, slopeThen, figuresAfter, nextTickOf, instant}
 use Rattle.machine.specs.Status.{statusNumber, statusIntegrator, statusAt, statusOf}
 use Rattle.machine.specs.Laws.Due.{due-still, due-moving, ticks-least, ticks-rounded, stays-above, stays-below, countdown}
-use Rattle.machine.specs.Laws.Frame.{slope-frame}
+use Rattle.machine.specs.Laws.Unreached.{slope-unreached}
 use Rattle.machine.specs.Laws.Next.{next-due, next-command, next-never, next-one, command-earlier, command-first, command-most}
 use Rattle.machine.specs.Laws.Status.{status-finished, status-range, status-paused, no-integrator}
 use Rattle.machine.specs.Laws.Reach.{changes-means, reached-false}
-use Rattle.calls.specs.Promises.Machine.{CommandMeans, NextPromise, NextMeans, StatusPromise, StatusMeans, ReachMeans, Frame}
+use Rattle.calls.specs.Promises.Machine.{CommandMeans, NextPromise, NextMeans, StatusPromise, StatusMeans, ReachMeans, UnreachedKeepsRate}
 use Rattle.calls.specs.Promises.Machine.{DueLeast, DueBetween}
 
 pub command-means : CommandMeans
@@ -49,10 +49,10 @@ pub reach-means : ReachMeans
 reach-means p d t i rules =
     record { change = changes-means p d t i; reach = Rattle.machine.specs.Laws.Reach.reach-means p d t i rules }
 
-pub frame : Frame
+pub unreached-keeps-rate : UnreachedKeepsRate
 unfolding instant figuresAfter slopeThen
-frame p engine r i rules h =
-    let t = nextTickOf p r in slope-frame p (count-limits p (rules .counts)) r t i (reached-false p (r .d) t i h)
+unreached-keeps-rate p engine r i rules h =
+    let t = nextTickOf p r in slope-unreached p (count-limits p (rules .counts)) r t i (reached-false p (r .d) t i h)
 
 pub due-least : DueLeast
 unfolding dueOf upperLevel lowerLevel

@@ -10,7 +10,7 @@ use lib.ListN.{length, take, drop, replicate, length-append, length-replicate}
 use lib.Seq.{take-append-seam}
 use borrow.Author.Tests.{leb-true, le-leb}
 use Rattle.plan.specs.declared.Plan.{Plan}
-use Rattle.machine.specs.Runs.{after, events}
+use Rattle.machine.specs.Runs.{afterRun, eventsOfRun}
 use Rattle.machine.specs.Sound.{SoundRunning, Sound}
 use Rattle.machine.specs.Laws.SoundTest.{sound-means}
 use Rattle.machine.specs.Laws.Runs.{afterBy, eventsBy, after-by, events-by, after-append, events-append, run-sound}
@@ -26,22 +26,22 @@ at p r = record { plan = p; run = r }
 
 -- ---- one call, on any state: it runs for what it feeds the plain machine
 module _ (p : Plan) (r : Running) (c : Call) where
-  pub call-state : answerOf (at p r) c .state ≡ at p (after p (c .engine) (acceptedBudget (at p r) c) r)
-  unfolding answerOf acceptedBudget runOf ranState after
+  pub call-state : answerOf (at p r) c .state ≡ at p (afterRun p (c .engine) (acceptedBudget (at p r) c) r)
+  unfolding answerOf acceptedBudget runOf ranState afterRun
   call-state = go (eqb (runNumber (at p r) (c .budget) (length (c .buffer))) 0)
     where
-      go : (b : Bool) → cond b (at p (after p (c .engine) (c .budget) r)) (at p r) ≡ at p (after p (c .engine) (cond b (c .budget) 0) r)
+      go : (b : Bool) → cond b (at p (afterRun p (c .engine) (c .budget) r)) (at p r) ≡ at p (afterRun p (c .engine) (cond b (c .budget) 0) r)
       go true = refl
       go false = refl
 
-  pub call-bytes : take (answerOf (at p r) c .written) (bufferOf (at p r) c) ≡ events p (c .engine) (acceptedBudget (at p r) c) r
-  unfolding answerOf bufferOf acceptedBudget runOf bufferOfRun ranEvents events
+  pub call-bytes : take (answerOf (at p r) c .written) (bufferOf (at p r) c) ≡ eventsOfRun p (c .engine) (acceptedBudget (at p r) c) r
+  unfolding answerOf bufferOf acceptedBudget runOf bufferOfRun ranEvents eventsOfRun
   call-bytes = go (eqb (runNumber (at p r) (c .budget) (length (c .buffer))) 0)
     where
       bytes : List ℕ
-      bytes = events p (c .engine) (c .budget) r
+      bytes = eventsOfRun p (c .engine) (c .budget) r
 
-      go : (b : Bool) → take (cond b (length bytes) 0) (cond b (writtenOver bytes (c .buffer)) (c .buffer)) ≡ events p (c .engine) (cond b (c .budget) 0) r
+      go : (b : Bool) → take (cond b (length bytes) 0) (cond b (writtenOver bytes (c .buffer)) (c .buffer)) ≡ eventsOfRun p (c .engine) (cond b (c .budget) 0) r
       go true = take-append-seam bytes (drop (length bytes) (c .buffer))
       go false = refl
 

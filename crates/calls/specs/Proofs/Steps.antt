@@ -3,7 +3,7 @@ use mathlib.Core.Path.{refl, sym, _∙_}
 use Rattle.plan.specs.Laws.CountLimits.{count-limits}
 use Rattle.machine.specs.Start.{startOf, startState}
 use Rattle.machine.specs.Instant.{positionAt, figuresAfter, nextTickOf, instant}
-use Rattle.machine.specs.Runs.{after, events}
+use Rattle.machine.specs.Runs.{afterRun, eventsOfRun}
 use Rattle.machine.specs.Laws.Runs.{run-stopped, run-taken}
 use Rattle.machine.specs.Laws.StartSound.{start-slope, start-last, start-due}
 use Rattle.machine.specs.Laws.Steps.{moves-means, due-moves, step-due, step-not-due, step-set, step-not-set, step-x, step-l, step-s, step-d}
@@ -31,7 +31,7 @@ values-mean p q u rules =
     }
 
 pub run-takes : RunTakes
-unfolding after events
+unfolding afterRun eventsOfRun
 run-takes p engine r =
     record { none = (refl, refl); stopped = λ b. run-stopped p engine b r; taken = λ b. run-taken p engine b r }
 

@@ -14,7 +14,7 @@ use Rattle.plan.specs.declared.Counts.{Counts}
 use Rattle.plan.specs.declared.Plan.{Plan}
 use Rattle.machine.specs.Instant.{instant, eventsOf}
 use Rattle.machine.specs.Status.{statusPaused, statusOf, isPaused}
-use Rattle.machine.specs.Runs.{after, events}
+use Rattle.machine.specs.Runs.{afterRun, eventsOfRun}
 use Rattle.machine.specs.Sound.{SoundRunning, RunningWidths}
 use Rattle.machine.specs.Laws.Lengths.{instant-bytes}
 use Rattle.machine.specs.Laws.Runs.{run-stopped, run-taken}
@@ -71,9 +71,9 @@ module _ (p : Plan) (engine : Engine) (budget : ℕ) (first : Running) (buffer�
     pub shaped : RunningWidths r
     pub sound : SoundRunning p r
     pub values-are : values ≡ valuesOf p (r .q) (r .inputs)
-    pub figures : after p engine (budget - taken) r ≡ after p engine budget first
-    pub bytes : putAt buffer end (events p engine (budget - taken) r) ≡ putAt buffer₀ 0 (events p engine budget first)
-    pub ends : end + length (events p engine (budget - taken) r) ≡ length (events p engine budget first)
+    pub figures : afterRun p engine (budget - taken) r ≡ afterRun p engine budget first
+    pub bytes : putAt buffer end (eventsOfRun p engine (budget - taken) r) ≡ putAt buffer₀ 0 (eventsOfRun p engine budget first)
+    pub ends : end + length (eventsOfRun p engine (budget - taken) r) ≡ length (eventsOfRun p engine budget first)
     pub same-size : length buffer ≡ length buffer₀
     pub room : end + (budget - taken) * (p .counts .n + p .counts .m) * 12 ≤ length buffer
 
@@ -143,7 +143,7 @@ module _ {p : Plan} {engine : Engine} {budget : ℕ} {first : Running} {buffer�
           → Progress p engine budget first buffer₀ r' values' end' (taken + 1) buffer'
       advanced values-are buffer-is end-is =
           let next = run-taken p engine (budget - (taken + 1)) r paused-now in
-          let rest = events p engine (budget - (taken + 1)) (instant p engine r) in
+          let rest = eventsOfRun p engine (budget - (taken + 1)) (instant p engine r) in
           let same-length = length-put buffer end (eventsOf p r) (omega (arith, room-then)) in
           record {
             shaped = rw taken-is (instant-shaped p engine r);
@@ -163,14 +163,14 @@ module _ {p : Plan} {engine : Engine} {budget : ℕ} {first : Running} {buffer�
   abbrev Done : Running → Type 0
   Done r' =
       _≡_ {A = Ended} (record { status = ahead .status; written = end; run = r' }) (endedOf p engine budget first)
-      × (buffer ≡ putAt buffer₀ 0 (events p engine budget first))
+      × (buffer ≡ putAt buffer₀ 0 (eventsOfRun p engine budget first))
 
   module _ {r' : Running} (told : r' ≡ r) where
-    done : (after p engine (budget - taken) r ≡ r) × (events p engine (budget - taken) r ≡ []) → Done r'
+    done : (afterRun p engine (budget - taken) r ≡ r) × (eventsOfRun p engine (budget - taken) r ≡ []) → Done r'
     unfolding endedOf
     done none =
-        let here : r ≡ after p engine budget first = sym (none .0) ∙ now .figures in
-        let written : end ≡ length (events p engine budget first) = omega (arith, now .ends, ap length (none .1)) in
+        let here : r ≡ afterRun p engine budget first = sym (none .0) ∙ now .figures in
+        let written : end ≡ length (eventsOfRun p engine budget first) = omega (arith, now .ends, ap length (none .1)) in
         (rw (told, status-is, written, ← here), sym (put-none buffer end) ∙ rw (none .1) at (now .bytes))
 
     -- by the status
@@ -180,5 +180,5 @@ module _ {p : Plan} {engine : Engine} {budget : ℕ} {first : Running} {buffer�
 
     -- by the budget
     pub spent : budget ≤ taken → Done r'
-    unfolding after events
+    unfolding afterRun eventsOfRun
     spent h = let none : budget - taken ≡ 0 = omega (arith, h) in done (rw none (refl, refl))

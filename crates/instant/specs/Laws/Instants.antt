@@ -32,7 +32,7 @@ use Rattle.machine.specs.Laws.Next.{tick-command}
 use Rattle.machine.specs.Laws.Inputs.{output-value, input-value}
 use Rattle.machine.specs.Laws.Values.{integrator-value, input-source}
 use Rattle.machine.specs.Laws.InstantFigures.{output-kept}
-use Rattle.machine.specs.Laws.Frame.{input-kept}
+use Rattle.machine.specs.Laws.Unreached.{input-kept}
 use Rattle.machine.specs.Laws.Soundness.{Takes, takes-next, output-size, input-then-size}
 use Rattle.machine.specs.declared.Running.{Running}
 use Rattle.machine.specs.declared.Engine.{Engine}
@@ -116,7 +116,7 @@ module _ (p : Plan) (r : Running) {t due : ℕ} {ranges reach : List ℕ} {value
       rw e (omega (arith, ok .instants, ok .clock, rules .horizon, countOf-le moved 32))
 
   -- ---- 1. and 2.
-  pub outputs-ready : DuePositionsReady due t (r .x) (r .s) (r .l)
+  pub outputs-ready : DuePositionsReady t due (r .x) (r .s) (r .l)
   outputs-ready = due-ready p r (ready .sound) (ready .tick) (ready .due-set)
 
   pub commands-ready : CommandsInRange (p .counts .n) (p .counts .commands) (p .commands .inputs) (r .clocks .next)
@@ -229,10 +229,10 @@ module _ (p : Plan) (r : Running) {t due : ℕ} {ranges reach : List ℕ} {value
             (λ j l. value-then (p .counts .n + j) (omega arith) ∙ input-source p q u j l ∙ sym (input-value p q u j l))
 
         -- ---- events
-        pub events-ready-then : EventsReady changed t v3 at size
+        pub events-ready-then : EventsReady t changed v3 at size
         events-ready-then = events-ready p rules (r .d) t q u v3 changed changed-then first-then at size (ready .room) (λ i h. sized-then i)
 
-        pub events-then : eventsIn changed t v3 ≡ eventsOf p r
+        pub events-then : eventsIn t changed v3 ≡ eventsOf p r
         unfolding eventsOf
         events-then = events-are p rules (r .d) t q u v3 changed changed-then first-then ∙ rw (ready .tick)
 

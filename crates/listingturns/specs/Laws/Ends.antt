@@ -8,7 +8,7 @@ use lib.ListN.{replicate, replicate-append-replicate}
 use Rattle.plan.specs.declared.Plan.{Plan}
 use Rattle.machine.specs.Instant.{figuresAfter, nextTickOf, instant}
 use Rattle.machine.specs.Status.{statusOf, isPaused}
-use Rattle.machine.specs.Runs.{after, events}
+use Rattle.machine.specs.Runs.{afterRun, eventsOfRun}
 use Rattle.machine.specs.Sound.{SoundRunning}
 use Rattle.machine.specs.Laws.Runs.{afterBy, after-by, events-by, after-append, events-append, run-stopped}
 use Rattle.machine.specs.Laws.Soundness.{tick-after, instant-sound}
@@ -19,12 +19,12 @@ use Rattle.machine.specs.declared.Status.the-variants.{Paused}
 
 module _ (p : Plan) (engine : Engine) where
   -- ---- a budget in two parts
-  pub after-parts : (a b : ℕ) (r : Running) → after p engine (a + b) r ≡ after p engine b (after p engine a r)
+  pub after-parts : (a b : ℕ) (r : Running) → afterRun p engine (a + b) r ≡ afterRun p engine b (afterRun p engine a r)
   after-parts a b r =
       rw (after-by p engine (a + b) r, after-by p engine a r, after-by p engine b (afterBy p (replicate a engine) r), ← replicate-append-replicate a b engine)
       (after-append p (replicate a engine) (replicate b engine) r)
 
-  pub events-parts : (a b : ℕ) (r : Running) → events p engine (a + b) r ≡ events p engine a r ++ events p engine b (after p engine a r)
+  pub events-parts : (a b : ℕ) (r : Running) → eventsOfRun p engine (a + b) r ≡ eventsOfRun p engine a r ++ eventsOfRun p engine b (afterRun p engine a r)
   events-parts a b r =
       rw (
         events-by p engine (a + b) r,
@@ -40,22 +40,22 @@ module _ (p : Plan) (engine : Engine) where
   instant-clock r ok = tick-after p r ok
 
   -- ---- the budget that is enough: each instant moves the clock on, and none is behind the horizon
-  pub stops : (b : ℕ) (r : Running) → SoundRunning p r → p .horizon ≤ b + r .clocks .clock → statusOf p (after p engine b r) ≡ Paused → ⊥
-  unfolding after
+  pub stops : (b : ℕ) (r : Running) → SoundRunning p r → p .horizon ≤ b + r .clocks .clock → statusOf p (afterRun p engine b r) ≡ Paused → ⊥
+  unfolding afterRun
   stops zero r ok h e =
       let l : nextTickOf p r ≤ p .horizon = tick-horizon p r (is-paused p r e) in omega (arith, tick-after p r ok)
   stops (suc b) r ok h e = go (isPaused p r) refl e (λ t. stops b (instant p engine r) (instant-sound p r ok t engine) (omega (arith, instant-clock r ok)))
     where
-      go : (c : Bool) → isPaused p r ≡ c → statusOf p (cond c (after p engine b (instant p engine r)) r) ≡ Paused
-          → (isPaused p r ≡ true → statusOf p (after p engine b (instant p engine r)) ≡ Paused → ⊥) → ⊥
+      go : (c : Bool) → isPaused p r ≡ c → statusOf p (cond c (afterRun p engine b (instant p engine r)) r) ≡ Paused
+          → (isPaused p r ≡ true → statusOf p (afterRun p engine b (instant p engine r)) ≡ Paused → ⊥) → ⊥
       go true t s ih = ih t s
       go false t s ih = true≢false (sym (is-paused p r s) ∙ t)
 
   -- a larger budget ends at the same place, with the same events
   module _ (b k : ℕ) (r : Running) (ok : SoundRunning p r) (h : p .horizon ≤ b + r .clocks .clock) where
-    pub after-enough : after p engine (b + k) r ≡ after p engine b r
-    after-enough = after-parts b k r ∙ run-stopped p engine k (after p engine b r) (stops b r ok h) .0
+    pub after-enough : afterRun p engine (b + k) r ≡ afterRun p engine b r
+    after-enough = after-parts b k r ∙ run-stopped p engine k (afterRun p engine b r) (stops b r ok h) .0
 
-    pub events-enough : events p engine (b + k) r ≡ events p engine b r
+    pub events-enough : eventsOfRun p engine (b + k) r ≡ eventsOfRun p engine b r
     events-enough =
-        events-parts b k r ∙ rw (run-stopped p engine k (after p engine b r) (stops b r ok h) .1) (append-nil (events p engine b r))
+        events-parts b k r ∙ rw (run-stopped p engine k (afterRun p engine b r) (stops b r ok h) .1) (append-nil (eventsOfRun p engine b r))

@@ -16,7 +16,7 @@ use Rattle.machine.specs.Values.{valueWith}
 use Rattle.machine.specs.Reach.{changes}
 use Rattle.machine.specs.Instant.{eventBytes, eventsAt, inputsThen, outputsThen, nextTickOf, instant, eventsOf}
 use Rattle.machine.specs.Status.{isPaused}
-use Rattle.machine.specs.Runs.{events}
+use Rattle.machine.specs.Runs.{eventsOfRun}
 use Rattle.machine.specs.Laws.EventWords.{length-event, event-source}
 use Rattle.machine.specs.declared.Running.{Running}
 use Rattle.machine.specs.declared.Engine.{Engine}
@@ -66,11 +66,11 @@ module _ (p : Plan) (few : p .counts .n + p .counts .m ≤ 10 ^ 2) where
       let t = nextTickOf p r in
       chosen (changes p (r .d) t) t (λ i. valueWith p (outputsThen p r t) (inputsThen p (r .inputs) t) zero i) (p .counts .n + p .counts .m) few
 
-  pub run-list : (engine : Engine) (b : ℕ) (r : Running) → EventList (events p engine b r)
-  unfolding events
+  pub run-list : (engine : Engine) (b : ℕ) (r : Running) → EventList (eventsOfRun p engine b r)
+  unfolding eventsOfRun
   run-list engine zero r = none
   run-list engine (suc b) r = go (isPaused p r) (run-list engine b (instant p engine r))
     where
-      go : (c : Bool) → EventList (events p engine b (instant p engine r)) → EventList (cond c (eventsOf p r ++ events p engine b (instant p engine r)) [])
+      go : (c : Bool) → EventList (eventsOfRun p engine b (instant p engine r)) → EventList (cond c (eventsOf p r ++ eventsOfRun p engine b (instant p engine r)) [])
       go true rest = both (instant-list r) rest
       go false rest = none

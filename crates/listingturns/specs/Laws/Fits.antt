@@ -10,7 +10,7 @@ use lib.ListN.{length, length-append, length-take}
 use Rattle.words.specs.Word.{Bytes}
 use Rattle.plan.specs.declared.Plan.{Plan}
 use Rattle.machine.specs.Status.{statusNumber, statusOf}
-use Rattle.machine.specs.Runs.{events}
+use Rattle.machine.specs.Runs.{eventsOfRun}
 use Rattle.machine.specs.Sound.{Sound, SoundRunning}
 use Rattle.machine.specs.Laws.Lengths.{events-are-bytes}
 use Rattle.machine.specs.Laws.Status.{number-most}
@@ -31,16 +31,16 @@ use Rattle.listingturns.specs.Laws.Joined.{event-list, listing-stops, tu
 
 module _ (p : Plan) (r : Running) (ok : SoundRunning p r) where
   -- at most 2,560 events of 12 bytes
-  pub bytes-most : length (events p Lazy 64 r) ≤ 30720
+  pub bytes-most : length (eventsOfRun p Lazy 64 r) ≤ 30720
   unfolding bytesNeeded
   bytes-most = omega (arith, state-limits p r ok .bytes Lazy 64, state-limits p r ok .listing)
 
-  pub lines-fit : length (eventLines (events p Lazy 64 r)) ≤ 66560
+  pub lines-fit : length (eventLines (eventsOfRun p Lazy 64 r)) ≤ 66560
   unfolding eventLines
   lines-fit =
       let list = event-list p r ok 64 in
-      let count : length (events p Lazy 64 r) / 12 ≤ list .count = omega (arith, list .size) in
-      omega (arith, bytes-most, lines-most (events-are-bytes p Lazy 64 r) (length (events p Lazy 64 r) / 12) (λ i h. list .sources i (omega arith)))
+      let count : length (eventsOfRun p Lazy 64 r) / 12 ≤ list .count = omega (arith, list .size) in
+      omega (arith, bytes-most, lines-most (events-are-bytes p Lazy 64 r) (length (eventsOfRun p Lazy 64 r) / 12) (λ i h. list .sources i (omega arith)))
 
   pub closing-fits : length (endLineOf p r) ≤ 40
   unfolding endLineOf
@@ -54,7 +54,7 @@ unfolding turnText turnState ranState ranEvents
 turn-fits st ok = go (turnMore st)
   where
     lines : List ℕ
-    lines = eventLines (events (st .plan) Lazy 64 (st .run))
+    lines = eventLines (eventsOfRun (st .plan) Lazy 64 (st .run))
 
     go : (more : Bool) → length (lines ++ cond more [] (endLineOf (st .plan) (turnState st .run))) ≤ 66600
     go true = omega (arith, length-append lines [], lines-fit (st .plan) (st .run) ok)

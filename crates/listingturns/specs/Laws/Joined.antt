@@ -11,7 +11,7 @@ use Rattle.plan.specs.Lists.{joined}
 use Rattle.plan.specs.Laws.CountLimits.{count-limits}
 use Rattle.plan.specs.declared.Plan.{Plan}
 use Rattle.machine.specs.Status.{statusOf, isPaused}
-use Rattle.machine.specs.Runs.{after, events}
+use Rattle.machine.specs.Runs.{afterRun, eventsOfRun}
 use Rattle.machine.specs.Sound.{Sound, SoundRunning}
 use Rattle.machine.specs.Laws.Runs.{afterBy, after-by, run-stopped, run-sound, clock-moves}
 use Rattle.machine.specs.Laws.Status.{is-paused}
@@ -43,14 +43,14 @@ lines-both front rest a b =
 
 -- ---- the listing from a sound state on
 module _ (p : Plan) (r : Running) (ok : SoundRunning p r) where
-  pub event-list : (b : ℕ) → EventList (events p Lazy b r)
+  pub event-list : (b : ℕ) → EventList (eventsOfRun p Lazy b r)
   event-list b = run-list p (omega (arith, count-limits p (ok .plan .counts))) Lazy b r
 
   abbrev then : Running
-  then = after p Lazy 64 r
+  then = afterRun p Lazy 64 r
 
   -- 64 instants, and the listing from there on
-  pub listed-turn : SoundRunning p then → (b : ℕ) → p .horizon ≤ b + r .clocks .clock → listingOfRun p b r ≡ eventLines (events p Lazy 64 r) ++ listingOfRun p b then
+  pub listed-turn : SoundRunning p then → (b : ℕ) → p .horizon ≤ b + r .clocks .clock → listingOfRun p b r ≡ eventLines (eventsOfRun p Lazy 64 r) ++ listingOfRun p b then
   unfolding listingOfRun
   listed-turn next b h =
       let lists = run-list p (omega (arith, count-limits p (ok .plan .counts))) Lazy in
@@ -60,9 +60,9 @@ module _ (p : Plan) (r : Running) (ok : SoundRunning p r) where
         add-comm b 64,
         after-parts p Lazy 64 b r,
         events-parts p Lazy 64 b r,
-        lines-both (events p Lazy 64 r) (events p Lazy b then) (lists 64 r) (lists b then),
+        lines-both (eventsOfRun p Lazy 64 r) (eventsOfRun p Lazy b then) (lists 64 r) (lists b then),
       )
-      (append-assoc (eventLines (events p Lazy 64 r)) (eventLines (events p Lazy b then)) (endLineOf p (after p Lazy b then)))
+      (append-assoc (eventLines (eventsOfRun p Lazy 64 r)) (eventLines (eventsOfRun p Lazy b then)) (endLineOf p (afterRun p Lazy b then)))
 
   -- where the status is 1 or 2 already: the end line
   pub listed-stopped : (b : ℕ) → (statusOf p r ≡ Paused → ⊥) → listingOfRun p b r ≡ endLineOf p r
@@ -75,14 +75,14 @@ unfolding turnState ranState turnMore
 turns-end st ok =
     let p = st .plan in
     let r = st .run in
-    let sound : SoundRunning p (after p Lazy 64 r) = rw (after-by p Lazy 64 r) (run-sound p (replicate 64 Lazy) r ok) in
+    let sound : SoundRunning p (afterRun p Lazy 64 r) = rw (after-by p Lazy 64 r) (run-sound p (replicate 64 Lazy) r ok) in
     record {
       sound = sound;
       plan = refl;
       moves = λ e. (moved p r ok e, sound .clock);
     }
   where
-    moved : (p : Plan) (r : Running) → SoundRunning p r → isPaused p (after p Lazy 64 r) ≡ true → r .clocks .clock < after p Lazy 64 r .clocks .clock
+    moved : (p : Plan) (r : Running) → SoundRunning p r → isPaused p (afterRun p Lazy 64 r) ≡ true → r .clocks .clock < afterRun p Lazy 64 r .clocks .clock
     moved p r ok = rw (after-by p Lazy 64 r) (clock-moves p Lazy (replicate 63 Lazy) r ok)
 
 -- ---- the turns from a sound state on are the listing from there on, in every budget that is enough
@@ -101,7 +101,7 @@ print-from (suc turns) st ok h b l =
     next = turns-end st ok .sound
 
     lines : List ℕ
-    lines = eventLines (events p Lazy 64 (st .run))
+    lines = eventLines (eventsOfRun p Lazy 64 (st .run))
 
     go : (more : Bool) → turnMore st ≡ more → (turnMore st ≡ true → turnsFrom turns (turnState st) ≡ listingOfRun p b (turnState st .run))
         → (lines ++ cond more [] (endLineOf p (turnState st .run))) ++ cond more (turnsFrom turns (turnState st)) [] ≡ listingOfRun p b (st .run)

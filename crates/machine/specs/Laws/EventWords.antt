@@ -47,32 +47,32 @@ module _ (t source : ℕ) (value : ℤ) where
 abbrev pub eventOf : (p : Plan) (t : ℕ) (q u : List ℤ) (i : ℕ) → List ℕ
 eventOf p t q u i = eventBytes t i (valueWith p q u zero i)
 
-module _ (p : Plan) (t : ℕ) (d : List ℕ) (q u : List ℤ) where
+module _ (p : Plan) (d : List ℕ) (t : ℕ) (q u : List ℤ) where
   length-one : (i : ℕ) → length (eventOf p t q u i) ≡ 12
   length-one i = length-event t i (valueWith p q u zero i)
 
-  pub length-events : length (eventsAt p t d q u) ≡ 12 * countOf (changes p d t) (p .counts .n + p .counts .m)
+  pub length-events : length (eventsAt p d t q u) ≡ 12 * countOf (changes p d t) (p .counts .n + p .counts .m)
   unfolding eventsAt
   length-events = length-chosen (changes p d t) (eventOf p t q u) 12 length-one (p .counts .n + p .counts .m)
 
   -- the event of source i stands behind those of the sources below it
   module _ (i : ℕ) (h : i < p .counts .n + p .counts .m) (c : changes p d t i ≡ true) where
     pub events-number : (bytes at : ℕ) → at + bytes ≤ 12
-        → numberAt bytes (eventsAt p t d q u) (12 * countOf (changes p d t) i + at) ≡ numberAt bytes (eventOf p t q u i) at
+        → numberAt bytes (eventsAt p d t q u) (12 * countOf (changes p d t) i + at) ≡ numberAt bytes (eventOf p t q u i) at
     unfolding eventsAt
     events-number bytes at l = number-chosen (changes p d t) (eventOf p t q u) 12 length-one bytes (p .counts .n + p .counts .m) i at h c l
 
-    pub events-tick : t < 2 ^ 32 → word (eventsAt p t d q u) (12 * countOf (changes p d t) i) ≡ t
+    pub events-tick : t < 2 ^ 32 → word (eventsAt p d t q u) (12 * countOf (changes p d t) i) ≡ t
     events-tick s = rw add-zero at (events-number 4 0 (omega arith)) ∙ event-tick t i (valueWith p q u zero i) s
 
-    pub events-source : i < 2 ^ 32 → word (eventsAt p t d q u) (12 * countOf (changes p d t) i + 4) ≡ i
+    pub events-source : i < 2 ^ 32 → word (eventsAt p d t q u) (12 * countOf (changes p d t) i + 4) ≡ i
     events-source s = events-number 4 4 (omega arith) ∙ event-source t i (valueWith p q u zero i) s
 
     pub events-value : ∣ valueWith p q u zero i ∣ ≤ M
-        → signedWord (eventsAt p t d q u) (12 * countOf (changes p d t) i + 8) ≡ valueWith p q u zero i
+        → signedWord (eventsAt p d t q u) (12 * countOf (changes p d t) i + 8) ≡ valueWith p q u zero i
     events-value s = ap (signedOf 4) (events-number 4 8 (omega arith)) ∙ event-value t i (valueWith p q u zero i) s
 
 -- the events are bytes
-pub bytes-events : (p : Plan) (t : ℕ) (d : List ℕ) (q u : List ℤ) → Bytes (eventsAt p t d q u)
+pub bytes-events : (p : Plan) (d : List ℕ) (t : ℕ) (q u : List ℤ) → Bytes (eventsAt p d t q u)
 unfolding eventsAt eventBytes
-bytes-events p t d q u = bytes-chosen (changes p d t) (eventOf p t q u) (λ i. bytes-flat _) (p .counts .n + p .counts .m)
+bytes-events p d t q u = bytes-chosen (changes p d t) (eventOf p t q u) (λ i. bytes-flat _) (p .counts .n + p .counts .m)

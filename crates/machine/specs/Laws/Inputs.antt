@@ -18,7 +18,7 @@ use Rattle.machine.specs.Values.{valueWith}
 use Rattle.machine.specs.Reach.{setsInput}
 use Rattle.machine.specs.Instant.{inputThen, inputsThen}
 use Rattle.machine.specs.Laws.Ascending.{entry-unique}
-use Rattle.machine.specs.Laws.Frame.{input-kept}
+use Rattle.machine.specs.Laws.Unreached.{input-kept}
 use Rattle.machine.specs.Laws.Reach.{sets-means, commanded-means}
 
 pub command-unique : (p : Plan) → PlanRules p → (d e : ℕ) → d < p .counts .commands → e < p .counts .commands → natAt (p .commands .ticks) d ≡ natAt (p .commands .ticks) e

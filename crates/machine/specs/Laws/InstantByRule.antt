@@ -18,7 +18,7 @@ use Rattle.machine.specs.Sound.{SoundRunning}
 use Rattle.machine.specs.Laws.BetweenLevels.{BetweenLevels}
 use Rattle.machine.specs.Laws.Due.{due-later}
 use Rattle.machine.specs.Laws.InstantFigures.{output-kept, x-then, x-at, l-at}
-use Rattle.machine.specs.Laws.Frame.{slope-frame}
+use Rattle.machine.specs.Laws.Unreached.{slope-unreached}
 use Rattle.machine.specs.Laws.Positions.{inside, due-is, moved-before, stays-inside}
 use Rattle.machine.specs.declared.Running.{Running}
 
@@ -44,7 +44,7 @@ module _ (p : Plan) (r : Running) (ok : SoundRunning p r) (t : ℕ) (after : r .
 
   -- an integrator that is not reached keeps its slope; one that is not due either keeps its due tick
   pub slope-kept : (i : ℕ) → i < p .counts .n → reached p (r .d) t i ≡ false → slopeThen p r t i ≡ intAt (r .s) i
-  slope-kept i h e = slope-frame p limits r t i e ∙ sym (ok .integrators i h .rate)
+  slope-kept i h e = slope-unreached p limits r t i e ∙ sym (ok .integrators i h .rate)
 
   pub due-kept : (i : ℕ) → i < p .counts .n → isDue (r .d) t i ≡ false → reached p (r .d) t i ≡ false → dueThen p r t i ≡ natAt (r .d) i
   unfolding dueThen dueOf upperLevel lowerLevel

@@ -11,7 +11,7 @@ use Rattle.plan.specs.declared.Plan.{Plan}
 use Rattle.machine.specs.Reach.{changes}
 use Rattle.machine.specs.Instant.{inputsThen, outputsThen, nextTickOf, instant, eventsOf}
 use Rattle.machine.specs.Status.{isPaused}
-use Rattle.machine.specs.Runs.{events}
+use Rattle.machine.specs.Runs.{eventsOfRun}
 use Rattle.machine.specs.Laws.SelectedBlocks.{no-bytes}
 use Rattle.machine.specs.Laws.EventWords.{length-events, bytes-events}
 use Rattle.machine.specs.declared.Running.{Running}
@@ -24,28 +24,28 @@ module _ (p : Plan) where
       let t = nextTickOf p r in
       omega (
         arith,
-        length-events p t (r .d) (outputsThen p r t) (inputsThen p (r .inputs) t),
+        length-events p (r .d) t (outputsThen p r t) (inputsThen p (r .inputs) t),
         countOf-le (changes p (r .d) t) (p .counts .n + p .counts .m),
       )
 
-  pub run-bytes : (engine : Engine) (b : ℕ) (r : Running) → length (events p engine b r) ≤ b * (p .counts .n + p .counts .m) * 12
-  unfolding events
+  pub run-bytes : (engine : Engine) (b : ℕ) (r : Running) → length (eventsOfRun p engine b r) ≤ b * (p .counts .n + p .counts .m) * 12
+  unfolding eventsOfRun
   run-bytes engine zero r = omega arith
   run-bytes engine (suc b) r = go (isPaused p r) (run-bytes engine b (instant p engine r))
     where
       rest : List ℕ
-      rest = events p engine b (instant p engine r)
+      rest = eventsOfRun p engine b (instant p engine r)
 
       go : (c : Bool) → length rest ≤ b * (p .counts .n + p .counts .m) * 12 → length (cond c (eventsOf p r ++ rest) []) ≤ suc b * (p .counts .n + p .counts .m) * 12
       go true h = omega (arith, length-append (eventsOf p r) rest, instant-bytes r)
       go false h = omega arith
 
   -- and they are bytes
-  pub events-are-bytes : (engine : Engine) (b : ℕ) (r : Running) → Bytes (events p engine b r)
-  unfolding events eventsOf
+  pub events-are-bytes : (engine : Engine) (b : ℕ) (r : Running) → Bytes (eventsOfRun p engine b r)
+  unfolding eventsOfRun eventsOf
   events-are-bytes engine zero r = no-bytes
   events-are-bytes engine (suc b) r = go (isPaused p r) (events-are-bytes engine b (instant p engine r))
     where
-      go : (c : Bool) → Bytes (events p engine b (instant p engine r)) → Bytes (cond c (eventsOf p r ++ events p engine b (instant p engine r)) [])
-      go true h = bytes-append (bytes-events p (nextTickOf p r) (r .d) _ _) h
+      go : (c : Bool) → Bytes (eventsOfRun p engine b (instant p engine r)) → Bytes (cond c (eventsOf p r ++ eventsOfRun p engine b (instant p engine r)) [])
+      go true h = bytes-append (bytes-events p (r .d) (nextTickOf p r) _ _) h
       go false h = no-bytes

@@ -9,7 +9,7 @@ use lib.ListN.{length, replicate}
 use Rattle.plan.specs.declared.Plan.{Plan}
 use Rattle.machine.specs.Instant.{figuresAfter, instant, eventsOf}
 use Rattle.machine.specs.Status.{statusPaused, statusOf, isPaused}
-use Rattle.machine.specs.Runs.{after, events}
+use Rattle.machine.specs.Runs.{afterRun, eventsOfRun}
 use Rattle.machine.specs.Plain.{Plain, plainInstant, plainStatus, plainFrom, plainEventsFrom}
 use Rattle.machine.specs.Sound.{SoundRunning}
 use Rattle.machine.specs.Laws.Status.{is-paused, paused-false}
@@ -29,13 +29,13 @@ module _ (p : Plan) where
   eventsBy (engine ∷ engines) r = cond (isPaused p r) (eventsOf p r ++ eventsBy engines (instant p engine r)) []
 
   -- a run by one engine
-  pub after-by : (engine : Engine) (b : ℕ) (r : Running) → after p engine b r ≡ afterBy (replicate b engine) r
-  unfolding after afterBy
+  pub after-by : (engine : Engine) (b : ℕ) (r : Running) → afterRun p engine b r ≡ afterBy (replicate b engine) r
+  unfolding afterRun afterBy
   after-by engine zero r = refl
   after-by engine (suc b) r = rw (after-by engine b (instant p engine r))
 
-  pub events-by : (engine : Engine) (b : ℕ) (r : Running) → events p engine b r ≡ eventsBy (replicate b engine) r
-  unfolding events eventsBy
+  pub events-by : (engine : Engine) (b : ℕ) (r : Running) → eventsOfRun p engine b r ≡ eventsBy (replicate b engine) r
+  unfolding eventsOfRun eventsBy
   events-by engine zero r = refl
   events-by engine (suc b) r = rw (events-by engine b (instant p engine r))
 
@@ -51,16 +51,16 @@ module _ (p : Plan) where
   events-stopped (engine ∷ engines) r e = rw e
 
   -- so a run by one engine stops where it is not paused, and else takes an instant and goes on
-  pub run-stopped : (engine : Engine) (b : ℕ) (r : Running) → (statusOf p r ≡ Paused → ⊥) → (after p engine b r ≡ r) × (events p engine b r ≡ [])
+  pub run-stopped : (engine : Engine) (b : ℕ) (r : Running) → (statusOf p r ≡ Paused → ⊥) → (afterRun p engine b r ≡ r) × (eventsOfRun p engine b r ≡ [])
   unfolding isPaused
   run-stopped engine b r h =
       let e = paused-false (statusOf p r) h in
       (after-by engine b r ∙ after-stopped (replicate b engine) r e, events-by engine b r ∙ events-stopped (replicate b engine) r e)
 
   pub run-taken : (engine : Engine) (b : ℕ) (r : Running) → statusOf p r ≡ Paused
-      → (after p engine (b + 1) r ≡ after p engine b (instant p engine r))
-      × (events p engine (b + 1) r ≡ eventsOf p r ++ events p engine b (instant p engine r))
-  unfolding after events
+      → (afterRun p engine (b + 1) r ≡ afterRun p engine b (instant p engine r))
+      × (eventsOfRun p engine (b + 1) r ≡ eventsOf p r ++ eventsOfRun p engine b (instant p engine r))
+  unfolding afterRun eventsOfRun
   run-taken engine b r h =
       let next : b + 1 ≡ suc b = omega arith in
       let e = is-paused p r h in

@@ -8,7 +8,7 @@ use Rattle.plan.specs.declared.Plan.{Plan}
 use Rattle.machine.specs.Start.{startOf}
 use Rattle.machine.specs.Instant.{inputsThen, outputsThen, figuresAfter, instant}
 use Rattle.machine.specs.Status.{isPaused}
-use Rattle.machine.specs.Runs.{after}
+use Rattle.machine.specs.Runs.{afterRun}
 use Rattle.machine.specs.Sound.{RunningWidths}
 use Rattle.machine.specs.declared.Running.{Running}
 use Rattle.machine.specs.declared.Engine.{Engine}
@@ -38,11 +38,11 @@ module _ (p : Plan) where
         inputs = length-row (pos 0) 8 (p .counts .m) _;
       }
 
-  pub after-shaped : (engine : Engine) (b : ℕ) (r : Running) → RunningWidths r → RunningWidths (after p engine b r)
-  unfolding after
+  pub after-shaped : (engine : Engine) (b : ℕ) (r : Running) → RunningWidths r → RunningWidths (afterRun p engine b r)
+  unfolding afterRun
   after-shaped engine zero r h = h
   after-shaped engine (suc b) r h = go (isPaused p r) (after-shaped engine b (instant p engine r) (instant-shaped engine r))
     where
-      go : (c : Bool) → RunningWidths (after p engine b (instant p engine r)) → RunningWidths (cond c (after p engine b (instant p engine r)) r)
+      go : (c : Bool) → RunningWidths (afterRun p engine b (instant p engine r)) → RunningWidths (cond c (afterRun p engine b (instant p engine r)) r)
       go true ih = ih
       go false ih = h

@@ -34,7 +34,7 @@ size-cond false x y b h k = k
 clipped-size : (z : ℤ) → ∣ clipped z ∣ ≤ M
 clipped-size z = limited-size (negℤ (pos M)) (pos M) z M (omega arith) (omega arith)
 
-pub node-size : (kind : ℕ) (lo hi a b : ℤ) → ∣ lo ∣ ≤ M → ∣ hi ∣ ≤ M → ∣ nodeValue kind lo hi a b ∣ ≤ M
+pub node-size : (kind : ℕ) (lo hi a b : ℤ) → ∣ lo ∣ ≤ M → ∣ hi ∣ ≤ M → ∣ nodeValue kind a b lo hi ∣ ≤ M
 unfolding nodeValue
 node-size kind lo hi a b l h =
     size-cond (eqb kind 0) _ _ M (clipped-size (a -ℤ b))

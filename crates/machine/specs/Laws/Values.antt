@@ -64,8 +64,8 @@ module _ (p : Plan) (q u : List ℤ) where
 
     -- what its kind makes of the values of A and B as they are when it is worked out
     pub worked-out : valueOf p q u own
-        ≡ nodeValue (natAt (p .nodes .kinds) j) (intAt (p .nodes .lows) j) (intAt (p .nodes .highs) j)
-        (valueWith p q u j (natAt (p .nodes .a) j)) (valueWith p q u j (natAt (p .nodes .b) j))
+        ≡ nodeValue (natAt (p .nodes .kinds) j) (valueWith p q u j (natAt (p .nodes .a) j)) (valueWith p q u j (natAt (p .nodes .b) j))
+        (intAt (p .nodes .lows) j) (intAt (p .nodes .highs) j)
     unfolding valueOf valueWith
     worked-out = node-at (p .counts .n + p .counts .m) (valueWith p q u) _ (λ j i. refl) j (p .counts .k) h
 

@@ -12,12 +12,12 @@ use Rattle.moves.proofs.move_one.Statement.{statement}
 use Rattle.moves.proofs.move_one.Tie as tie
 
 -- where the integrator is at t, and its new slope
-place : (c : tie.After-position) → let a = c .before .before .before .before .args in
+x-then : (c : tie.After-position) → let a = c .before .before .before .before .args in
     rd (c .position .result)
     ≡ positionThen (a .quanta .now) (a .sources .now) (a .coefficients .now) (a .ranges .now) (a .t) (a .values .now) (a .i)
     (motion (a .x .now) (a .s .now) (a .l .now) (a .d .now))
 unfolding positionThen
-place c =
+x-then c =
     let a = c .before .before .before .before .args in
     let x : SFits w64 (intAt (a .x .now) (a .i)) = sfits-of (c .before .before .before .position-arg .given) in
     let s : SFits w64 (intAt (a .s .now) (a .i)) = sfits-of (c .before .before .position-arg2 .given) in
@@ -67,11 +67,11 @@ element-copy-out-rate-2 c = search needs
 rate-requires : tie.Need-rate-requires
 rate-requires c κs = search needs
 
-mul-place : tie.Need-mul-place
-mul-place c = search needs
+mul-x-then : tie.Need-mul-x-then
+mul-x-then c = search needs
 
-element-set-from-place : tie.Need-element-set-from-place
-element-set-from-place c = search needs
+element-set-from-x-then : tie.Need-element-set-from-x-then
+element-set-from-x-then c = search needs
 
 mul-slope : tie.Need-mul-slope
 mul-slope c = search needs
@@ -102,7 +102,7 @@ due-tick-requires c κs =
     let r = c .before .before in let p = r .before .before .before in let s = p .before .before .before .before in let a = s .args in
     let output : SFits w64 (intAt (a .values .now) (a .i)) = sfits-of (c .before .due-tick-arg .given) in
     let quantum : SFits w64 (intAt (a .quanta .now) (a .i)) = sfits-of (c .due-tick-arg2 .given) in
-    rw (place p, slope r, toZ-ofZ output, toZ-ofZ quantum) (s .pre .due)
+    rw (x-then p, slope r, toZ-ofZ output, toZ-ofZ quantum) (s .pre .due)
 
 mul-d : tie.Need-mul-d
 mul-d c = search needs
@@ -116,7 +116,7 @@ returns c =
     let output : SFits w64 (intAt (a .values .now) (a .i)) = sfits-of (c .before .before .due-tick-arg .given) in
     let quantum : SFits w64 (intAt (a .quanta .now) (a .i)) = sfits-of (c .before .due-tick-arg2 .given) in
     move-stores (a .quanta .now) (a .sources .now) (a .coefficients .now) (a .ranges .now) (a .t) (a .values .now) (a .i)
-    (motion (a .x .now) (a .s .now) (a .l .now) (a .d .now)) (place p) (slope r)
+    (motion (a .x .now) (a .s .now) (a .l .now) (a .d .now)) (x-then p) (slope r)
     (rw (toZ-ofZ output, toZ-ofZ quantum) at (c .due-tick .ensures))
 
 pub move-one-spec : {M : Type 1} → statement M
@@ -136,8 +136,8 @@ move-one-spec =
     mul-rate-2
     element-copy-out-rate-2
     rate-requires
-    mul-place
-    element-set-from-place
+    mul-x-then
+    element-set-from-x-then
     mul-slope
     element-set-from-slope
     mul-l

@@ -91,9 +91,9 @@ module _ (p : Plan) (r : Running) (sound : SoundRunning p r) (t : ℕ) (takes : 
   abbrev before : Motion
   before = motion (r .x) (r .s) (r .l) (r .d)
 
-  place : (i : ℕ) → positionThen (p .integrators .quanta) (p .links .sources) (p .links .coefficients) (rangesOf p) t values i before ≡ positionAt r t i
+  position-then : (i : ℕ) → positionThen (p .integrators .quanta) (p .links .sources) (p .links .coefficients) (rangesOf p) t values i before ≡ positionAt r t i
   unfolding positionThen positionAt
-  place i = refl
+  position-then i = refl
 
   output : (i : ℕ) → i < p .counts .n → intAt values i ≡ intAt (outputsThen p r t) i
   output i h = same i (omega arith) ∙ integrator-value p (outputsThen p r t) (inputsThen p (r .inputs) t) i h
@@ -110,7 +110,7 @@ module _ (p : Plan) (r : Running) (sound : SoundRunning p r) (t : ℕ) (takes : 
         used = omega (arith, limits .n);
         rated = own-rated p (sound .plan) values sized i h;
         position = ready-at p r sound t (omega (arith, takes .after)) i h (takes .least i h);
-        due = rw (place i, output i h, slope i h) (due-ready-then p r sound t takes i h);
+        due = rw (position-then i, output i h, slope i h) (due-ready-then p r sound t takes i h);
       }
 
   -- integrator i's figures behind the instant, by whether it moves

@@ -40,20 +40,20 @@ module _ (quanta : List ℤ) (sources : List ℕ) (coefficients : List ℤ) (ran
   -- what the move makes of integrator i's figures
   unfoldable pub movedFigures : ℕ → Figures → Figures
   movedFigures i f =
-      let place = f .x +ℤ f .s *ℤ pos (t - f .l) in
+      let xThen = f .x +ℤ f .s *ℤ pos (t - f .l) in
       record {
-        x = place;
+        x = xThen;
         s = slopeOf quanta sources coefficients ranges t values i;
         l = t;
-        d = dueFrom quanta sources coefficients ranges t values i place;
+        d = dueFrom quanta sources coefficients ranges t values i xThen;
       }
 
   -- stored one by one
-  pub move-stores : (j : ℕ) (m : Motion) {place slope : ℤ} {due : ℕ}
-      → place ≡ positionThen quanta sources coefficients ranges t values j m
+  pub move-stores : (j : ℕ) (m : Motion) {xThen slope : ℤ} {due : ℕ}
+      → xThen ≡ positionThen quanta sources coefficients ranges t values j m
       → slope ≡ slopeOf quanta sources coefficients ranges t values j
-      → due ≡ dueTick t place (intAt values j +ℤ intAt quanta j) (intAt values j -ℤ intAt quanta j) slope
-      → motion (set (m .x) j place) (set (m .s) j slope) (set (m .l) j t) (set (m .d) j due) ≡ move j m
+      → due ≡ dueTick t xThen (intAt values j +ℤ intAt quanta j) (intAt values j -ℤ intAt quanta j) slope
+      → motion (set (m .x) j xThen) (set (m .s) j slope) (set (m .l) j t) (set (m .d) j due) ≡ move j m
   unfolding afterMove dueFrom
   move-stores j m p s d = rw (d, p, s)
 

@@ -22,7 +22,7 @@ use Rattle.machine.specs.Laws.SoundTest.{sound-means}
 use Rattle.machine.specs.declared.State.{State}
 use Rattle.machine.specs.Instant.{positionAt}
 use Rattle.machine.specs.Status.{statusNumber, statusIntegrator}
-use Rattle.machine.specs.Runs.{events, positionOf}
+use Rattle.machine.specs.Runs.{eventsOfRun, positionOf}
 use Rattle.machine.specs.declared.Engine.{Engine}
 use Rattle.timing.specs.Ticks.{PositionReady}
 use Rattle.timing.specs.Laws.Statuses.{ready-at}
@@ -98,7 +98,7 @@ module _ (engine : Engine) (st : State) (budget : ℕ) (buffer : List ℕ) where
         -- from what the engine's run answers, the numbers of its status, and the buffer that it leaves
         pub run-accepted : {ended : Ended} {status integrator : ℕ} {after : List ℕ} → ended ≡ endedOf (st .plan) engine budget (st .run)
             → status ≡ statusNumber (ended .status) → integrator ≡ statusIntegrator (ended .status)
-            → after ≡ putAt buffer 0 (events (st .plan) engine budget (st .run))
+            → after ≡ putAt buffer 0 (eventsOfRun (st .plan) engine budget (st .run))
             → RanAs (record {
               number = 0;
               status = status;

@@ -45,7 +45,7 @@ module _ (p : Plan) (rules : PlanRules p) (d : List ℕ) (t : ℕ) (q u values :
   changed-above : (i : ℕ) → p .counts .n + p .counts .m ≤ i → has changed i ≡ false
   changed-above i h = rw mask (has-high (maskOf (changes p d t) (p .counts .n + p .counts .m)) (p .counts .n + p .counts .m) i (maskOf-lt (changes p d t) (p .counts .n + p .counts .m)) h)
 
-  pub events-are : eventsIn changed t values ≡ eventsAt p t d q u
+  pub events-are : eventsIn t changed values ≡ eventsAt p d t q u
   unfolding eventsIn eventsAt
   events-are =
       let limits = count-limits p (rules .counts) in
@@ -59,10 +59,10 @@ module _ (p : Plan) (rules : PlanRules p) (d : List ℕ) (t : ℕ) (q u values :
 
   -- writing them asks for room and for values of their size
   pub events-ready : (at size : ℕ) → at + (p .counts .n + p .counts .m) * 12 ≤ size → ((i : ℕ) → i < p .counts .n + p .counts .m → ∣ intAt values i ∣ ≤ M)
-      → EventsReady changed t values at size
+      → EventsReady t changed values at size
   events-ready at size room sized =
       record {
-        room = omega (arith, ap length events-are, length-events p t d q u, countOf-le (changes p d t) (p .counts .n + p .counts .m));
+        room = omega (arith, ap length events-are, length-events p d t q u, countOf-le (changes p d t) (p .counts .n + p .counts .m));
         sized = λ i h. inside i h (ltb i (p .counts .n + p .counts .m)) refl;
       }
     where

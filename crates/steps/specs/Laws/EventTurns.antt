@@ -36,13 +36,13 @@ module _ (t : ℕ) (values : List ℤ) where
   eventOf i = eventBytes t i (intAt values i)
 
   module _ (m : ℕ) where
-    pub events-first : 0 < m → m < 2 ^ 64 → eventsIn m t values ≡ eventOf (lowestOf 64 m) ++ eventsIn (restOf m) t values
+    pub events-first : 0 < m → m < 2 ^ 64 → eventsIn t m values ≡ eventOf (lowestOf 64 m) ++ eventsIn t (restOf m) values
     unfolding eventsIn
     events-first p h =
         sym (each-append eventOf (has m) 64 []) ∙ each-step (λ i l. l ++ eventOf i) 64 m [] p h
         ∙ each-append eventOf (has (restOf m)) 64 (eventOf (lowestOf 64 m))
 
-    pub events-none : m ≡ 0 → eventsIn m t values ≡ []
+    pub events-none : m ≡ 0 → eventsIn t m values ≡ []
     unfolding eventsIn
     events-none e = sym (each-done (λ i l. l ++ eventOf i) 64 m [] _ e (each-append eventOf (has m) 64 []))
 
@@ -54,30 +54,30 @@ rest-within m p h i e = and-eq-true-iff (has m i) _ .0 (sym (has-rest 64 m i p h
 pub record Writing (t : ℕ) (values : List ℤ) (m at : ℕ) (s : List ℕ) (left end : ℕ) (r : List ℕ) : Type 0 where
   pub fits : left < 2 ^ 64
   pub size : length r ≡ length s
-  pub ready : EventsReady left t values end (length s)
-  pub place : end + length (eventsIn left t values) ≡ at + length (eventsIn m t values)
-  pub bytes : putAt r end (eventsIn left t values) ≡ putAt s at (eventsIn m t values)
+  pub ready : EventsReady t left values end (length s)
+  pub place : end + length (eventsIn t left values) ≡ at + length (eventsIn t m values)
+  pub bytes : putAt r end (eventsIn t left values) ≡ putAt s at (eventsIn t m values)
 
 module _ {t : ℕ} {values : List ℤ} {m at : ℕ} {s : List ℕ} where
-  pub begun : m < 2 ^ 64 → EventsReady m t values at (length s) → Writing t values m at s m at s
+  pub begun : m < 2 ^ 64 → EventsReady t m values at (length s) → Writing t values m at s m at s
   begun h ready = record { fits = h; size = refl; ready = ready; place = refl; bytes = refl }
 
   module _ {left end : ℕ} {r : List ℕ} (w : Writing t values m at s left end r) where
     -- none is left
-    pub finished : left ≡ 0 → (end ≡ at + length (eventsIn m t values)) × (r ≡ putAt s at (eventsIn m t values))
+    pub finished : left ≡ 0 → (end ≡ at + length (eventsIn t m values)) × (r ≡ putAt s at (eventsIn t m values))
     finished e =
         let none = events-none t values left e in
         (omega (arith, w .place, ap length none), sym (put-none r end) ∙ rw none at (w .bytes))
 
     -- a turn: source i is written
     module _ (p : 0 < left) {i : ℕ} (lowest : i ≡ lowestOf 64 left) where
-      one-more : eventsIn left t values ≡ eventOf t values i ++ eventsIn (restOf left) t values
+      one-more : eventsIn t left values ≡ eventOf t values i ++ eventsIn t (restOf left) values
       one-more = rw lowest (events-first t values left p (w .fits))
 
       length-one : length (eventOf t values i) ≡ 12
       length-one = length-event t i (intAt values i)
 
-      length-left : length (eventsIn left t values) ≡ 12 + length (eventsIn (restOf left) t values)
+      length-left : length (eventsIn t left values) ≡ 12 + length (eventsIn t (restOf left) values)
       length-left = rw (one-more, length-append, length-one)
 
       pub room : end + 12 ≤ length r
@@ -91,9 +91,9 @@ module _ {t : ℕ} {values : List ℤ} {m at : ℕ} {s : List ℕ} where
           let there : has left i ≡ true = rw lowest (has-lowest 64 left p (w .fits)) in
           omega (arith, size-mag (intAt values i), w .ready .sized i there)
 
-      behind : putAt (putAt r end (eventOf t values i)) (end + 12) (eventsIn (restOf left) t values) ≡ putAt r end (eventsIn left t values)
+      behind : putAt (putAt r end (eventOf t values i)) (end + 12) (eventsIn t (restOf left) values) ≡ putAt r end (eventsIn t left values)
       behind =
-          rw (one-more, ← put-append r end (eventOf t values i) (omega (arith, room)) (eventsIn (restOf left) t values), length-one)
+          rw (one-more, ← put-append r end (eventOf t values i) (omega (arith, room)) (eventsIn t (restOf left) values), length-one)
 
       pub turn : {rest : ℕ} {u : List ℕ} → rest ≡ restOf left → u ≡ putAt r end (eventOf t values i)
           → Writing t values m at s rest (end + 12) u

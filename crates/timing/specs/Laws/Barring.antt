@@ -51,7 +51,7 @@ module _ {n left : ℕ} (some : 0 < left) (below : left < 2 ^ n) (few : n ≤ 32
 
   module _ (t : ℕ) (x s : List ℤ) (l : List ℕ) where
     -- it bars the instant
-    pub bars-lowest : within M (valueAt t x s l (lowestOf 32 left)) ≡ false → lowestOf 32 left ≡ firstFrom (barsIn left t x s l) 0 n
+    pub bars-lowest : within M (valueAt t x s l (lowestOf 32 left)) ≡ false → lowestOf 32 left ≡ firstFrom (barsIn t left x s l) 0 n
     unfolding barsIn
     bars-lowest e =
         first-unique _ 0 n (lowestOf 32 left)
@@ -64,7 +64,7 @@ module _ {n left : ℕ} (some : 0 < left) (below : left < 2 ^ n) (few : n ≤ 32
 
     -- it does not, and so the rest is looked at
     pub bars-rest : within M (valueAt t x s l (lowestOf 32 left)) ≡ true
-        → firstFrom (barsIn (restOf left) t x s l) 0 n ≡ firstFrom (barsIn left t x s l) 0 n
+        → firstFrom (barsIn t (restOf left) x s l) 0 n ≡ firstFrom (barsIn t left x s l) 0 n
     unfolding barsIn
     bars-rest e = first-ext _ _ 0 n (λ i h. rw (has-rest 32 left i some wide) (go i (eqb i (lowestOf 32 left)) refl (has left i)))
       where
@@ -74,14 +74,14 @@ module _ {n left : ℕ} (some : 0 < left) (below : left < 2 ^ n) (few : n ≤ 32
         go i true d true = rw (eqb-true i (lowestOf 32 left) d, e)
         go i false d true = refl
 
-    pub ready-lowest : DuePositionsReady left t x s l → PositionReady (intAt x (lowestOf 32 left)) (intAt s (lowestOf 32 left)) (natAt l (lowestOf 32 left)) t
+    pub ready-lowest : DuePositionsReady t left x s l → PositionReady (intAt x (lowestOf 32 left)) (intAt s (lowestOf 32 left)) (natAt l (lowestOf 32 left)) t
     ready-lowest r = r .ready (lowestOf 32 left) (has-lowest 32 left some wide)
 
-    pub ready-rest : DuePositionsReady left t x s l → DuePositionsReady (restOf left) t x s l
+    pub ready-rest : DuePositionsReady t left x s l → DuePositionsReady t (restOf left) x s l
     ready-rest r = record { ready = λ i e. r .ready i (and-eq-true-iff (has left i) _ .0 (sym (has-rest 32 left i some wide) ∙ e) .0) }
 
 -- none is left
-pub bars-none : (n t : ℕ) (x s : List ℤ) (l : List ℕ) {left : ℕ} → left ≡ 0 → n ≡ firstFrom (barsIn left t x s l) 0 n
+pub bars-none : (n t : ℕ) (x s : List ℤ) (l : List ℕ) {left : ℕ} → left ≡ 0 → n ≡ firstFrom (barsIn t left x s l) 0 n
 unfolding barsIn
 bars-none n t x s l e =
     rw e

@@ -50,23 +50,23 @@ module _ (p : Plan) (r : Running) where
       go false l = absurd (true≢false (sym e ∙ has-high due (p .counts .n) i (maskOf-lt (isDue (r .d) t) (p .counts .n)) (ltb-false i (p .counts .n) l)))
 
   pub due-ready-from : SoundRunning p r → {t due : ℕ} → r .clocks .clock ≤ t → due ≡ maskOf (isDue (r .d) t) (p .counts .n)
-      → DuePositionsReady due t (r .x) (r .s) (r .l)
+      → DuePositionsReady t due (r .x) (r .s) (r .l)
   due-ready-from ok {t} since e =
       record { ready = λ i b. let h = due-bit t i (rw e at b) in ready-at ok t since i (h .0) (omega (arith, h .1)) }
 
   -- at the next instant, which lies past the clock
   pub due-ready : SoundRunning p r → {t due : ℕ} → t ≡ nextTickOf p r → due ≡ maskOf (isDue (r .d) t) (p .counts .n)
-      → DuePositionsReady due t (r .x) (r .s) (r .l)
+      → DuePositionsReady t due (r .x) (r .s) (r .l)
   due-ready ok e = due-ready-from ok (omega (arith, tick-after p r ok))
 
   -- ---- the status
   pub barring-by-mask : (t : ℕ) {due : ℕ} → due ≡ maskOf (isDue (r .d) t) (p .counts .n)
-      → firstFrom (barsIn due t (r .x) (r .s) (r .l)) 0 (p .counts .n) ≡ barring p (r .d) t (positionAt r t)
+      → firstFrom (barsIn t due (r .x) (r .s) (r .l)) 0 (p .counts .n) ≡ barring p (r .d) t (positionAt r t)
   unfolding barring bars barsIn positionAt
   barring-by-mask t e = rw e (first-ext _ _ 0 (p .counts .n) (λ i h. rw (has-maskOf (isDue (r .d) t) (p .counts .n) i (omega arith))))
 
   -- what `status_at` says for the mask of the due ones
   pub status-by-mask : {t due : ℕ} → t ≡ nextTickOf p r → due ≡ maskOf (isDue (r .d) t) (p .counts .n)
-      → statusBy (p .horizon) (p .counts .n) t (firstFrom (barsIn due t (r .x) (r .s) (r .l)) 0 (p .counts .n)) ≡ statusOf p r
+      → statusBy (p .horizon) (p .counts .n) t (firstFrom (barsIn t due (r .x) (r .s) (r .l)) 0 (p .counts .n)) ≡ statusOf p r
   unfolding statusAt statusOf
   status-by-mask e d = rw (barring-by-mask _ d, e)

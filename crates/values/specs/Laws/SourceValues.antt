@@ -101,11 +101,11 @@ module _ (p : Plan) (q u : List ℤ) (rules : PlanRules p) where
 
   -- a node's value by those of its operands
   node-by-operands : (j : ℕ) → j < p .counts .k
-      → nodeValue (natAt (p .nodes .kinds) j) (intAt (p .nodes .lows) j) (intAt (p .nodes .highs) j) (valueOf p q u (natAt (p .nodes .a) j)) (valueOf p q u (natAt (p .nodes .b) j))
+      → nodeValue (natAt (p .nodes .kinds) j) (valueOf p q u (natAt (p .nodes .a) j)) (valueOf p q u (natAt (p .nodes .b) j)) (intAt (p .nodes .lows) j) (intAt (p .nodes .highs) j)
       ≡ valueOf p q u (base + j)
   node-by-operands j h =
       let below = operands-below p rules j h in
-      ap₂ (nodeValue (natAt (p .nodes .kinds) j) (intAt (p .nodes .lows) j) (intAt (p .nodes .highs) j)) (value-settled p q u j (natAt (p .nodes .a) j) (omega arith) (below .0))
+      ap₂ (λ a b. nodeValue (natAt (p .nodes .kinds) j) a b (intAt (p .nodes .lows) j) (intAt (p .nodes .highs) j)) (value-settled p q u j (natAt (p .nodes .a) j) (omega arith) (below .0))
       (value-settled p q u j (natAt (p .nodes .b) j) (omega arith) (below .1))
       ∙ sym (worked-out p q u rules j h)
 
@@ -142,7 +142,7 @@ module _ (p : Plan) (q u : List ℤ) (rules : PlanRules p) where
         own : nodeFrom (p .nodes .kinds) (p .nodes .a) (p .nodes .b) (p .nodes .lows) (p .nodes .highs) base j now ≡ valueOf p q u (base + j)
         own =
             let b = operands-below p rules j h in
-            ap₂ (nodeValue (natAt (p .nodes .kinds) j) (intAt (p .nodes .lows) j) (intAt (p .nodes .highs) j)) (v .below (natAt (p .nodes .a) j) (b .0))
+            ap₂ (λ a b. nodeValue (natAt (p .nodes .kinds) j) a b (intAt (p .nodes .lows) j) (intAt (p .nodes .highs) j)) (v .below (natAt (p .nodes .a) j) (b .0))
             (v .below (natAt (p .nodes .b) j) (b .1))
             ∙ node-by-operands j h
 

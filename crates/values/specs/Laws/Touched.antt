@@ -15,7 +15,7 @@ use Rattle.plan.specs.Laws.CountLimits.{count-limits}
 use Rattle.plan.specs.declared.Plan.{Plan}
 use Rattle.machine.specs.Reach.{isDue, isCommanded, dependsWith}
 use Rattle.machine.specs.Values.{valueWith, valueOf}
-use Rattle.machine.specs.Laws.Frame.{value-kept}
+use Rattle.machine.specs.Laws.Unreached.{value-kept}
 use Rattle.values.specs.Sources.{valuesOf, nodeStep}
 use Rattle.values.specs.Laws.SourceValues.{values-at, values-unused, touched-worked}
 

@@ -30,10 +30,10 @@ abbrev μ-loop : tie.MeasureT-loop
 
 module _ (c : tie.Start Inv-loop μ-loop) where
   abbrev p : Plan
-  p = c .args .t1 .plan
+  p = c .args .t2 .plan
 
   abbrev r : Running
-  r = c .args .t1 .run
+  r = c .args .t2 .run
 
   abbrev sound : SoundRunning p r
   sound = c .pre .sound
@@ -44,7 +44,7 @@ module _ (c : tie.Start Inv-loop μ-loop) where
   shaped : RunningWidths r
   -- where each array's length is known; `search` alone does not go as far
   shaped =
-      let figures = c .good .0 .1 .1 .1 .0 .1 .1 in
+      let figures = c .good .1 .0 .1 .1 .1 .0 .1 .1 in
       record {
         x = search (needs, figures .0 .1 .0 .1);
         q = search (needs, figures .1 .0 .1 .0 .1);

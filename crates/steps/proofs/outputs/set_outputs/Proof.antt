@@ -20,7 +20,7 @@ use Rattle.steps.proofs.outputs.set_outputs.Tie as tie
 abbrev Inv-loop : tie.InvT-loop
 Inv-loop t due x s l values₀ left₀ values left =
     let f = afterOutput t x s l in
-    (left < 2 ^ 32) × DuePositionsReady left t x s l × (each f (has left) 32 values ≡ each f (has due) 32 values₀)
+    (left < 2 ^ 32) × DuePositionsReady t left x s l × (each f (has left) 32 values ≡ each f (has due) 32 values₀)
 
 abbrev μ-loop : tie.MeasureT-loop
 μ-loop t due x s l values₀ left₀ values left = left

@@ -26,11 +26,11 @@ use Rattle.timing.proofs.status.lowest_barring.Statement.{statement}
 use Rattle.timing.proofs.status.lowest_barring.Tie as tie
 
 abbrev Inv-loop : tie.InvT-loop
-Inv-loop n due t x s l left₀ left =
-    (left < 2 ^ n) × DuePositionsReady left t x s l × (firstFrom (barsIn left t x s l) 0 n ≡ firstFrom (barsIn due t x s l) 0 n)
+Inv-loop n t due x s l left₀ left =
+    (left < 2 ^ n) × DuePositionsReady t left x s l × (firstFrom (barsIn t left x s l) 0 n ≡ firstFrom (barsIn t due x s l) 0 n)
 
 abbrev μ-loop : tie.MeasureT-loop
-μ-loop n due t x s l left₀ left = left
+μ-loop n t due x s l left₀ left = left
 
 -- an element that is read is its bits, read back
 read : (xs : List ℤ) (i : ℕ) → mag (intAt xs i) < 2 ^ hbits w64 → rd (intAt xs i) ≡ intAt xs i

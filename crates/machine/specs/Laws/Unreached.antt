@@ -37,7 +37,7 @@ choice-kept false f g e = g e
 
 -- a node whose operands keep their values where it uses them
 node-kept : (kind : ℕ) (lo hi : ℤ) {a a₀ b b₀ : ℤ} (onA onB : Bool) → (onA ≡ false → a ≡ a₀) → (onB ≡ false → b ≡ b₀)
-    → (onA || (not (eqb kind 2) && onB)) ≡ false → nodeValue kind lo hi a b ≡ nodeValue kind lo hi a₀ b₀
+    → (onA || (not (eqb kind 2) && onB)) ≡ false → nodeValue kind a b lo hi ≡ nodeValue kind a₀ b₀ lo hi
 unfolding nodeValue
 node-kept kind lo hi {a} {a₀} {b} {b₀} onA onB f g e = go (eqb kind 2) refl (both .1)
   where
@@ -47,7 +47,7 @@ node-kept kind lo hi {a} {a₀} {b} {b₀} onA onB f g e = go (eqb kind 2) refl 
     left : a ≡ a₀
     left = f (both .0)
 
-    go : (c : Bool) → eqb kind 2 ≡ c → (not c && onB) ≡ false → nodeValue kind lo hi a b ≡ nodeValue kind lo hi a₀ b₀
+    go : (c : Bool) → eqb kind 2 ≡ c → (not c && onB) ≡ false → nodeValue kind a b lo hi ≡ nodeValue kind a₀ b₀ lo hi
     go true c d = rw (eqb-true kind 2 c, left)
     go false c d = rw (left, g d)
 
@@ -97,8 +97,8 @@ module _ (p : Plan) (d : List ℕ) (t : ℕ) (q u q₀ u₀ : List ℤ)
   rate-kept i e = ap floor65536 (sum-kept i (p .counts .links) e)
 
 -- an integrator that an instant does not reach keeps its rate
-pub slope-frame : (p : Plan) → CountLimits p → (r : Running) (t i : ℕ) → reached p (r .d) t i ≡ false → slopeThen p r t i ≡ rateOf p (r .q) (r .inputs) i
+pub slope-unreached : (p : Plan) → CountLimits p → (r : Running) (t i : ℕ) → reached p (r .d) t i ≡ false → slopeThen p r t i ≡ rateOf p (r .q) (r .inputs) i
 unfolding slopeThen
-slope-frame p limits r t =
+slope-unreached p limits r t =
     rate-kept p (r .d) t (outputsThen p r t) (inputsThen p (r .inputs) t) (r .q) (r .inputs) (output-kept p limits r t)
     (λ j h e. input-kept p (r .inputs) t j (limits .m) h e)
