@@ -12,20 +12,20 @@ use Rattle.plan.specs.Lists.{intAt}
 use Rattle.machine.specs.Due.{dueTick}
 
 -- all but "|q| ≤ M" of `integratorSound`, for an integrator whose links make `rate`
-unfoldable pub figuresSound : (clock : ℕ) (quantum rate x q s : ℤ) (l d : ℕ) → Bool
-figuresSound clock quantum rate x q s l d =
+unfoldable pub figuresSound : (quantum rate : ℤ) (clock : ℕ) (x q s : ℤ) (l d : ℕ) → Bool
+figuresSound quantum rate clock x q s l d =
     leb l clock && ltb clock d
     && ltZ (q -ℤ quantum) x && ltZ x (q +ℤ quantum)
     && eqb ∣ s -ℤ rate ∣ 0
     && eqb d (dueTick l x (q +ℤ quantum) (q -ℤ quantum) s)
 
 -- what the test asks
-pub record FiguresReady (clock : ℕ) (quantum rate q : ℤ) : Type 0 where
+pub record FiguresReady (quantum rate : ℤ) (clock : ℕ) (q : ℤ) : Type 0 where
   pub early : clock ≤ largestHorizon
   pub least : pos 1 ≤ℤ quantum
   pub most : quantum ≤ℤ pos M
   pub slow : ∣ rate ∣ < 2 ^ 44
   pub output : ∣ q ∣ ≤ M
 
-abbrev pub AllReady : (n clock : ℕ) (quanta rates q : List ℤ) → Type 0
-AllReady n clock quanta rates q = (i : ℕ) → i < n → FiguresReady clock (intAt quanta i) (intAt rates i) (intAt q i)
+abbrev pub AllReady : (n : ℕ) (quanta rates : List ℤ) (clock : ℕ) (q : List ℤ) → Type 0
+AllReady n quanta rates clock q = (i : ℕ) → i < n → FiguresReady (intAt quanta i) (intAt rates i) clock (intAt q i)

@@ -10,17 +10,17 @@ use timing::due_tick;
 // "l ≤ c < d; .. |x−q| < D; s and d keep Rate and Due", of one integrator whose links make `rate`. x may be any number of 64 bits, so it is compared with
 // the levels and nothing is taken from it.
 fn integrator_sound(
-    clock: u32,
     quantum: i64,
     rate: i64,
+    clock: u32,
     x: i64,
     q: i64,
     s: i64,
     l: u32,
     d: u32,
 ) -> bool
-    requires { ⌜ FiguresReady clock quantum rate q ⌝ }
-    ensures { λ r. ⌜ r ≡ figuresSound clock quantum rate x q s l d ⌝ }
+    requires { ⌜ FiguresReady quantum rate clock q ⌝ }
+    ensures { λ r. ⌜ r ≡ figuresSound quantum rate clock x q s l d ⌝ }
 {
     if l > clock {
         return false;
@@ -43,22 +43,22 @@ fn integrator_sound(
 // Of each integrator.
 pub fn integrators_sound<'a>(
     n: usize,
-    clock: u32,
     quanta: &'a [i64; INTEGRATORS],
     rates: &'a [i64; INTEGRATORS],
+    clock: u32,
     x: &'a [i64; INTEGRATORS],
     q: &'a [i64; INTEGRATORS],
     s: &'a [i64; INTEGRATORS],
     l: &'a [u32; INTEGRATORS],
     d: &'a [u32; INTEGRATORS],
 ) -> bool
-    requires { ⌜ (n ≤ mostIntegrators) × AllReady n clock (now quanta) (now rates) (now q) ⌝ }
-    ensures { λ r. ⌜ r ≡ every (λ i. figuresSound clock (intAt (now (quanta .entry)) i) (intAt (now (rates .entry)) i) (intAt (now (x .entry)) i)
+    requires { ⌜ (n ≤ mostIntegrators) × AllReady n (now quanta) (now rates) clock (now q) ⌝ }
+    ensures { λ r. ⌜ r ≡ every (λ i. figuresSound (intAt (now (quanta .entry)) i) (intAt (now (rates .entry)) i) clock (intAt (now (x .entry)) i)
         (intAt (now (q .entry)) i) (intAt (now (s .entry)) i) (natAt (now (l .entry)) i) (natAt (now (d .entry)) i)) n ⌝ }
 {
     let mut i: usize = 0;
     while i < n {
-        if !integrator_sound(clock, quanta[i], rates[i], x[i], q[i], s[i], l[i], d[i]) {
+        if !integrator_sound(quanta[i], rates[i], clock, x[i], q[i], s[i], l[i], d[i]) {
             return false;
         }
         i += 1;

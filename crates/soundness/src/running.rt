@@ -71,9 +71,9 @@ pub fn running_sound(plan: Plan, run: Running) -> bool
     );
     if !integrators_sound(
         n,
-        clock,
         &plan.integrators.quanta,
         &slopes,
+        clock,
         &run.x,
         &run.q,
         &run.s,

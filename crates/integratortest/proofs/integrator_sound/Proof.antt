@@ -15,10 +15,10 @@ use Rattle.integratortest.proofs.integrator_sound.Tie as tie
 
 -- the tests in their order, of the arguments at the entry
 abbrev tests : tie.Start → List Bool
-tests c = let a = c .args in figureClauses (a .clock) (a .quantum) (a .rate) (a .x) (a .q) (a .s) (a .l) (a .d)
+tests c = let a = c .args in figureClauses (a .quantum) (a .rate) (a .clock) (a .x) (a .q) (a .s) (a .l) (a .d)
 
-all-of : (c : tie.Start) → let a = c .args in passes (tests c) 6 ≡ figuresSound (a .clock) (a .quantum) (a .rate) (a .x) (a .q) (a .s) (a .l) (a .d)
-all-of c = let a = c .args in figure-tests (a .clock) (a .quantum) (a .rate) (a .x) (a .q) (a .s) (a .l) (a .d)
+all-of : (c : tie.Start) → let a = c .args in passes (tests c) 6 ≡ figuresSound (a .quantum) (a .rate) (a .clock) (a .x) (a .q) (a .s) (a .l) (a .d)
+all-of c = let a = c .args in figure-tests (a .quantum) (a .rate) (a .clock) (a .x) (a .q) (a .s) (a .l) (a .d)
 
 returns : tie.Need-returns
 returns c = fails (begin tests (c .before)) all-of (lit< tt) (lt-leb _ _ (c .if1 .taken))

@@ -12,10 +12,10 @@ use Rattle.integratortest.proofs.integrators_sound.Statement.{statement
 use Rattle.integratortest.proofs.integrators_sound.Tie as tie
 
 abbrev Inv-loop : tie.InvT-loop
-Inv-loop n clock quanta rates x q s l d i₀ i = (i ≤ n) × (every (figuresIn clock quanta rates x q s l d) i ≡ true)
+Inv-loop n quanta rates clock x q s l d i₀ i = (i ≤ n) × (every (figuresIn quanta rates clock x q s l d) i ≡ true)
 
 abbrev μ-loop : tie.MeasureT-loop
-μ-loop n clock quanta rates x q s l d i₀ i = n - i
+μ-loop n quanta rates clock x q s l d i₀ i = n - i
 
 loop-holds : tie.Need-loop-holds Inv-loop μ-loop
 loop-holds c = (search needs, every-none _)
@@ -76,7 +76,7 @@ turn c = c .before .before .before .before .before .before .before .before
 -- what the call has said of the integrator
 answer : (c : tie.After-integrator-sound Inv-loop μ-loop) → let t = turn c .before in let a = t .before .args in
     c .integrator-sound .result
-    ≡ figuresIn (a .clock) (now (a .quanta)) (now (a .rates)) (now (a .x)) (now (a .q)) (now (a .s)) (now (a .l)) (now (a .d)) (t .loop .i)
+    ≡ figuresIn (now (a .quanta)) (now (a .rates)) (a .clock) (now (a .x)) (now (a .q)) (now (a .s)) (now (a .l)) (now (a .d)) (t .loop .i)
 answer c =
     let a5 = c .before .before .before in let a4 = a5 .before in let a3 = a4 .before in let a2 = a3 .before in let a1 = a2 .before in
     rw (

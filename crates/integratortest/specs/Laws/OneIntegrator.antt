@@ -24,15 +24,15 @@ use Rattle.integratortest.specs.Figures.{figuresSound, FiguresReady}
 use Rattle.unused.specs.Laws.EarlyReturns.{passes}
 
 -- the tests of integrator i, where the numbers stand in arrays
-abbrev pub figuresIn : (clock : ℕ) (quanta rates x q s : List ℤ) (l d : List ℕ) (i : ℕ) → Bool
-figuresIn clock quanta rates x q s l d i =
-    figuresSound clock (intAt quanta i) (intAt rates i) (intAt x i) (intAt q i) (intAt s i) (natAt l i) (natAt d i)
+abbrev pub figuresIn : (quanta rates : List ℤ) (clock : ℕ) (x q s : List ℤ) (l d : List ℕ) (i : ℕ) → Bool
+figuresIn quanta rates clock x q s l d i =
+    figuresSound (intAt quanta i) (intAt rates i) clock (intAt x i) (intAt q i) (intAt s i) (natAt l i) (natAt d i)
 
 not-at-most : (a b : ℤ) (t : Bool) → leZ a b ≡ t → ltZ b a ≡ not t
 not-at-most a b true e = omega (arith, zs)
 not-at-most a b false e = omega (arith, zs)
 
-module _ (clock : ℕ) (quantum rate x q s : ℤ) (l d : ℕ) where
+module _ (quantum rate : ℤ) (clock : ℕ) (x q s : ℤ) (l d : ℕ) where
   -- in the order of the code, which is the definition's
   abbrev pub figureClauses : List Bool
   figureClauses =
@@ -44,7 +44,7 @@ module _ (clock : ℕ) (quantum rate x q s : ℤ) (l d : ℕ) where
       ∷ eqb d (dueTick l x (q +ℤ quantum) (q -ℤ quantum) s)
       ∷ []
 
-  pub figure-tests : passes figureClauses 6 ≡ figuresSound clock quantum rate x q s l d
+  pub figure-tests : passes figureClauses 6 ≡ figuresSound quantum rate clock x q s l d
   unfolding passes every figuresSound
   figure-tests = refl
 
@@ -59,7 +59,7 @@ same-rate {s} {rate} f g e = rate-means s rate .1 (same-bits f g e)
 pub other-rate : (s rate : ℤ) → (ofZ w64 s ≡ ofZ w64 rate → ⊥) → eqb ∣ s -ℤ rate ∣ 0 ≡ false
 other-rate s rate h = means-false (rate-means s rate .0) (λ e. h (ap (ofZ w64) e))
 
-module _ {clock : ℕ} {quantum rate q : ℤ} (ready : FiguresReady clock quantum rate q) where
+module _ {quantum rate : ℤ} {clock : ℕ} {q : ℤ} (ready : FiguresReady quantum rate clock q) where
   -- ---- the levels
   pub lower-fits : SFits w64 (q -ℤ quantum)
   lower-fits = omega (arith, zs, dif q quantum, tight quantum)

@@ -67,7 +67,7 @@ module _ (p : Plan) (r : Running) where
   -- the other clauses of integrator i
   abbrev pub figuresAt : ℕ → Bool
   figuresAt i =
-      figuresSound (r .clocks .clock) (intAt (p .integrators .quanta) i) (rateOf p (r .q) (r .inputs) i)
+      figuresSound (intAt (p .integrators .quanta) i) (rateOf p (r .q) (r .inputs) i) (r .clocks .clock)
       (intAt (r .x) i) (intAt (r .q) i) (intAt (r .s) i) (natAt (r .l) i) (natAt (r .d) i)
 
   integrator-both : (i : ℕ) → integratorSound p r i ≡ (outputAt i && figuresAt i)
@@ -125,7 +125,7 @@ module _ (p : Plan) (r : Running) where
       rates-ready =
           (count-limits p (rules .counts) .n, own-rated p rules _ (values-sized p (r .q) (r .inputs) rules output-size input-size))
 
-      pub figures-ready : leb (r .clocks .clock) (p .horizon) ≡ true → AllReady (p .counts .n) (r .clocks .clock) (p .integrators .quanta) slopes (r .q)
+      pub figures-ready : leb (r .clocks .clock) (p .horizon) ≡ true → AllReady (p .counts .n) (p .integrators .quanta) slopes (r .clocks .clock) (r .q)
       figures-ready clock i h = rw (slope-at i h) (
           record {
             early = omega (arith, leb-true (r .clocks .clock) (p .horizon) clock, rules .horizon .1);
@@ -145,5 +145,5 @@ module _ (p : Plan) (r : Running) where
         omega (arith, leb-true (r .clocks .clock) (p .horizon) clock, leb-true (r .clocks .instants) (r .clocks .clock) instants, rules .horizon .1)
 
     -- the test by the slopes that the code has worked out
-    pub figures-same : every (figuresIn (r .clocks .clock) (p .integrators .quanta) slopes (r .x) (r .q) (r .s) (r .l) (r .d)) (p .counts .n) ≡ every figuresAt (p .counts .n)
+    pub figures-same : every (figuresIn (p .integrators .quanta) slopes (r .clocks .clock) (r .x) (r .q) (r .s) (r .l) (r .d)) (p .counts .n) ≡ every figuresAt (p .counts .n)
     figures-same = every-same _ figuresAt (p .counts .n) (λ i h. rw (slope-at i h))
