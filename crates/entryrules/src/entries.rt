@@ -8,6 +8,9 @@ ghost use Rattle.integers.specs.Range.{within};
 ghost use Rattle.plan.specs.Numbers.{M, mostLinks, mostCommands};
 ghost use Rattle.plan.specs.Tests.{horizonKept, integratorTest, nodeTest, linkTest, commandTest, pairAscends, ascendsAt};
 use plan::COMMANDS;
+use plan::KIND_COMPARISON;
+use plan::KIND_LIMIT;
+use plan::KIND_PRODUCT;
 use plan::LARGEST_COEFFICIENT;
 use plan::LARGEST_HORIZON;
 use plan::LINKS;
@@ -66,7 +69,7 @@ pub fn node_kept(own: usize, kind: usize, a: usize, b: usize, lo: i64, hi: i64) 
     if own <= a {
         return false;
     }
-    if kind <= 1 {
+    if kind <= KIND_PRODUCT {
         return arithmetic_kept(own, b, lo, hi);
     }
     if !value_within_m(lo) {
@@ -75,13 +78,13 @@ pub fn node_kept(own: usize, kind: usize, a: usize, b: usize, lo: i64, hi: i64) 
     if !value_within_m(hi) {
         return false;
     }
-    if kind == 2 {
+    if kind == KIND_LIMIT {
         if b != 0 {
             return false;
         }
         return lo <= hi;
     }
-    if kind != 3 {
+    if kind != KIND_COMPARISON {
         return false;
     }
     b < own

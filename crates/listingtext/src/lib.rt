@@ -12,8 +12,8 @@ use plan::EVENT_BYTES;
 use words::read_i32;
 use words::read_u32;
 
-// The ASCII code of a digit.
-const DIGIT: u8 = 48;
+// The ASCII code of the digit 0.
+const DIGIT_0: u8 = 48;
 
 // The digits of a number: those of its tenth first.
 pub fn write_number(buffer: &mut [u8], number: u64) -> usize
@@ -21,11 +21,11 @@ pub fn write_number(buffer: &mut [u8], number: u64) -> usize
     ensures { λ r. ⌜ Printed (decimal number) (now (buffer .entry)) r (now (buffer .exit)) ⌝ }
 {
     if number < 10 {
-        buffer[0] = DIGIT + number as u8;
+        buffer[0] = DIGIT_0 + number as u8;
         return 1;
     }
     let front = write_number(buffer, number / 10);
-    buffer[front] = DIGIT + (number % 10) as u8;
+    buffer[front] = DIGIT_0 + (number % 10) as u8;
     front + 1
 }
 

@@ -23,8 +23,14 @@ use simulator::run_lazy;
 // What one run of the listing program can write, in bytes of events.
 pub const EVENT_SPACE: usize = LISTING_BUDGET as usize * (INTEGRATORS + INPUTS) * EVENT_BYTES;
 
-// And the characters of its text: a line of up to 26 for each event, and an end line of up to 40.
-pub const TEXT_SPACE: usize = LISTING_BUDGET as usize * (INTEGRATORS + INPUTS) * 26 + 40;
+// The most characters of an event's line, and of the end line.
+const EVENT_LINE: usize = 26;
+
+const END_LINE: usize = 40;
+
+// The characters of its text: a line for each event, and an end line.
+pub const TEXT_SPACE: usize = LISTING_BUDGET as usize * (INTEGRATORS + INPUTS) * EVENT_LINE
+    + END_LINE;
 
 // How many bytes of text stand at the start of the buffer, whether a turn follows, and the state for it.
 pub struct Turn {

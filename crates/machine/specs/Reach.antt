@@ -5,6 +5,7 @@ use mathlib.Core.Bool.{Bool, cond, not, _&&_, _||_}
 use mathlib.Core.List.{List}
 use Prim.Native.Nat.{ℕ, zero, suc, _+_, _-_, _<_}
 use lib.Dec.{ltb, eqb}
+use Rattle.plan.specs.Numbers.{kindLimit}
 use Rattle.plan.specs.Lists.{natAt, some}
 use Rattle.plan.specs.declared.Plan.{Plan}
 
@@ -31,7 +32,7 @@ module _ (p : Plan) (d : List ℕ) (t : ℕ) where
   dependsWith zero i = changes i
   dependsWith (suc j) i =
       cond (eqb i (p .counts .n + p .counts .m + j))
-      (dependsWith j (natAt (p .nodes .a) j) || (not (eqb (natAt (p .nodes .kinds) j) 2) && dependsWith j (natAt (p .nodes .b) j)))
+      (dependsWith j (natAt (p .nodes .a) j) || (not (eqb (natAt (p .nodes .kinds) j) kindLimit) && dependsWith j (natAt (p .nodes .b) j)))
       (dependsWith j i)
 
   -- link e is integrator i's own, and names a source that changes or depends on one that does
@@ -51,7 +52,7 @@ module _ (p : Plan) (d : List ℕ) (t : ℕ) where
   pub data Depends : ℕ → Type 0 where
     itself : {i : ℕ} → Changed i → Depends i
     left : {i : ℕ} (j : ℕ) → i ≡ p .counts .n + p .counts .m + j → j < p .counts .k → Depends (natAt (p .nodes .a) j) → Depends i
-    right : {i : ℕ} (j : ℕ) → i ≡ p .counts .n + p .counts .m + j → j < p .counts .k → (natAt (p .nodes .kinds) j ≡ 2 → ⊥) → Depends (natAt (p .nodes .b) j) → Depends i
+    right : {i : ℕ} (j : ℕ) → i ≡ p .counts .n + p .counts .m + j → j < p .counts .k → (natAt (p .nodes .kinds) j ≡ kindLimit → ⊥) → Depends (natAt (p .nodes .b) j) → Depends i
 
   -- "a link of its own names" such a source
   pub data Reached : ℕ → Type 0 where

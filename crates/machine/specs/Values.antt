@@ -7,7 +7,7 @@ use lib.Signed.{leZ}
 use lib.Dec.{ltb, eqb}
 use Rattle.integers.specs.Division.{floor65536}
 use Rattle.integers.specs.Range.{limited}
-use Rattle.plan.specs.Numbers.{M}
+use Rattle.plan.specs.Numbers.{M, kindDifference, kindProduct, kindLimit}
 use Rattle.plan.specs.Lists.{natAt, intAt}
 use Rattle.plan.specs.declared.Plan.{Plan}
 
@@ -19,9 +19,9 @@ clipped z = limited (negℤ (pos M)) (pos M) z
 -- .. 3 is hi if a ≥ b, else lo."
 unfoldable pub nodeValue : (kind : ℕ) (a b lo hi : ℤ) → ℤ
 nodeValue kind a b lo hi =
-    cond (eqb kind 0) (clipped (a -ℤ b))
-    (cond (eqb kind 1) (clipped (floor65536 (a *ℤ b)))
-    (cond (eqb kind 2) (limited lo hi a)
+    cond (eqb kind kindDifference) (clipped (a -ℤ b))
+    (cond (eqb kind kindProduct) (clipped (floor65536 (a *ℤ b)))
+    (cond (eqb kind kindLimit) (limited lo hi a)
     (cond (leZ b a) hi lo)))
 
 -- with the outputs q and the input values u

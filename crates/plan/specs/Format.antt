@@ -7,7 +7,7 @@ use lib.IntN.{ℤ, pos}
 use lib.ListN.{length, take, drop}
 use Rattle.words.specs.Word.{word, signedWord}
 use Rattle.plan.specs.Lists.{natAt, row}
-use Rattle.plan.specs.Numbers.{mostIntegrators, mostInputs, mostNodes, mostLinks, mostCommands, entrySizes, largestCounts, headerLength}
+use Rattle.plan.specs.Numbers.{mostIntegrators, mostInputs, mostNodes, mostLinks, mostCommands, entrySizes, largestCounts, headerLength, sectionIntegrators, sectionInputs, sectionNodes, sectionLinks, sectionCommands}
 use Rattle.plan.specs.declared.Plan.{Plan}
 
 -- "Header, 44 bytes: horizon .., then five pairs of offset and length in bytes"
@@ -65,40 +65,40 @@ planIn file =
     record {
       horizon = horizonIn file;
       counts = record {
-        n = countIn file 0;
-        m = countIn file 1;
-        k = countIn file 2;
-        links = countIn file 3;
-        commands = countIn file 4;
+        n = countIn file sectionIntegrators;
+        m = countIn file sectionInputs;
+        k = countIn file sectionNodes;
+        links = countIn file sectionLinks;
+        commands = countIn file sectionCommands;
       };
       -- "Integrators, .. 8 bytes: signed start ..; quantum"
       integrators = record {
-        starts = signedsIn file 0 0;
-        quanta = unsignedsIn file 0 1;
+        starts = signedsIn file sectionIntegrators 0;
+        quanta = unsignedsIn file sectionIntegrators 1;
       };
       -- "Inputs, .. 4 bytes: signed first value"
       inputs = record {
-        firsts = signedsIn file 1 0;
+        firsts = signedsIn file sectionInputs 0;
       };
       -- "Nodes, .. 20 bytes: kind, A, B, signed lo, signed hi"
       nodes = record {
-        kinds = wordsIn file 2 0;
-        a = wordsIn file 2 1;
-        b = wordsIn file 2 2;
-        lows = signedsIn file 2 3;
-        highs = signedsIn file 2 4;
+        kinds = wordsIn file sectionNodes 0;
+        a = wordsIn file sectionNodes 1;
+        b = wordsIn file sectionNodes 2;
+        lows = signedsIn file sectionNodes 3;
+        highs = signedsIn file sectionNodes 4;
       };
       -- "Links, .. 12 bytes: target integrator, source, signed coefficient"
       links = record {
-        targets = wordsIn file 3 0;
-        sources = wordsIn file 3 1;
-        coefficients = signedsIn file 3 2;
+        targets = wordsIn file sectionLinks 0;
+        sources = wordsIn file sectionLinks 1;
+        coefficients = signedsIn file sectionLinks 2;
       };
       -- "Commands, .. 12 bytes: tick .., input number .., signed value"
       commands = record {
-        ticks = wordsIn file 4 0;
-        inputs = wordsIn file 4 1;
-        values = signedsIn file 4 2;
+        ticks = wordsIn file sectionCommands 0;
+        inputs = wordsIn file sectionCommands 1;
+        values = signedsIn file sectionCommands 2;
       };
     }
 

@@ -5,6 +5,8 @@ use Prim.Native.Nat.{ℕ, _+_, _*_}
 use lib.IntN.{pos}
 use Rattle.plan.specs.declared.numbers.Largest.{Largest}
 use Rattle.plan.specs.declared.numbers.Widths.{Widths}
+use Rattle.plan.specs.declared.numbers.SectionNumbers.{SectionNumbers}
+use Rattle.plan.specs.declared.numbers.Kinds.{Kinds}
 use Rattle.plan.specs.declared.numbers.Sizes.{Sizes}
 use Rattle.plan.specs.declared.numbers.Refusals.{Refusals}
 use Rattle.plan.specs.declared.numbers.Statuses.{Statuses}
@@ -81,6 +83,58 @@ widths =
       sources = sourceWidth;
     }
 
+-- ---- "Sections in order": the number of each, in the header and for the section view
+abbrev pub sectionIntegrators : ℕ
+sectionIntegrators = 0
+
+abbrev pub sectionInputs : ℕ
+sectionInputs = 1
+
+abbrev pub sectionNodes : ℕ
+sectionNodes = 2
+
+abbrev pub sectionLinks : ℕ
+sectionLinks = 3
+
+abbrev pub sectionCommands : ℕ
+sectionCommands = 4
+
+abbrev pub sectionNumbers : SectionNumbers
+sectionNumbers =
+    record {
+      integrators = sectionIntegrators;
+      inputs = sectionInputs;
+      nodes = sectionNodes;
+      links = sectionLinks;
+      commands = sectionCommands;
+    }
+
+-- ---- "Node kinds, with a and b the values of A and B"
+-- "0 is a−b"
+abbrev pub kindDifference : ℕ
+kindDifference = 0
+
+-- "1 is floor(a×b / 65,536)"
+abbrev pub kindProduct : ℕ
+kindProduct = 1
+
+-- "2 is a limited to lo..hi"
+abbrev pub kindLimit : ℕ
+kindLimit = 2
+
+-- "3 is hi if a ≥ b, else lo"
+abbrev pub kindComparison : ℕ
+kindComparison = 3
+
+abbrev pub kinds : Kinds
+kinds =
+    record {
+      difference = kindDifference;
+      product = kindProduct;
+      limit = kindLimit;
+      comparison = kindComparison;
+    }
+
 -- ---- the plan file: the bytes of an entry of each section
 -- "Integrators, .. 8 bytes"
 abbrev pub integratorSize : ℕ
@@ -102,7 +156,7 @@ linkSize = 12
 abbrev pub commandSize : ℕ
 commandSize = 12
 
--- "Sections in order": integrators, inputs, nodes, links, commands; of each the bytes of an entry, and the least and the largest count
+-- how many sections there are; of each the bytes of an entry, and the least and the largest count
 abbrev pub sections : ℕ
 sections = 5
 

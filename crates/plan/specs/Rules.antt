@@ -7,7 +7,7 @@ use Prim.Native.Nat.{ℕ, suc, _+_, _%_, _≤_, _<_}
 use lib.IntN.{ℤ, pos, negℤ}
 use lib.Signed.{_≤ℤ_}
 use lib.ListN.{length, getD}
-use Rattle.plan.specs.Numbers.{M, largestCoefficient, largestHorizon, sections, entrySizes, leastCounts, largestCounts, headerLength}
+use Rattle.plan.specs.Numbers.{M, largestCoefficient, largestHorizon, sections, entrySizes, leastCounts, largestCounts, headerLength, kindProduct, kindLimit, kindComparison}
 use Rattle.plan.specs.Lists.{natAt, intAt}
 use Rattle.plan.specs.Format.{offsetIn, lengthIn}
 use Rattle.plan.specs.Format.{countIn, planIn}
@@ -57,17 +57,17 @@ module _ (p : Plan) where
   Below j source = source < p .counts .n + p .counts .m + j
 
   pub record NodeRule (j : ℕ) : Type 0 where
-    pub kind : natAt (p .nodes .kinds) j ≤ 3
+    pub kind : natAt (p .nodes .kinds) j ≤ kindComparison
     pub left : Below j (natAt (p .nodes .a) j)
     -- "B is 0 and names nothing" in kind 2; the others use it
-    pub right : (natAt (p .nodes .kinds) j ≡ 2 → ⊥) → Below j (natAt (p .nodes .b) j)
-    pub unused : natAt (p .nodes .kinds) j ≡ 2 → natAt (p .nodes .b) j ≡ 0
+    pub right : (natAt (p .nodes .kinds) j ≡ kindLimit → ⊥) → Below j (natAt (p .nodes .b) j)
+    pub unused : natAt (p .nodes .kinds) j ≡ kindLimit → natAt (p .nodes .b) j ≡ 0
     -- kinds 0 and 1 "with lo and hi 0"
-    pub plain : natAt (p .nodes .kinds) j ≤ 1 → (intAt (p .nodes .lows) j ≡ pos 0) × (intAt (p .nodes .highs) j ≡ pos 0)
+    pub plain : natAt (p .nodes .kinds) j ≤ kindProduct → (intAt (p .nodes .lows) j ≡ pos 0) × (intAt (p .nodes .highs) j ≡ pos 0)
     -- "For kinds 2 and 3 lo and hi lie within ±M."
-    pub limits : 2 ≤ natAt (p .nodes .kinds) j → Within M (intAt (p .nodes .lows) j) × Within M (intAt (p .nodes .highs) j)
+    pub limits : kindLimit ≤ natAt (p .nodes .kinds) j → Within M (intAt (p .nodes .lows) j) × Within M (intAt (p .nodes .highs) j)
     -- kind 2 is "a limited to lo..hi, lo ≤ hi"
-    pub order : natAt (p .nodes .kinds) j ≡ 2 → intAt (p .nodes .lows) j ≤ℤ intAt (p .nodes .highs) j
+    pub order : natAt (p .nodes .kinds) j ≡ kindLimit → intAt (p .nodes .lows) j ≤ℤ intAt (p .nodes .highs) j
 
   pub record LinkRule (e : ℕ) : Type 0 where
     pub target : natAt (p .links .targets) e < p .counts .n

@@ -9,7 +9,7 @@ use lib.Dec.{leb, ltb, eqb}
 use lib.ListN.{length}
 use Rattle.integers.specs.Parts.{∣_∣}
 use Rattle.integers.specs.Range.{within}
-use Rattle.plan.specs.Numbers.{M, largestCoefficient, largestHorizon, sections, entrySizes, leastCounts, largestCounts, headerLength}
+use Rattle.plan.specs.Numbers.{M, largestCoefficient, largestHorizon, sections, entrySizes, leastCounts, largestCounts, headerLength, kindProduct, kindLimit, kindComparison}
 use Rattle.plan.specs.Lists.{natAt, intAt, every}
 use Rattle.plan.specs.Format.{offsetIn, lengthIn, requiredOffset, countIn}
 use Rattle.plan.specs.declared.Plan.{Plan}
@@ -45,8 +45,8 @@ integratorTest start quantum = within M start && leZ (pos 1) quantum && leZ quan
 unfoldable pub nodeTest : (own kind a b : ℕ) (lo hi : ℤ) → Bool
 nodeTest own kind a b lo hi =
     ltb a own &&
-    cond (leb kind 1) (ltb b own && eqb ∣ lo ∣ 0 && eqb ∣ hi ∣ 0)
-    (within M lo && within M hi && cond (eqb kind 2) (eqb b 0 && leZ lo hi) (eqb kind 3 && ltb b own))
+    cond (leb kind kindProduct) (ltb b own && eqb ∣ lo ∣ 0 && eqb ∣ hi ∣ 0)
+    (within M lo && within M hi && cond (eqb kind kindLimit) (eqb b 0 && leZ lo hi) (eqb kind kindComparison && ltb b own))
 
 -- "target integrator, source, signed coefficient, not 0, within ±16,777,216", with n integrators and `all` sources
 abbrev pub linkTest : (n all target source : ℕ) (coefficient : ℤ) → Bool

@@ -1,7 +1,7 @@
 // The numbers of document 01 by name. A definition can't cite a constant, so specs/Numbers has each of them again; the functions of this file
 // hand the constants out, a group at a time, and their contracts say that the two are equal.
 ghost use mathlib.Core.Path.{_≡_};
-ghost use Rattle.plan.specs.Numbers.{largest, widths, sizes, refusals, statuses};
+ghost use Rattle.plan.specs.Numbers.{largest, widths, sectionNumbers, kinds, sizes, refusals, statuses};
 
 // "Let M = 2^30 = 1,073,741,824."
 pub const M: i64 = 1073741824;
@@ -84,7 +84,69 @@ impl Widths {
     }
 }
 
-// "Sections in order": integrators, inputs, nodes, links, commands.
+// "Sections in order": the number of each, in the header and for the section view.
+pub const SECTION_INTEGRATORS: usize = 0;
+
+pub const SECTION_INPUTS: usize = 1;
+
+pub const SECTION_NODES: usize = 2;
+
+pub const SECTION_LINKS: usize = 3;
+
+pub const SECTION_COMMANDS: usize = 4;
+
+pub struct SectionNumbers {
+    pub integrators: usize,
+    pub inputs: usize,
+    pub nodes: usize,
+    pub links: usize,
+    pub commands: usize,
+}
+
+impl SectionNumbers {
+    pub fn named() -> Self
+        ensures { λ r. ⌜ r ≡ sectionNumbers ⌝ }
+    {
+        Self {
+            integrators: SECTION_INTEGRATORS,
+            inputs: SECTION_INPUTS,
+            nodes: SECTION_NODES,
+            links: SECTION_LINKS,
+            commands: SECTION_COMMANDS,
+        }
+    }
+}
+
+// "Node kinds": the number of each; specs/Numbers has document 01's words for each.
+pub const KIND_DIFFERENCE: usize = 0;
+
+pub const KIND_PRODUCT: usize = 1;
+
+pub const KIND_LIMIT: usize = 2;
+
+pub const KIND_COMPARISON: usize = 3;
+
+pub struct Kinds {
+    pub difference: usize,
+    pub product: usize,
+    pub limit: usize,
+    pub comparison: usize,
+}
+
+impl Kinds {
+    pub fn named() -> Self
+        ensures { λ r. ⌜ r ≡ kinds ⌝ }
+    {
+        Self {
+            difference: KIND_DIFFERENCE,
+            product: KIND_PRODUCT,
+            limit: KIND_LIMIT,
+            comparison: KIND_COMPARISON,
+        }
+    }
+}
+
+// How many sections a plan file has.
 pub const SECTIONS: usize = 5;
 
 // "Header, 44 bytes"

@@ -21,6 +21,11 @@ use plan::Links;
 use plan::NODES;
 use plan::Nodes;
 use plan::Plan;
+use plan::SECTION_COMMANDS;
+use plan::SECTION_INPUTS;
+use plan::SECTION_INTEGRATORS;
+use plan::SECTION_LINKS;
+use plan::SECTION_NODES;
 use words::read_u32;
 
 // Each section is handed to its reader as a part of the file, with arrays of zeros to fill.
@@ -28,23 +33,28 @@ pub fn decode(file: &[u8]) -> Plan
     requires { ⌜ Directory (now file) ⌝ }
     ensures { λ r. ⌜ r ≡ planIn (now (file .entry)) ⌝ }
 {
-    let n = count_in(file, 0);
-    let m = count_in(file, 1);
-    let k = count_in(file, 2);
-    let links = count_in(file, 3);
-    let commands = count_in(file, 4);
+    let n = count_in(file, SECTION_INTEGRATORS);
+    let m = count_in(file, SECTION_INPUTS);
+    let k = count_in(file, SECTION_NODES);
+    let links = count_in(file, SECTION_LINKS);
+    let commands = count_in(file, SECTION_COMMANDS);
     let mut starts = [0; INTEGRATORS];
     let mut quanta = [0; INTEGRATORS];
-    read_integrators(section_in(file, 0), n, &mut starts, &mut quanta);
+    read_integrators(
+        section_in(file, SECTION_INTEGRATORS),
+        n,
+        &mut starts,
+        &mut quanta,
+    );
     let mut firsts = [0; INPUTS];
-    read_inputs(section_in(file, 1), m, &mut firsts);
+    read_inputs(section_in(file, SECTION_INPUTS), m, &mut firsts);
     let mut kinds = [0; NODES];
     let mut a = [0; NODES];
     let mut b = [0; NODES];
     let mut lows = [0; NODES];
     let mut highs = [0; NODES];
     read_nodes(
-        section_in(file, 2),
+        section_in(file, SECTION_NODES),
         k,
         &mut kinds,
         &mut a,
@@ -56,7 +66,7 @@ pub fn decode(file: &[u8]) -> Plan
     let mut sources = [0; LINKS];
     let mut coefficients = [0; LINKS];
     read_links(
-        section_in(file, 3),
+        section_in(file, SECTION_LINKS),
         links,
         &mut targets,
         &mut sources,
@@ -66,7 +76,7 @@ pub fn decode(file: &[u8]) -> Plan
     let mut inputs = [0; COMMANDS];
     let mut values = [0; COMMANDS];
     read_commands(
-        section_in(file, 4),
+        section_in(file, SECTION_COMMANDS),
         commands,
         &mut ticks,
         &mut inputs,

@@ -13,6 +13,11 @@ ghost use Rattle.planwriter.specs.Plans.{planWritten, writtenBuffer};
 use entryrules::entry_size;
 use plan::HEADER_BYTES;
 use plan::Plan;
+use plan::SECTION_COMMANDS;
+use plan::SECTION_INPUTS;
+use plan::SECTION_INTEGRATORS;
+use plan::SECTION_LINKS;
+use plan::SECTION_NODES;
 use plan::SECTIONS;
 use sectionwriters::write_commands;
 use sectionwriters::write_inputs;
@@ -100,16 +105,16 @@ pub fn write_plan(plan: Plan, buffer: &mut [u8]) -> PlanWritten
         return PlanWritten::Short;
     }
     write_header(buffer, plan.horizon, &counts);
-    let integrators = section_offset(&counts, 0);
+    let integrators = section_offset(&counts, SECTION_INTEGRATORS);
     write_integrators(
         &mut buffer[integrators..],
         plan.counts.n,
         &plan.integrators.starts,
         &plan.integrators.quanta,
     );
-    let inputs = section_offset(&counts, 1);
+    let inputs = section_offset(&counts, SECTION_INPUTS);
     write_inputs(&mut buffer[inputs..], plan.counts.m, &plan.inputs.firsts);
-    let nodes = section_offset(&counts, 2);
+    let nodes = section_offset(&counts, SECTION_NODES);
     write_nodes(
         &mut buffer[nodes..],
         plan.counts.k,
@@ -119,7 +124,7 @@ pub fn write_plan(plan: Plan, buffer: &mut [u8]) -> PlanWritten
         &plan.nodes.lows,
         &plan.nodes.highs,
     );
-    let links = section_offset(&counts, 3);
+    let links = section_offset(&counts, SECTION_LINKS);
     write_links(
         &mut buffer[links..],
         plan.counts.links,
@@ -127,7 +132,7 @@ pub fn write_plan(plan: Plan, buffer: &mut [u8]) -> PlanWritten
         &plan.links.sources,
         &plan.links.coefficients,
     );
-    let commands = section_offset(&counts, 4);
+    let commands = section_offset(&counts, SECTION_COMMANDS);
     write_commands(
         &mut buffer[commands..],
         plan.counts.commands,

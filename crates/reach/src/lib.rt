@@ -8,6 +8,7 @@ use bitset::lowest64;
 use bitset::rest64;
 use bitset::union64;
 use bitset::with_bit64;
+use plan::KIND_LIMIT;
 use plan::LINKS;
 use plan::NODES;
 use plan::SOURCES;
@@ -69,7 +70,7 @@ fn add_to_operands<'a>(
 {
     let entry = table[base + j];
     add_to(table, a[j], entry);
-    if kinds[j] != 2 {
+    if kinds[j] != KIND_LIMIT {
         add_to(table, b[j], entry);
     }
 }

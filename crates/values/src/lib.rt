@@ -16,6 +16,9 @@ use integers::limit;
 use machine::State;
 use plan::INPUTS;
 use plan::INTEGRATORS;
+use plan::KIND_DIFFERENCE;
+use plan::KIND_LIMIT;
+use plan::KIND_PRODUCT;
 use plan::NODES;
 use plan::SOURCES;
 
@@ -31,13 +34,13 @@ pub fn node_value(kind: usize, a: i64, b: i64, lo: i64, hi: i64) -> i64
     requires { ⌜ (∣ a ∣ ≤ M) × (∣ b ∣ ≤ M) ⌝ }
     ensures { λ r. ⌜ r ≡ nodeValue kind a b lo hi ⌝ }
 {
-    if kind == 0 {
+    if kind == KIND_DIFFERENCE {
         return clip(a - b);
     }
-    if kind == 1 {
+    if kind == KIND_PRODUCT {
         return clip(floor_65536(a * b));
     }
-    if kind == 2 {
+    if kind == KIND_LIMIT {
         return limit(a, lo, hi);
     }
     if a >= b { hi } else { lo }
