@@ -8,7 +8,7 @@ use Prim.Native.Nat.{ℕ, _+_, _*_}
 use lib.IntN.{pos}
 use lib.Dec.{leb, ltb, eqb}
 use lib.ListN.{length, drop}
-use Rattle.plan.specs.Numbers.{largestBudget, eventSize, acceptance, refusedUnsound, refusedBudget, refusedRunBuffer}
+use Rattle.plan.specs.Numbers.{largestBudget, eventBytes, acceptance, refusedUnsound, refusedBudget, refusedRunBuffer}
 use Rattle.plan.specs.Numbers.{refusedWriteBuffer, refusedIntegratorNumber}
 use Rattle.plan.specs.Format.{planIn}
 use Rattle.plan.specs.Refusals.{numberOf, entryOf, findingOf, accepted}
@@ -57,7 +57,7 @@ bufferOfWrite st buffer = cond (eqb (writeNumber st (length buffer)) acceptance)
 -- ---- runs: 10, 11, 12
 -- "A run's buffer is shorter than budget×(n+m)×12 bytes": the room that a run asks
 unfoldable pub bytesNeeded : Plan → ℕ → ℕ
-bytesNeeded p budget = budget * (p .counts .n + p .counts .m) * eventSize
+bytesNeeded p budget = budget * (p .counts .n + p .counts .m) * eventBytes
 
 -- what is left to decline once the state is sound: "A run's budget is above 1,024", then the buffer
 unfoldable pub runNumberIfSound : Plan → ℕ → ℕ → ℕ

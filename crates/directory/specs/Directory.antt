@@ -3,7 +3,7 @@
 use mathlib.Core.List.{List}
 use Prim.Native.Nat.{ℕ, _≤_}
 use lib.ListN.{length}
-use Rattle.plan.specs.Numbers.{headerLength}
+use Rattle.plan.specs.Numbers.{headerBytes}
 use Rattle.plan.specs.Tests.{longEnough, offsetsKept, sizesKept}
 use Rattle.plan.specs.Rules.{OffsetRule, SizeRule}
 use Rattle.plan.specs.Refusals.{unless, orElse}
@@ -16,6 +16,6 @@ directoryFinding file =
 
 -- the directory of a file keeps its rules
 pub record Directory (file : List ℕ) : Type 0 where
-  pub long : headerLength ≤ length file
+  pub long : headerBytes ≤ length file
   pub offsets : OffsetRule file
   pub sizes : SizeRule file

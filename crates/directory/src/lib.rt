@@ -4,7 +4,7 @@ ghost use mathlib.Core.Bool.{_&&_};
 ghost use Prim.Native.Nat.{_<_, _≤_, _^_, _%_, _/_};
 ghost use lib.Dec.{eqb};
 ghost use lib.ListN.{length};
-ghost use Rattle.plan.specs.Numbers.{sections, entrySizes, headerLength};
+ghost use Rattle.plan.specs.Numbers.{sections, entrySizes, headerBytes};
 ghost use Rattle.plan.specs.Lists.{natAt};
 ghost use Rattle.plan.specs.Format.{offsetIn, lengthIn, countIn, sectionIn};
 ghost use Rattle.plan.specs.Tests.{countKept, offsetsKept, sizesKept};
@@ -21,7 +21,7 @@ use words::read_u32;
 
 // Where a section starts, by the header: its pair's first word.
 pub fn offset_in(file: &[u8], section: usize) -> u64
-    requires { ⌜ (headerLength ≤ length (now file)) × (section < sections) ⌝ }
+    requires { ⌜ (headerBytes ≤ length (now file)) × (section < sections) ⌝ }
     ensures answer { λ r. ⌜ r ≡ offsetIn (now (file .entry)) section ⌝ }
     ensures range { λ r. ⌜ r < 2 ^ 32 ⌝ }
 {
@@ -30,7 +30,7 @@ pub fn offset_in(file: &[u8], section: usize) -> u64
 
 // How many bytes a section has, by the header: its pair's second word.
 fn length_in(file: &[u8], section: usize) -> u64
-    requires { ⌜ (headerLength ≤ length (now file)) × (section < sections) ⌝ }
+    requires { ⌜ (headerBytes ≤ length (now file)) × (section < sections) ⌝ }
     ensures answer { λ r. ⌜ r ≡ lengthIn (now (file .entry)) section ⌝ }
     ensures range { λ r. ⌜ r < 2 ^ 32 ⌝ }
 {
@@ -40,7 +40,7 @@ fn length_in(file: &[u8], section: usize) -> u64
 // "The first offset is 44, each next offset is the previous offset plus length, the last section ends the file." The sum of two words is below
 // 2^33, so it cannot wrap in 64 bits.
 fn check_offsets(file: &[u8]) -> Finding
-    requires { ⌜ headerLength ≤ length (now file) ⌝ }
+    requires { ⌜ headerBytes ≤ length (now file) ⌝ }
     ensures { λ r. ⌜ r ≡ unless (offsetsKept (now (file .entry))) Offsets ⌝ }
 {
     let mut start = HEADER_BYTES as u64;
@@ -74,7 +74,7 @@ fn size_kept(section: usize, bytes: u64) -> bool
 
 // Every section is of the right size.
 fn check_sizes(file: &[u8]) -> Finding
-    requires { ⌜ headerLength ≤ length (now file) ⌝ }
+    requires { ⌜ headerBytes ≤ length (now file) ⌝ }
     ensures { λ r. ⌜ r ≡ unless (sizesKept (now (file .entry))) Sizes ⌝ }
 {
     let mut section = 0;

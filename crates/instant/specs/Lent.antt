@@ -7,7 +7,7 @@ use Prim.Native.Nat.{ℕ, _+_, _*_, _≤_}
 use lib.IntN.{ℤ}
 use lib.ListN.{length}
 use Rattle.bitset.specs.Mask.{maskOf, allOf, union}
-use Rattle.plan.specs.Numbers.{eventSize}
+use Rattle.plan.specs.Numbers.{eventBytes}
 use Rattle.plan.specs.declared.Counts.{Counts}
 use Rattle.plan.specs.declared.Plan.{Plan}
 use Rattle.machine.specs.Reach.{isDue}
@@ -72,7 +72,7 @@ pub record InstantReady (p : Plan) (ranges reach : List ℕ) (t due : ℕ) (r : 
   pub ranges-are : ranges ≡ rangesOf p
   pub reach-is : reach ≡ reachTable p
   pub values-are : values ≡ valuesOf p (r .q) (r .inputs)
-  pub room : at + (p .counts .n + p .counts .m) * eventSize ≤ size
+  pub room : at + (p .counts .n + p .counts .m) * eventBytes ≤ size
 
 -- what it leaves: the machine's figures after the instant, the values of all sources by these, the events from byte `at` on and nothing else changed in the buffer, and
 -- the place behind the events

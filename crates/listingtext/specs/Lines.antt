@@ -4,7 +4,7 @@ use mathlib.Core.List.{List, [], _∷_, _++_}
 use Prim.Native.Nat.{ℕ, _+_, _*_}
 use lib.IntN.{ℤ}
 use Rattle.words.specs.Word.{word, signedWord}
-use Rattle.plan.specs.Numbers.{eventSize}
+use Rattle.plan.specs.Numbers.{eventBytes}
 use Rattle.plan.specs.Lists.{joined}
 use Rattle.listingtext.specs.Decimal.{decimal, signedDecimal}
 
@@ -41,7 +41,7 @@ refusalLine number entry = (refusedWord ++ field (decimal number) space) ++ fiel
 
 -- the line of event i of a list of bytes, "12 bytes each: tick, source, signed value"
 unfoldable pub lineAt : List ℕ → ℕ → List ℕ
-lineAt bytes i = eventLine (word bytes (eventSize * i)) (word bytes (eventSize * i + 4)) (signedWord bytes (eventSize * i + 8))
+lineAt bytes i = eventLine (word bytes (eventBytes * i)) (word bytes (eventBytes * i + 4)) (signedWord bytes (eventBytes * i + 8))
 
 -- the lines of the first events of a list of bytes
 unfoldable pub linesOf : List ℕ → ℕ → List ℕ

@@ -4,7 +4,7 @@ ghost use mathlib.Core.Path.{_≡_};
 ghost use Prim.Native.Nat.{_+_, _*_, _≤_};
 ghost use lib.IntN.{natAbs};
 ghost use lib.ListN.{length};
-ghost use Rattle.plan.specs.Numbers.{eventSize};
+ghost use Rattle.plan.specs.Numbers.{eventBytes};
 ghost use Rattle.listingtext.specs.Decimal.{decimal, signedDecimal};
 ghost use Rattle.listingtext.specs.Lines.{field, eventLine, linesOf, endLine, refusalLine};
 ghost use Rattle.listingtext.specs.Printed.{Printed, PrintedAt};
@@ -85,7 +85,7 @@ pub fn write_event(buffer: &mut [u8], tick: u64, source: u64, value: i64) -> usi
 
 // The lines of the first `count` events of a list of bytes.
 pub fn write_lines(buffer: &mut [u8], events: &[u8], count: usize) -> usize
-    requires { ⌜ (eventSize * count ≤ length (now events)) × (length (linesOf (now events) count) ≤ length (now buffer)) ⌝ }
+    requires { ⌜ (eventBytes * count ≤ length (now events)) × (length (linesOf (now events) count) ≤ length (now buffer)) ⌝ }
     ensures { λ r. ⌜ Printed (linesOf (now (events .entry)) count) (now (buffer .entry)) r (now (buffer .exit)) ⌝ }
 {
     let mut at = 0;

@@ -21,7 +21,7 @@ use Rattle.machine.specs.Due.{upperLevel, lowerLevel, distance, ticksTo, dueTic
 use Rattle.machine.specs.Next.{nextCommand, commandTick, leastDue, nextTick}
 use Rattle.machine.specs.Start.{startSlope, startDue, startOf, startState, idleState}
 use Rattle.machine.specs.Reach.{isDue, setsInput, isCommanded, changes, dependsWith, linkReaches, reached}
-use Rattle.machine.specs.Instant.{positionAt, inputThen, inputsThen, moves, eventBytes, eventsAt, outputsThen, slopeThen, xThen, dueThen}
+use Rattle.machine.specs.Instant.{positionAt, inputThen, inputsThen, moves, bytesOfEvent, eventsAt, outputsThen, slopeThen, xThen, dueThen}
 use Rattle.machine.specs.Instant.{figuresAfter, nextTickOf, instant, eventsOf}
 use Rattle.machine.specs.Status.{statusNumber, statusPaused, bars, barring, statusBy, statusAt, statusOf, isPaused}
 use Rattle.machine.specs.Runs.{afterRun, eventsOfRun}
@@ -63,7 +63,7 @@ unfolding examples ceilDiv limited within countOf numberAt bytesOf signedOf unsi
     commandOrdered numberOf entryOf isClean orElse firstFinding horizonFinding integratorsFinding inputsFinding nodesFinding
     linksFinding commandsFinding planFinding findingOf accepted nodeValue valueWith valueOf sumOver rateOf upperLevel lowerLevel distance ticksTo
     dueTick dueOf nextCommand commandTick leastDue nextTick startSlope startDue startOf startState idleState isDue setsInput
-    isCommanded changes dependsWith linkReaches reached positionAt inputThen inputsThen moves eventBytes eventsAt outputsThen slopeThen xThen
+    isCommanded changes dependsWith linkReaches reached positionAt inputThen inputsThen moves bytesOfEvent eventsAt outputsThen slopeThen xThen
     dueThen figuresAfter nextTickOf instant eventsOf bars barring statusNumber statusPaused statusBy statusAt statusOf isPaused afterRun eventsOfRun
     digitsIn decimal signedDecimal eventLine endLine refusalLine lineAt linesOf loadOf ranState ranEvents eventLines endLineOf listingOfRun listingOf
     turnState turnMore turnText beginText turnsFrom printedIn

@@ -6,7 +6,7 @@ use mathlib.Core.List.{List, _++_}
 use Prim.Native.Nat.{ℕ, _/_}
 use lib.Dec.{eqb}
 use lib.ListN.{length}
-use Rattle.plan.specs.Numbers.{eventSize, acceptance}
+use Rattle.plan.specs.Numbers.{eventBytes, acceptance}
 use Rattle.plan.specs.declared.Plan.{Plan}
 use Rattle.machine.specs.Status.{statusNumber, statusOf}
 use Rattle.machine.specs.Runs.{afterRun, eventsOfRun}
@@ -17,7 +17,7 @@ use Rattle.calls.specs.Calls.{loadOf}
 
 -- "prints each event as tick, source, value": the lines of a list of events, "12 bytes each"
 unfoldable pub eventLines : List ℕ → List ℕ
-eventLines bytes = linesOf bytes (length bytes / eventSize)
+eventLines bytes = linesOf bytes (length bytes / eventBytes)
 
 -- "then "end", status, clock, instants, updates"
 unfoldable pub endLineOf : Plan → Running → List ℕ

@@ -42,12 +42,12 @@ Moves p Lazy d t i = (natAt d i ≡ t) ⊎ Reached p d t i
 Moves p Eager d t i = Unit {0}
 
 -- "Events of an instant: due integrators and commanded inputs by ascending source number, 12 bytes each: tick, source, signed value."
-unfoldable pub eventBytes : ℕ → ℕ → ℤ → List ℕ
-eventBytes t source value = flat (t ∷ source ∷ wordOf value ∷ [])
+unfoldable pub bytesOfEvent : (t source : ℕ) (value : ℤ) → List ℕ
+bytesOfEvent t source value = flat (t ∷ source ∷ wordOf value ∷ [])
 
 -- at tick t, with the due ticks d before it, and the outputs q and input values u after it
 unfoldable pub eventsAt : (p : Plan) (d : List ℕ) (t : ℕ) (q u : List ℤ) → List ℕ
-eventsAt p d t q u = joined (λ i. cond (changes p d t i) (eventBytes t i (valueWith p q u zero i)) []) (p .counts .n + p .counts .m)
+eventsAt p d t q u = joined (λ i. cond (changes p d t i) (bytesOfEvent t i (valueWith p q u zero i)) []) (p .counts .n + p .counts .m)
 
 module _ (p : Plan) (r : Running) (t : ℕ) where
   -- 1. "The due integrators (d = t) take q = x+s×(t−l)." The others keep theirs.

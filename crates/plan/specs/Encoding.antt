@@ -3,7 +3,7 @@ use mathlib.Core.List.{List, [], _∷_, _++_}
 use Prim.Native.Nat.{ℕ, zero, suc, _+_, _*_}
 use lib.IntN.{ℤ}
 use Rattle.words.specs.Word.{wordOf, flat}
-use Rattle.plan.specs.Numbers.{sections, entrySizes, headerLength}
+use Rattle.plan.specs.Numbers.{sections, entrySizes, headerBytes}
 use Rattle.plan.specs.Lists.{natAt, intAt, joined}
 use Rattle.plan.specs.Tests.{countList}
 use Rattle.plan.specs.declared.Plan.{Plan}
@@ -13,7 +13,7 @@ abbrev pub lengthFrom : List ℕ → ℕ → ℕ
 lengthFrom counts section = natAt entrySizes section * natAt counts section
 
 unfoldable pub offsetFrom : List ℕ → ℕ → ℕ
-offsetFrom counts zero = headerLength
+offsetFrom counts zero = headerBytes
 offsetFrom counts (suc section) = offsetFrom counts section + lengthFrom counts section
 
 -- the words of the header's pairs, and of an entry of each section: those of links and of commands are two numbers and a signed one

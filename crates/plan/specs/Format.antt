@@ -7,7 +7,7 @@ use lib.IntN.{ℤ, pos}
 use lib.ListN.{length, take, drop}
 use Rattle.words.specs.Word.{word, signedWord}
 use Rattle.plan.specs.Lists.{natAt, row}
-use Rattle.plan.specs.Numbers.{mostIntegrators, mostInputs, mostNodes, mostLinks, mostCommands, entrySizes, largestCounts, headerLength, sectionIntegrators, sectionInputs, sectionNodes, sectionLinks, sectionCommands}
+use Rattle.plan.specs.Numbers.{mostIntegrators, mostInputs, mostNodes, mostLinks, mostCommands, entrySizes, largestCounts, headerBytes, sectionIntegrators, sectionInputs, sectionNodes, sectionLinks, sectionCommands}
 use Rattle.plan.specs.declared.Plan.{Plan}
 
 -- "Header, 44 bytes: horizon .., then five pairs of offset and length in bytes"
@@ -23,7 +23,7 @@ lengthIn file section = word file (8 + 8 * section)
 -- "The first offset is 44, each next offset is the previous offset plus length": where a section is to start; of the number behind the
 -- last section, where the file is to end
 unfoldable pub requiredOffset : List ℕ → ℕ → ℕ
-requiredOffset file zero = headerLength
+requiredOffset file zero = headerBytes
 requiredOffset file (suc section) = offsetIn file section + lengthIn file section
 
 unfoldable pub countIn : List ℕ → ℕ → ℕ

@@ -137,31 +137,31 @@ kinds =
 
 -- ---- the plan file: the bytes of an entry of each section
 -- "Integrators, .. 8 bytes"
-abbrev pub integratorSize : ℕ
-integratorSize = 8
+abbrev pub integratorBytes : ℕ
+integratorBytes = 8
 
 -- "Inputs, .. 4 bytes"
-abbrev pub inputSize : ℕ
-inputSize = 4
+abbrev pub inputBytes : ℕ
+inputBytes = 4
 
 -- "Nodes, .. 20 bytes"
-abbrev pub nodeSize : ℕ
-nodeSize = 20
+abbrev pub nodeBytes : ℕ
+nodeBytes = 20
 
 -- "Links, .. 12 bytes"
-abbrev pub linkSize : ℕ
-linkSize = 12
+abbrev pub linkBytes : ℕ
+linkBytes = 12
 
 -- "Commands, .. 12 bytes"
-abbrev pub commandSize : ℕ
-commandSize = 12
+abbrev pub commandBytes : ℕ
+commandBytes = 12
 
 -- how many sections there are; of each the bytes of an entry, and the least and the largest count
 abbrev pub sections : ℕ
 sections = 5
 
 abbrev pub entrySizes : List ℕ
-entrySizes = integratorSize ∷ inputSize ∷ nodeSize ∷ linkSize ∷ commandSize ∷ []
+entrySizes = integratorBytes ∷ inputBytes ∷ nodeBytes ∷ linkBytes ∷ commandBytes ∷ []
 
 abbrev pub leastCounts : List ℕ
 leastCounts = 1 ∷ 0 ∷ 0 ∷ 0 ∷ 0 ∷ []
@@ -170,8 +170,8 @@ abbrev pub largestCounts : List ℕ
 largestCounts = mostIntegrators ∷ mostInputs ∷ mostNodes ∷ mostLinks ∷ mostCommands ∷ []
 
 -- "Header, 44 bytes: horizon .., then five pairs of offset and length in bytes"
-abbrev pub headerLength : ℕ
-headerLength = 4 + 8 * sections
+abbrev pub headerBytes : ℕ
+headerBytes = 4 + 8 * sections
 
 -- a file with the most entries of every section
 abbrev pub longestFile : ℕ
@@ -182,22 +182,22 @@ abbrev pub listingInput : ℕ
 listingInput = 4493
 
 -- "Events of an instant: .. 12 bytes each"
-abbrev pub eventSize : ℕ
-eventSize = 12
+abbrev pub eventBytes : ℕ
+eventBytes = 12
 
 abbrev pub sizes : Sizes
 sizes =
     record {
       sections = sections;
-      header = headerLength;
-      integrator = integratorSize;
-      input = inputSize;
-      node = nodeSize;
-      link = linkSize;
-      command = commandSize;
+      header = headerBytes;
+      integrator = integratorBytes;
+      input = inputBytes;
+      node = nodeBytes;
+      link = linkBytes;
+      command = commandBytes;
       longest = longestFile;
       listing = listingInput;
-      event = eventSize;
+      event = eventBytes;
     }
 
 -- ---- "When a call declines"

@@ -7,7 +7,7 @@ use Prim.Native.Nat.{ℕ, suc, _+_, _%_, _≤_, _<_}
 use lib.IntN.{ℤ, pos, negℤ}
 use lib.Signed.{_≤ℤ_}
 use lib.ListN.{length, getD}
-use Rattle.plan.specs.Numbers.{M, largestCoefficient, largestHorizon, sections, entrySizes, leastCounts, largestCounts, headerLength, kindProduct, kindLimit, kindComparison}
+use Rattle.plan.specs.Numbers.{M, largestCoefficient, largestHorizon, sections, entrySizes, leastCounts, largestCounts, headerBytes, kindProduct, kindLimit, kindComparison}
 use Rattle.plan.specs.Lists.{natAt, intAt}
 use Rattle.plan.specs.Format.{offsetIn, lengthIn}
 use Rattle.plan.specs.Format.{countIn, planIn}
@@ -28,7 +28,7 @@ AscendsAt xs ys e = (before : ℕ) → suc before ≡ e → (natAt xs before < n
 
 module _ (file : List ℕ) where
   pub record OffsetRule : Type 0 where
-    pub first : offsetIn file 0 ≡ headerLength
+    pub first : offsetIn file 0 ≡ headerBytes
     pub next : (section : ℕ) → suc section < sections → offsetIn file (suc section) ≡ offsetIn file section + lengthIn file section
     pub last : (section : ℕ) → suc section ≡ sections → length file ≡ offsetIn file section + lengthIn file section
 
@@ -99,7 +99,7 @@ module _ (file : List ℕ) where
   abbrev pub rules : List (ℕ → Type 0)
   rules =
       (λ _. Unit {0})
-      ∷ (λ _. headerLength ≤ length file)
+      ∷ (λ _. headerBytes ≤ length file)
       ∷ (λ _. OffsetRule file)
       ∷ (λ _. SizeRule file)
       ∷ (λ _. HorizonRule (planIn file))

@@ -9,14 +9,14 @@ use lib.Dec.{leb, ltb, eqb}
 use lib.ListN.{length}
 use Rattle.integers.specs.Parts.{∣_∣}
 use Rattle.integers.specs.Range.{within}
-use Rattle.plan.specs.Numbers.{M, largestCoefficient, largestHorizon, sections, entrySizes, leastCounts, largestCounts, headerLength, kindProduct, kindLimit, kindComparison}
+use Rattle.plan.specs.Numbers.{M, largestCoefficient, largestHorizon, sections, entrySizes, leastCounts, largestCounts, headerBytes, kindProduct, kindLimit, kindComparison}
 use Rattle.plan.specs.Lists.{natAt, intAt, every}
 use Rattle.plan.specs.Format.{offsetIn, lengthIn, requiredOffset, countIn}
 use Rattle.plan.specs.declared.Plan.{Plan}
 
 -- ---- the file
 unfoldable pub longEnough : List ℕ → Bool
-longEnough file = leb headerLength (length file)
+longEnough file = leb headerBytes (length file)
 
 -- "The first offset is 44, each next offset is the previous offset plus length, the last section ends the file."
 unfoldable pub offsetsKept : List ℕ → Bool

@@ -5,7 +5,7 @@ ghost use Prim.Native.Nat.{_*_, _≤_};
 ghost use lib.IntN.{pos};
 ghost use lib.ListN.{length, replicate};
 ghost use Rattle.plan.specs.Numbers.{mostIntegrators, mostInputs, mostNodes, mostLinks, mostCommands};
-ghost use Rattle.plan.specs.Numbers.{integratorSize, inputSize, nodeSize, linkSize, commandSize};
+ghost use Rattle.plan.specs.Numbers.{integratorBytes, inputBytes, nodeBytes, linkBytes, commandBytes};
 ghost use Rattle.planfile.specs.Columns.{wordsOf, signedsOf, unsignedsOf};
 use plan::COMMAND_BYTES;
 use plan::COMMANDS;
@@ -27,10 +27,10 @@ pub fn read_integrators(
     starts: &mut [i64; INTEGRATORS],
     quanta: &mut [i64; INTEGRATORS],
 )
-    requires counted { ⌜ (n ≤ mostIntegrators) × (integratorSize * n ≤ length (now part)) ⌝ }
+    requires counted { ⌜ (n ≤ mostIntegrators) × (integratorBytes * n ≤ length (now part)) ⌝ }
     requires zeroed { ⌜ (now starts ≡ replicate mostIntegrators (pos 0)) × (now quanta ≡ replicate mostIntegrators (pos 0)) ⌝ }
-    ensures starts { λ _. ⌜ now (starts .exit) ≡ signedsOf mostIntegrators integratorSize n (now (part .entry)) 0 ⌝ }
-    ensures quanta { λ _. ⌜ now (quanta .exit) ≡ unsignedsOf mostIntegrators integratorSize n (now (part .entry)) 1 ⌝ }
+    ensures starts { λ _. ⌜ now (starts .exit) ≡ signedsOf mostIntegrators integratorBytes n (now (part .entry)) 0 ⌝ }
+    ensures quanta { λ _. ⌜ now (quanta .exit) ≡ unsignedsOf mostIntegrators integratorBytes n (now (part .entry)) 1 ⌝ }
 {
     let mut i = 0;
     while i < n {
@@ -42,9 +42,9 @@ pub fn read_integrators(
 
 // "4 bytes: signed first value"
 pub fn read_inputs(part: &[u8], m: usize, firsts: &mut [i64; INPUTS])
-    requires counted { ⌜ (m ≤ mostInputs) × (inputSize * m ≤ length (now part)) ⌝ }
+    requires counted { ⌜ (m ≤ mostInputs) × (inputBytes * m ≤ length (now part)) ⌝ }
     requires zeroed { ⌜ now firsts ≡ replicate mostInputs (pos 0) ⌝ }
-    ensures { λ _. ⌜ now (firsts .exit) ≡ signedsOf mostInputs inputSize m (now (part .entry)) 0 ⌝ }
+    ensures { λ _. ⌜ now (firsts .exit) ≡ signedsOf mostInputs inputBytes m (now (part .entry)) 0 ⌝ }
 {
     let mut j = 0;
     while j < m {
@@ -63,14 +63,14 @@ pub fn read_nodes(
     lows: &mut [i64; NODES],
     highs: &mut [i64; NODES],
 )
-    requires counted { ⌜ (k ≤ mostNodes) × (nodeSize * k ≤ length (now part)) ⌝ }
+    requires counted { ⌜ (k ≤ mostNodes) × (nodeBytes * k ≤ length (now part)) ⌝ }
     requires zeroed { ⌜ (now kinds ≡ replicate mostNodes 0) × (now a ≡ replicate mostNodes 0) × (now b ≡ replicate mostNodes 0)
         × (now lows ≡ replicate mostNodes (pos 0)) × (now highs ≡ replicate mostNodes (pos 0)) ⌝ }
-    ensures kinds { λ _. ⌜ now (kinds .exit) ≡ wordsOf mostNodes nodeSize k (now (part .entry)) 0 ⌝ }
-    ensures a { λ _. ⌜ now (a .exit) ≡ wordsOf mostNodes nodeSize k (now (part .entry)) 1 ⌝ }
-    ensures b { λ _. ⌜ now (b .exit) ≡ wordsOf mostNodes nodeSize k (now (part .entry)) 2 ⌝ }
-    ensures lows { λ _. ⌜ now (lows .exit) ≡ signedsOf mostNodes nodeSize k (now (part .entry)) 3 ⌝ }
-    ensures highs { λ _. ⌜ now (highs .exit) ≡ signedsOf mostNodes nodeSize k (now (part .entry)) 4 ⌝ }
+    ensures kinds { λ _. ⌜ now (kinds .exit) ≡ wordsOf mostNodes nodeBytes k (now (part .entry)) 0 ⌝ }
+    ensures a { λ _. ⌜ now (a .exit) ≡ wordsOf mostNodes nodeBytes k (now (part .entry)) 1 ⌝ }
+    ensures b { λ _. ⌜ now (b .exit) ≡ wordsOf mostNodes nodeBytes k (now (part .entry)) 2 ⌝ }
+    ensures lows { λ _. ⌜ now (lows .exit) ≡ signedsOf mostNodes nodeBytes k (now (part .entry)) 3 ⌝ }
+    ensures highs { λ _. ⌜ now (highs .exit) ≡ signedsOf mostNodes nodeBytes k (now (part .entry)) 4 ⌝ }
 {
     let mut j = 0;
     while j < k {
@@ -91,11 +91,11 @@ pub fn read_links(
     sources: &mut [usize; LINKS],
     coefficients: &mut [i64; LINKS],
 )
-    requires counted { ⌜ (links ≤ mostLinks) × (linkSize * links ≤ length (now part)) ⌝ }
+    requires counted { ⌜ (links ≤ mostLinks) × (linkBytes * links ≤ length (now part)) ⌝ }
     requires zeroed { ⌜ (now targets ≡ replicate mostLinks 0) × (now sources ≡ replicate mostLinks 0) × (now coefficients ≡ replicate mostLinks (pos 0)) ⌝ }
-    ensures targets { λ _. ⌜ now (targets .exit) ≡ wordsOf mostLinks linkSize links (now (part .entry)) 0 ⌝ }
-    ensures sources { λ _. ⌜ now (sources .exit) ≡ wordsOf mostLinks linkSize links (now (part .entry)) 1 ⌝ }
-    ensures coefficients { λ _. ⌜ now (coefficients .exit) ≡ signedsOf mostLinks linkSize links (now (part .entry)) 2 ⌝ }
+    ensures targets { λ _. ⌜ now (targets .exit) ≡ wordsOf mostLinks linkBytes links (now (part .entry)) 0 ⌝ }
+    ensures sources { λ _. ⌜ now (sources .exit) ≡ wordsOf mostLinks linkBytes links (now (part .entry)) 1 ⌝ }
+    ensures coefficients { λ _. ⌜ now (coefficients .exit) ≡ signedsOf mostLinks linkBytes links (now (part .entry)) 2 ⌝ }
 {
     let mut e = 0;
     while e < links {
@@ -114,11 +114,11 @@ pub fn read_commands(
     inputs: &mut [usize; COMMANDS],
     values: &mut [i64; COMMANDS],
 )
-    requires counted { ⌜ (commands ≤ mostCommands) × (commandSize * commands ≤ length (now part)) ⌝ }
+    requires counted { ⌜ (commands ≤ mostCommands) × (commandBytes * commands ≤ length (now part)) ⌝ }
     requires zeroed { ⌜ (now ticks ≡ replicate mostCommands 0) × (now inputs ≡ replicate mostCommands 0) × (now values ≡ replicate mostCommands (pos 0)) ⌝ }
-    ensures ticks { λ _. ⌜ now (ticks .exit) ≡ wordsOf mostCommands commandSize commands (now (part .entry)) 0 ⌝ }
-    ensures inputs { λ _. ⌜ now (inputs .exit) ≡ wordsOf mostCommands commandSize commands (now (part .entry)) 1 ⌝ }
-    ensures values { λ _. ⌜ now (values .exit) ≡ signedsOf mostCommands commandSize commands (now (part .entry)) 2 ⌝ }
+    ensures ticks { λ _. ⌜ now (ticks .exit) ≡ wordsOf mostCommands commandBytes commands (now (part .entry)) 0 ⌝ }
+    ensures inputs { λ _. ⌜ now (inputs .exit) ≡ wordsOf mostCommands commandBytes commands (now (part .entry)) 1 ⌝ }
+    ensures values { λ _. ⌜ now (values .exit) ≡ signedsOf mostCommands commandBytes commands (now (part .entry)) 2 ⌝ }
 {
     let mut e = 0;
     while e < commands {

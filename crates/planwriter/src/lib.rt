@@ -4,7 +4,7 @@ ghost use mathlib.Core.List.{[], _∷_};
 ghost use Prim.Native.Nat.{_*_, _<_, _≤_, _^_};
 ghost use lib.ListN.{length};
 ghost use Rattle.words.specs.Putting.{written};
-ghost use Rattle.plan.specs.Numbers.{sections, headerLength};
+ghost use Rattle.plan.specs.Numbers.{sections, headerBytes};
 ghost use Rattle.plan.specs.Lists.{joined};
 ghost use Rattle.plan.specs.Rules.{PlanRules};
 ghost use Rattle.plan.specs.Encoding.{lengthFrom, offsetFrom, pairEntry};
@@ -73,7 +73,7 @@ fn write_pairs(buffer: &mut [u8], counts: &[usize; SECTIONS])
 
 // The header: the horizon, then the pairs.
 fn write_header(buffer: &mut [u8], horizon: u32, counts: &[usize; SECTIONS])
-    requires { ⌜ (headerLength ≤ length (now buffer)) × CountsWithinLimits (now counts) ⌝ }
+    requires { ⌜ (headerBytes ≤ length (now buffer)) × CountsWithinLimits (now counts) ⌝ }
     ensures { λ _. ⌜ now (buffer .exit) ≡ written (horizon ∷ joined (pairEntry (now (counts .entry))) sections) (now (buffer .entry)) ⌝ }
 {
     write_u32(buffer, 0, horizon as u64);

@@ -8,7 +8,7 @@ ghost use lib.ListN.{length};
 ghost use Rattle.words.specs.Word.{wordOf};
 ghost use Rattle.words.specs.Putting.{written};
 ghost use Rattle.plan.specs.Numbers.{mostIntegrators, mostInputs, mostNodes, mostLinks, mostCommands};
-ghost use Rattle.plan.specs.Numbers.{integratorSize, inputSize, nodeSize, linkSize, commandSize};
+ghost use Rattle.plan.specs.Numbers.{integratorBytes, inputBytes, nodeBytes, linkBytes, commandBytes};
 ghost use Rattle.plan.specs.Lists.{joined};
 ghost use Rattle.plan.specs.Encoding.{integratorEntry, inputEntry, nodeEntry, tripleEntry};
 ghost use Rattle.sectionwriters.specs.Entries.{Unsigned32, Signed32};
@@ -28,7 +28,7 @@ use words::write_u32;
 
 // The words of an integrator's entry at the start of a part of the buffer.
 fn write_integrator(buffer: &mut [u8], start: i64, quantum: i64)
-    requires { ⌜ (integratorSize ≤ length (now buffer)) × (mag start < 2 ^ 31) × (mag quantum < 2 ^ 31) ⌝ }
+    requires { ⌜ (integratorBytes ≤ length (now buffer)) × (mag start < 2 ^ 31) × (mag quantum < 2 ^ 31) ⌝ }
     ensures { λ _. ⌜ now (buffer .exit) ≡ written (wordOf start ∷ wordOf quantum ∷ []) (now (buffer .entry)) ⌝ }
 {
     write_i32(buffer, 0, start);
@@ -37,7 +37,7 @@ fn write_integrator(buffer: &mut [u8], start: i64, quantum: i64)
 
 // The word of an input's entry.
 fn write_input(buffer: &mut [u8], first: i64)
-    requires { ⌜ (inputSize ≤ length (now buffer)) × (mag first < 2 ^ 31) ⌝ }
+    requires { ⌜ (inputBytes ≤ length (now buffer)) × (mag first < 2 ^ 31) ⌝ }
     ensures { λ _. ⌜ now (buffer .exit) ≡ written (wordOf first ∷ []) (now (buffer .entry)) ⌝ }
 {
     write_i32(buffer, 0, first);
@@ -45,7 +45,7 @@ fn write_input(buffer: &mut [u8], first: i64)
 
 // The words of a node's entry.
 fn write_node(buffer: &mut [u8], kind: usize, a: usize, b: usize, lo: i64, hi: i64)
-    requires { ⌜ (nodeSize ≤ length (now buffer)) × (kind < 2 ^ 32) × (a < 2 ^ 32) × (b < 2 ^ 32) × (mag lo < 2 ^ 31) × (mag hi < 2 ^ 31) ⌝ }
+    requires { ⌜ (nodeBytes ≤ length (now buffer)) × (kind < 2 ^ 32) × (a < 2 ^ 32) × (b < 2 ^ 32) × (mag lo < 2 ^ 31) × (mag hi < 2 ^ 31) ⌝ }
     ensures { λ _. ⌜ now (buffer .exit) ≡ written (kind ∷ a ∷ b ∷ wordOf lo ∷ wordOf hi ∷ []) (now (buffer .entry)) ⌝ }
 {
     write_u32(buffer, 0, kind as u64);
@@ -62,7 +62,7 @@ pub fn write_integrators<'a>(
     starts: &'a [i64; INTEGRATORS],
     quanta: &'a [i64; INTEGRATORS],
 )
-    requires counted { ⌜ (n ≤ mostIntegrators) × (integratorSize * n ≤ length (now buffer)) ⌝ }
+    requires counted { ⌜ (n ≤ mostIntegrators) × (integratorBytes * n ≤ length (now buffer)) ⌝ }
     requires fitting { ⌜ Signed32 n (now starts) × Signed32 n (now quanta) ⌝ }
     ensures { λ _. ⌜ now (buffer .exit) ≡ written (joined (integratorEntry (now (starts .entry)) (now (quanta .entry))) n) (now (buffer .entry)) ⌝ }
 {
@@ -75,7 +75,7 @@ pub fn write_integrators<'a>(
 
 // The section of the inputs.
 pub fn write_inputs<'a>(buffer: &mut [u8], m: usize, firsts: &'a [i64; INPUTS])
-    requires counted { ⌜ (m ≤ mostInputs) × (inputSize * m ≤ length (now buffer)) ⌝ }
+    requires counted { ⌜ (m ≤ mostInputs) × (inputBytes * m ≤ length (now buffer)) ⌝ }
     requires fitting { ⌜ Signed32 m (now firsts) ⌝ }
     ensures { λ _. ⌜ now (buffer .exit) ≡ written (joined (inputEntry (now (firsts .entry))) m) (now (buffer .entry)) ⌝ }
 {
@@ -96,7 +96,7 @@ pub fn write_nodes<'a>(
     lows: &'a [i64; NODES],
     highs: &'a [i64; NODES],
 )
-    requires counted { ⌜ (k ≤ mostNodes) × (nodeSize * k ≤ length (now buffer)) ⌝ }
+    requires counted { ⌜ (k ≤ mostNodes) × (nodeBytes * k ≤ length (now buffer)) ⌝ }
     requires fitting { ⌜ Unsigned32 k (now kinds) × Unsigned32 k (now a) × Unsigned32 k (now b) × Signed32 k (now lows) × Signed32 k (now highs) ⌝ }
     ensures { λ _. ⌜ now (buffer .exit) ≡ written (joined (nodeEntry (now (kinds .entry)) (now (a .entry)) (now (b .entry))
         (now (lows .entry)) (now (highs .entry))) k) (now (buffer .entry)) ⌝ }
@@ -123,7 +123,7 @@ pub fn write_links<'a>(
     sources: &'a [usize; LINKS],
     coefficients: &'a [i64; LINKS],
 )
-    requires counted { ⌜ (links ≤ mostLinks) × (linkSize * links ≤ length (now buffer)) ⌝ }
+    requires counted { ⌜ (links ≤ mostLinks) × (linkBytes * links ≤ length (now buffer)) ⌝ }
     requires fitting { ⌜ Unsigned32 links (now targets) × Unsigned32 links (now sources) × Signed32 links (now coefficients) ⌝ }
     ensures { λ _. ⌜ now (buffer .exit) ≡ written (joined (tripleEntry (now (targets .entry)) (now (sources .entry)) (now (coefficients .entry))) links)
         (now (buffer .entry)) ⌝ }
@@ -148,7 +148,7 @@ pub fn write_commands<'a>(
     inputs: &'a [usize; COMMANDS],
     values: &'a [i64; COMMANDS],
 )
-    requires counted { ⌜ (commands ≤ mostCommands) × (commandSize * commands ≤ length (now buffer)) ⌝ }
+    requires counted { ⌜ (commands ≤ mostCommands) × (commandBytes * commands ≤ length (now buffer)) ⌝ }
     requires fitting { ⌜ Unsigned32 commands (now ticks) × Unsigned32 commands (now inputs) × Signed32 commands (now values) ⌝ }
     ensures { λ _. ⌜ now (buffer .exit) ≡ written (joined (tripleEntry (now (ticks .entry)) (now (inputs .entry)) (now (values .entry))) commands)
         (now (buffer .entry)) ⌝ }

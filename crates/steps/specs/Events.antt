@@ -9,11 +9,11 @@ use Rattle.integers.specs.Parts.{∣_∣}
 use Rattle.bitset.specs.Mask.{has}
 use Rattle.plan.specs.Numbers.{M}
 use Rattle.plan.specs.Lists.{intAt, joined}
-use Rattle.machine.specs.Instant.{eventBytes}
+use Rattle.machine.specs.Instant.{bytesOfEvent}
 
 -- one for each source in the mask, by ascending source number
 unfoldable pub eventsIn : (t changed : ℕ) → List ℤ → List ℕ
-eventsIn t changed values = joined (λ i. cond (has changed i) (eventBytes t i (intAt values i)) []) 64
+eventsIn t changed values = joined (λ i. cond (has changed i) (bytesOfEvent t i (intAt values i)) []) 64
 
 -- bytes in the place of those from byte `at` on
 unfoldable pub putAt : List ℕ → ℕ → List ℕ → List ℕ

@@ -27,7 +27,7 @@ use Rattle.machine.specs.Due.{upperLevel, lowerLevel, distance, ticksTo, dueTic
 use Rattle.machine.specs.Next.{nextCommand, commandTick, leastDue, nextTick}
 use Rattle.machine.specs.Start.{startSlope, startDue, startOf, startState, idleState}
 use Rattle.machine.specs.Reach.{isDue, setsInput, isCommanded, changes, dependsWith, linkReaches, reached}
-use Rattle.machine.specs.Instant.{positionAt, inputThen, inputsThen, moves, eventBytes, eventsAt, outputsThen, slopeThen, xThen, dueThen}
+use Rattle.machine.specs.Instant.{positionAt, inputThen, inputsThen, moves, bytesOfEvent, eventsAt, outputsThen, slopeThen, xThen, dueThen}
 use Rattle.machine.specs.Instant.{figuresAfter, nextTickOf, instant, eventsOf}
 use Rattle.machine.specs.Status.{statusNumber, statusIntegrator, statusPaused, bars, barring, statusBy, statusAt, statusOf, isPaused}
 use Rattle.machine.specs.Runs.{afterRun, eventsOfRun, positionOf}
@@ -181,7 +181,7 @@ unfolding examples ceilDiv limited within countOf numberAt bytesOf signedOf unsi
     linksFinding commandsFinding planFinding findingOf accepted sectionOf offsetFrom lengthOf offsetOf fileLength headerWords integratorWords inputWords
     nodeWords linkWords commandWords fileWords encode nodeValue valueWith valueOf sumOver rateOf upperLevel lowerLevel distance ticksTo
     dueTick dueOf nextCommand commandTick leastDue nextTick startSlope startDue startOf startState idleState isDue setsInput
-    isCommanded changes dependsWith linkReaches reached positionAt inputThen inputsThen moves eventBytes eventsAt outputsThen slopeThen xThen
+    isCommanded changes dependsWith linkReaches reached positionAt inputThen inputsThen moves bytesOfEvent eventsAt outputsThen slopeThen xThen
     dueThen figuresAfter nextTickOf instant eventsOf bars barring statusNumber statusIntegrator statusPaused statusBy statusAt statusOf isPaused afterRun eventsOfRun
     positionOf withRatesAndDues plainStart plainNextTick plainPosition plainOutputs plainInstant plainEventsOf plainStatus
     lazyCount plainFrom plainEventsFrom plainAfter plainEvents natsZeroFrom intsZeroFrom planUnusedZero planSound runningUnusedZero

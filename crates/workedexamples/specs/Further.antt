@@ -27,7 +27,7 @@ use Rattle.machine.specs.Due.{upperLevel, lowerLevel, distance, ticksTo, dueTic
 use Rattle.machine.specs.Next.{nextCommand, commandTick, leastDue, nextTick}
 use Rattle.machine.specs.Start.{startSlope, startDue, startOf, startState, idleState}
 use Rattle.machine.specs.Reach.{isDue, setsInput, isCommanded, changes, dependsWith, linkReaches, reached}
-use Rattle.machine.specs.Instant.{positionAt, inputThen, inputsThen, moves, eventBytes, eventsAt, outputsThen, slopeThen, xThen, dueThen, figuresAfter}
+use Rattle.machine.specs.Instant.{positionAt, inputThen, inputsThen, moves, bytesOfEvent, eventsAt, outputsThen, slopeThen, xThen, dueThen, figuresAfter}
 use Rattle.machine.specs.Instant.{nextTickOf, instant, eventsOf}
 use Rattle.machine.specs.Status.{statusNumber, statusIntegrator, statusPaused, bars, barring, statusBy, statusAt, statusOf, isPaused}
 use Rattle.machine.specs.Runs.{afterRun, eventsOfRun, positionOf}
@@ -315,7 +315,7 @@ unfolding further ceilDiv limited within countOf numberAt bytesOf signedOf unsig
     planFinding findingOf accepted offsetFrom headerWords integratorWords fileWords encode natsZeroFrom intsZeroFrom planUnusedZero nodeValue valueWith
     valueOf sumOver rateOf upperLevel lowerLevel distance ticksTo dueTick dueOf nextCommand commandTick leastDue nextTick startSlope
     startDue startOf startState idleState isDue setsInput isCommanded changes dependsWith linkReaches reached positionAt inputThen
-    inputsThen moves eventBytes eventsAt outputsThen slopeThen xThen dueThen figuresAfter nextTickOf instant eventsOf bars barring statusNumber statusIntegrator statusPaused
+    inputsThen moves bytesOfEvent eventsAt outputsThen slopeThen xThen dueThen figuresAfter nextTickOf instant eventsOf bars barring statusNumber statusIntegrator statusPaused
     statusBy statusAt statusOf isPaused afterRun eventsOfRun positionOf withRatesAndDues plainStart plainNextTick plainPosition plainOutputs plainInstant
     plainStatus plainEventsOf plainEventsFrom plainEvents lazyCount plainFrom plainAfter planSound runningUnusedZero integratorSound runningSound isSound
 further-right =

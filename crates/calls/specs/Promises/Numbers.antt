@@ -10,8 +10,8 @@ use Rattle.integers.specs.Division.{floor65536}
 use Rattle.integers.specs.Range.{limited}
 use Rattle.bitset.specs.Counts.{countOf}
 use Rattle.words.specs.Word.{word, signedWord}
-use Rattle.plan.specs.Numbers.{M, never, largestHorizon, largestCoefficient, largestBudget, listingBudget, largestCounts, entrySizes, headerLength}
-use Rattle.plan.specs.Numbers.{longestFile, eventSize}
+use Rattle.plan.specs.Numbers.{M, never, largestHorizon, largestCoefficient, largestBudget, listingBudget, largestCounts, entrySizes, headerBytes}
+use Rattle.plan.specs.Numbers.{longestFile, eventBytes}
 use Rattle.plan.specs.Lists.{natAt}
 
 pub record NumbersMean : Type 0 where
@@ -32,12 +32,12 @@ pub record NumbersMean : Type 0 where
   pub budget : largestBudget ≡ 1024
   pub listing-budget : listingBudget ≡ 64
   -- "Header, 44 bytes"; "Sections in order" with the bytes of an entry and the largest counts; the file that has the most of each
-  pub header : headerLength ≡ 44
+  pub header : headerBytes ≡ 44
   pub entries : entrySizes ≡ 8 ∷ 4 ∷ 20 ∷ 12 ∷ 12 ∷ []
   pub counts : largestCounts ≡ 32 ∷ 8 ∷ 16 ∷ 256 ∷ 64 ∷ []
   pub longest : longestFile ≡ 44 + 8 * 32 + 4 * 8 + 20 * 16 + 12 * 256 + 12 * 64
   -- "12 bytes each: tick, source, signed value"
-  pub event : eventSize ≡ 12
+  pub event : eventBytes ≡ 12
   -- "Division by 65,536 is written floor(..), rounding towards minus infinity."
   pub floor-below : (v : ℤ) → (pos 65536 *ℤ floor65536 v) ≤ℤ v
   pub floor-above : (v : ℤ) → v <ℤ (pos 65536 *ℤ (floor65536 v +ℤ pos 1))

@@ -4,7 +4,7 @@ use mathlib.Core.Path.{_≡_, sym, _∙_}
 use lib.ListN.{length}
 use denote.Ref.{now}
 use borrow.Author.Tests.{le-leb, lt-leb}
-use Rattle.plan.specs.Numbers.{headerLength}
+use Rattle.plan.specs.Numbers.{headerBytes}
 use Rattle.plan.specs.Tests.{longEnough, offsetsKept, sizesKept}
 use Rattle.plan.specs.Refusals.{numberOf, isClean, unless, orElse}
 use Rattle.plan.specs.declared.Finding.the-variants.{Offsets, Sizes}
@@ -18,13 +18,13 @@ use Rattle.directory.proofs.check_directory.Tie as tie
 left : (c : tie.Else1) → let file = now (c .before .before .args .file) in
     directoryFinding file ≡ orElse (unless (offsetsKept file) Offsets) (unless (sizesKept file) Sizes)
 unfolding directoryFinding orElse isClean numberOf longEnough
-left c = let file = now (c .before .before .args .file) in rw (le-leb headerLength (length file) (omega arith))
+left c = let file = now (c .before .before .args .file) in rw (le-leb headerBytes (length file) (omega arith))
 
 returns : tie.Need-returns
 unfolding directoryFinding orElse isClean numberOf longEnough
 returns c =
     let file = now (c .before .before .args .file) in
-    sym (rw (lt-leb headerLength (length file) (omega arith)))
+    sym (rw (lt-leb headerBytes (length file) (omega arith)))
 
 check-offsets-requires : tie.Need-check-offsets-requires
 check-offsets-requires c κs = search needs

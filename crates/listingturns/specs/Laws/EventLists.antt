@@ -14,7 +14,7 @@ use Rattle.plan.specs.Lists.{joined}
 use Rattle.plan.specs.declared.Plan.{Plan}
 use Rattle.machine.specs.Values.{valueWith}
 use Rattle.machine.specs.Reach.{changes}
-use Rattle.machine.specs.Instant.{eventBytes, eventsAt, inputsThen, outputsThen, nextTickOf, instant, eventsOf}
+use Rattle.machine.specs.Instant.{bytesOfEvent, eventsAt, inputsThen, outputsThen, nextTickOf, instant, eventsOf}
 use Rattle.machine.specs.Status.{isPaused}
 use Rattle.machine.specs.Runs.{eventsOfRun}
 use Rattle.machine.specs.Laws.EventWords.{length-event, event-source}
@@ -29,10 +29,10 @@ pub record EventList (bytes : List ℕ) : Type 0 where
 none : EventList []
 none = record { count = 0; size = refl; sources = λ i h. absurd (omega arith) }
 
-one : (t i : ℕ) (value : ℤ) → i < 10 ^ 2 → EventList (eventBytes t i value)
+one : (t i : ℕ) (value : ℤ) → i < 10 ^ 2 → EventList (bytesOfEvent t i value)
 one t i value h = record { count = 1; size = length-event t i value; sources = go }
   where
-    go : (j : ℕ) → j < 1 → word (eventBytes t i value) (12 * j + 4) < 10 ^ 2
+    go : (j : ℕ) → j < 1 → word (bytesOfEvent t i value) (12 * j + 4) < 10 ^ 2
     go zero l = rw (event-source t i value (omega arith)) h
     go (suc j) l = absurd (omega arith)
 
@@ -50,12 +50,12 @@ both {front} {rest} a b =
         rw (number-behind 4 front rest (12 * (i - a .count) + 4) (12 * i + 4) (omega (arith, a .size))) (b .sources (i - a .count) (omega arith))
 
 -- ---- the events of an instant, and of a run
-chosen : (test : ℕ → Bool) (t : ℕ) (value : ℕ → ℤ) (n : ℕ) → n ≤ 10 ^ 2 → EventList (joined (λ i. cond (test i) (eventBytes t i (value i)) []) n)
+chosen : (test : ℕ → Bool) (t : ℕ) (value : ℕ → ℤ) (n : ℕ) → n ≤ 10 ^ 2 → EventList (joined (λ i. cond (test i) (bytesOfEvent t i (value i)) []) n)
 unfolding joined
 chosen test t value zero h = none
 chosen test t value (suc n) h = both (chosen test t value n (omega arith)) (go (test n))
   where
-    go : (b : Bool) → EventList (cond b (eventBytes t n (value n)) [])
+    go : (b : Bool) → EventList (cond b (bytesOfEvent t n (value n)) [])
     go true = one t n (value n) (omega arith)
     go false = none
 

@@ -18,25 +18,25 @@ use Rattle.plan.specs.Laws.Small.{size-mag}
 use Rattle.plan.specs.declared.Plan.{Plan}
 use Rattle.machine.specs.Values.{valueWith}
 use Rattle.machine.specs.Reach.{changes}
-use Rattle.machine.specs.Instant.{eventBytes, eventsAt}
+use Rattle.machine.specs.Instant.{bytesOfEvent, eventsAt}
 use Rattle.machine.specs.Laws.SelectedBlocks.{length-chosen, number-chosen, bytes-chosen}
 
 -- ---- one event
 module _ (t source : ℕ) (value : ℤ) where
-  pub length-event : length (eventBytes t source value) ≡ 12
-  unfolding eventBytes
+  pub length-event : length (bytesOfEvent t source value) ≡ 12
+  unfolding bytesOfEvent
   length-event = length-flat (t ∷ source ∷ wordOf value ∷ [])
 
-  pub event-tick : t < 2 ^ 32 → word (eventBytes t source value) 0 ≡ t
-  unfolding eventBytes
+  pub event-tick : t < 2 ^ 32 → word (bytesOfEvent t source value) 0 ≡ t
+  unfolding bytesOfEvent
   event-tick h = word-flat (t ∷ source ∷ wordOf value ∷ []) 0 (omega arith) h
 
-  pub event-source : source < 2 ^ 32 → word (eventBytes t source value) 4 ≡ source
-  unfolding eventBytes
+  pub event-source : source < 2 ^ 32 → word (bytesOfEvent t source value) 4 ≡ source
+  unfolding bytesOfEvent
   event-source h = word-flat (t ∷ source ∷ wordOf value ∷ []) 1 (omega arith) h
 
-  pub event-value : ∣ value ∣ ≤ M → signedWord (eventBytes t source value) 8 ≡ value
-  unfolding eventBytes
+  pub event-value : ∣ value ∣ ≤ M → signedWord (bytesOfEvent t source value) 8 ≡ value
+  unfolding bytesOfEvent
   event-value h =
       let small : mag value < 2 ^ 31 = omega (arith, size-mag value) in
       ap (signedOf 4) (word-flat (t ∷ source ∷ wordOf value ∷ []) 2 (omega arith) (unsigned-lt 4 (omega arith) value small))
@@ -45,7 +45,7 @@ module _ (t source : ℕ) (value : ℤ) where
 -- ---- the events of an instant
 -- the bytes of source i's event
 abbrev pub eventOf : (p : Plan) (t : ℕ) (q u : List ℤ) (i : ℕ) → List ℕ
-eventOf p t q u i = eventBytes t i (valueWith p q u zero i)
+eventOf p t q u i = bytesOfEvent t i (valueWith p q u zero i)
 
 module _ (p : Plan) (d : List ℕ) (t : ℕ) (q u : List ℤ) where
   length-one : (i : ℕ) → length (eventOf p t q u i) ≡ 12
@@ -74,5 +74,5 @@ module _ (p : Plan) (d : List ℕ) (t : ℕ) (q u : List ℤ) where
 
 -- the events are bytes
 pub bytes-events : (p : Plan) (d : List ℕ) (t : ℕ) (q u : List ℤ) → Bytes (eventsAt p d t q u)
-unfolding eventsAt eventBytes
+unfolding eventsAt bytesOfEvent
 bytes-events p d t q u = bytes-chosen (changes p d t) (eventOf p t q u) (λ i. bytes-flat _) (p .counts .n + p .counts .m)

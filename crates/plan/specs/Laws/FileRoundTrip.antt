@@ -11,7 +11,7 @@ use Rattle.words.specs.Word.{Bytes, unsignedOf, word, signedWord, wordOf, flat}
 use Rattle.words.specs.Laws.Reading.{number-lt, bytes-number}
 use Rattle.words.specs.Laws.Flat.{length-flat, flat-append, flat-read}
 use Rattle.words.specs.Laws.Signs.{unsigned-signed}
-use Rattle.plan.specs.Numbers.{sections, entrySizes, headerLength}
+use Rattle.plan.specs.Numbers.{sections, entrySizes, headerBytes}
 use Rattle.plan.specs.Lists.{natAt, intAt, joined}
 use Rattle.plan.specs.Format.{horizonIn, offsetIn, lengthIn, countIn, part}
 use Rattle.plan.specs.Format.{sectionIn, signedsIn, planIn}
@@ -103,11 +103,11 @@ module _ (file : List ℕ) (b : Bytes file) (o : OffsetRule file) (z : SizeRule 
   offset-in zero h = offset-first (planIn file) ∙ sym (o .first)
   offset-in (suc k) h = rw (offset-next (planIn file) k, offset-in k (omega arith), length-in k (omega arith)) (sym (o .next k h))
 
-  header-written : flat (headerWords (planIn file)) ≡ take headerLength file
+  header-written : flat (headerWords (planIn file)) ≡ take headerBytes file
   unfolding headerWords offsetOf lengthOf flat planIn horizonIn offsetIn lengthIn
   header-written = rw (bytes-number 4 0 b (omega (arith, long))) (joined-reads file pairs (λ k. 4 + 8 * k) sections b ascendsAt)
     where
-      long : headerLength ≤ length file
+      long : headerBytes ≤ length file
       long = omega (arith, offsets file o)
 
       pairs : ℕ → List ℕ

@@ -4,7 +4,7 @@ use mathlib.Core.List.{List}
 use Prim.Native.Nat.{ℕ, zero, suc, _%_, _≤_, _<_}
 use native.Mathlib.Omega.{arith}
 use lib.ListN.{length}
-use Rattle.plan.specs.Numbers.{sections, entrySizes, headerLength}
+use Rattle.plan.specs.Numbers.{sections, entrySizes, headerBytes}
 use Rattle.plan.specs.Lists.{natAt}
 use Rattle.plan.specs.Format.{offsetIn, lengthIn, requiredOffset, countIn}
 use Rattle.plan.specs.Tests.{longEnough, offsetsKept, sizesKept}
@@ -13,9 +13,9 @@ use Rattle.plan.specs.Laws.TestMeanings.{Means, leb-means, eqb-means, bo
 use Rattle.plan.specs.Laws.PlanTests.{count-kept}
 
 module _ (file : List ℕ) where
-  pub long-kept : Means (longEnough file) (headerLength ≤ length file)
+  pub long-kept : Means (longEnough file) (headerBytes ≤ length file)
   unfolding longEnough
-  long-kept = leb-means headerLength (length file)
+  long-kept = leb-means headerBytes (length file)
 
   pub offsets-kept : Means (offsetsKept file) (OffsetRule file)
   unfolding offsetsKept requiredOffset

@@ -10,7 +10,7 @@ use lib.ListN.{length, getD, length-append, List·getD-append}
 use borrow.Author.Tests.{le-leb, eq-eqb}
 use Rattle.words.specs.Word.{word, flat}
 use Rattle.words.specs.Laws.Flat.{word-flat}
-use Rattle.plan.specs.Numbers.{sections, entrySizes, leastCounts, largestCounts, headerLength}
+use Rattle.plan.specs.Numbers.{sections, entrySizes, leastCounts, largestCounts, headerBytes}
 use Rattle.plan.specs.Lists.{natAt, joined}
 use Rattle.plan.specs.Format.{horizonIn, offsetIn, lengthIn, requiredOffset}
 use Rattle.plan.specs.Format.{countIn, sectionIn}
@@ -34,7 +34,7 @@ length-whole p =
 
 module _ (p : Plan) (r : PlanRules p) where
   -- word j of the header
-  header-read : (j : ℕ) → 4 * j < headerLength → word (encode p) (4 * j) ≡ getD (headerWords p) j 0
+  header-read : (j : ℕ) → 4 * j < headerBytes → word (encode p) (4 * j) ≡ getD (headerWords p) j 0
   unfolding encode wordsTo
   header-read j h =
       let l = length-header p in
@@ -74,7 +74,7 @@ module _ (p : Plan) (r : PlanRules p) where
   -- ---- the rules of the file
   pub long-enough : longEnough (encode p) ≡ true
   unfolding longEnough
-  long-enough = le-leb headerLength (length (encode p)) (omega (arith, length-encode p, file-least p (r .counts)))
+  long-enough = le-leb headerBytes (length (encode p)) (omega (arith, length-encode p, file-least p (r .counts)))
 
   pub offsets-back : offsetsKept (encode p) ≡ true
   unfolding offsetsKept fileLength

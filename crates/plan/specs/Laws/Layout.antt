@@ -8,7 +8,7 @@ use lib.ListN.{length, getD, length-append}
 use lib.Seq.{take-at, drop-at}
 use Rattle.words.specs.Word.{word, flat}
 use Rattle.words.specs.Laws.Flat.{length-flat, flat-append, word-flat}
-use Rattle.plan.specs.Numbers.{sections, entrySizes, headerLength}
+use Rattle.plan.specs.Numbers.{sections, entrySizes, headerBytes}
 use Rattle.plan.specs.Lists.{natAt, joined}
 use Rattle.plan.specs.Format.{part}
 use Rattle.plan.specs.Tests.{countList}
@@ -50,7 +50,7 @@ module _ (p : Plan) where
   wordsTo k = headerWords p ++ joined sectionWords k
 
   -- ---- offsets
-  pub offset-first : offsetOf p 0 ≡ headerLength
+  pub offset-first : offsetOf p 0 ≡ headerBytes
   unfolding offsetFrom offsetOf
   offset-first = refl
 
@@ -69,7 +69,7 @@ module _ (p : Plan) where
       let l = length-joined (entryWords k) (natAt entryWidths k) (natAt (countList p) k) (λ i g. length-entry k i h) in
       rw (l, size-width k h) (omega arith)
 
-  pub length-header : 4 * length (headerWords p) ≡ headerLength
+  pub length-header : 4 * length (headerWords p) ≡ headerBytes
   unfolding headerWords joined
   length-header = refl
 

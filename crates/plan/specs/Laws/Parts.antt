@@ -7,7 +7,7 @@ use native.Mathlib.Omega.{arith}
 use lib.ListN.{length, length-take, length-drop}
 use Rattle.words.specs.Word.{Bytes}
 use Rattle.words.specs.Laws.Reading.{number-lt, bytes-take, bytes-drop}
-use Rattle.plan.specs.Numbers.{sections, entrySizes, leastCounts, largestCounts, headerLength}
+use Rattle.plan.specs.Numbers.{sections, entrySizes, leastCounts, largestCounts, headerBytes}
 use Rattle.plan.specs.Lists.{natAt}
 use Rattle.plan.specs.Format.{offsetIn, lengthIn, countIn, part}
 use Rattle.plan.specs.Format.{sectionIn}
@@ -30,7 +30,7 @@ module _ (file : List ℕ) where
 
   module _ (o : OffsetRule file) where
     -- the sections stand one behind the other
-    pub offsets : (offsetIn file 0 ≡ headerLength) × (offsetIn file 1 ≡ offsetIn file 0 + lengthIn file 0)
+    pub offsets : (offsetIn file 0 ≡ headerBytes) × (offsetIn file 1 ≡ offsetIn file 0 + lengthIn file 0)
         × (offsetIn file 2 ≡ offsetIn file 1 + lengthIn file 1) × (offsetIn file 3 ≡ offsetIn file 2 + lengthIn file 2)
         × (offsetIn file 4 ≡ offsetIn file 3 + lengthIn file 3) × (length file ≡ offsetIn file 4 + lengthIn file 4)
     offsets =

@@ -4,7 +4,7 @@ use mathlib.Core.List.{List}
 use Prim.Native.Nat.{ℕ, zero, suc, _+_, _*_, _≤_, _<_}
 use native.Mathlib.Numerals.{add-one}
 use native.Mathlib.Omega.{arith}
-use Rattle.plan.specs.Numbers.{sections, headerLength}
+use Rattle.plan.specs.Numbers.{sections, headerBytes}
 use Rattle.plan.specs.Tests.{countList}
 use Rattle.plan.specs.Rules.{CountsRule}
 use Rattle.plan.specs.Laws.Layout.{each-section}
@@ -14,7 +14,7 @@ use Rattle.planwriter.specs.Header.{CountsWithinLimits}
 
 module _ (cs : List ℕ) where
   -- the first offset, and each next one in the code's form
-  pub offset-none : offsetFrom cs 0 ≡ headerLength
+  pub offset-none : offsetFrom cs 0 ≡ headerBytes
   unfolding offsetFrom
   offset-none = refl
 
@@ -30,7 +30,7 @@ module _ (cs : List ℕ) where
         (omega (arith, l 0 (omega arith))) (omega (arith, l 1 (omega arith))) (omega (arith, l 2 (omega arith)))
         (omega (arith, l 3 (omega arith))) (omega (arith, l 4 (omega arith)))
 
-    pub offset-limit : (k : ℕ) → k ≤ sections → offsetFrom cs k ≤ headerLength + 3072 * k
+    pub offset-limit : (k : ℕ) → k ≤ sections → offsetFrom cs k ≤ headerBytes + 3072 * k
     unfolding offsetFrom
     offset-limit zero h = omega arith
     offset-limit (suc k) h = let ih = offset-limit k (omega arith) in let s = length-limit k h in omega arith

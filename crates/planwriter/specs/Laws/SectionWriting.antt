@@ -9,7 +9,7 @@ use borrow.Author.Tests.{le-leb, lt-leb}
 use Rattle.integers.specs.Laws.Parts.{zs}
 use Rattle.words.specs.Putting.{written}
 use Rattle.words.specs.Laws.Flat.{length-flat}
-use Rattle.plan.specs.Numbers.{M, sections, headerLength}
+use Rattle.plan.specs.Numbers.{M, sections, headerBytes}
 use Rattle.plan.specs.Lists.{natAt, intAt, joined}
 use Rattle.plan.specs.Tests.{countList}
 use Rattle.plan.specs.Rules.{Within, PlanRules}
@@ -121,7 +121,7 @@ module _ (p : Plan) (old : List ℕ) {size : ℕ} (e : size ≡ offsetFrom (coun
   length-of = e
 
   -- the header
-  pub header-room : size ≤ length old → headerLength ≤ length old
+  pub header-room : size ≤ length old → headerBytes ≤ length old
   unfolding offsetFrom
   header-room h = omega arith
 

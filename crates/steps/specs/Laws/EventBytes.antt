@@ -20,7 +20,7 @@ use Rattle.plan.specs.Laws.CountLimits.{count-limits}
 use Rattle.plan.specs.declared.Plan.{Plan}
 use Rattle.machine.specs.Values.{valueWith}
 use Rattle.machine.specs.Reach.{changes}
-use Rattle.machine.specs.Instant.{eventBytes, eventsAt}
+use Rattle.machine.specs.Instant.{bytesOfEvent, eventsAt}
 use Rattle.machine.specs.Laws.EventWords.{length-events}
 use Rattle.steps.specs.Events.{eventsIn, EventsReady}
 
@@ -51,11 +51,11 @@ module _ (p : Plan) (rules : PlanRules p) (d : List ℕ) (t : ℕ) (q u values :
       let limits = count-limits p (rules .counts) in
       let all : p .counts .n + p .counts .m + (64 - (p .counts .n + p .counts .m)) ≡ 64 = omega arith in
       ap (joined written) (sym all) ∙ joined-cut written (p .counts .n + p .counts .m) (64 - (p .counts .n + p .counts .m)) (λ i h. rw (changed-above i h))
-      ∙ joined-ext written (λ i. cond (changes p d t i) (eventBytes t i (valueWith p q u zero i)) []) (p .counts .n + p .counts .m)
+      ∙ joined-ext written (λ i. cond (changes p d t i) (bytesOfEvent t i (valueWith p q u zero i)) []) (p .counts .n + p .counts .m)
       (λ i h. rw (changed-below i h, value i h))
     where
       written : ℕ → List ℕ
-      written i = cond (has changed i) (eventBytes t i (intAt values i)) []
+      written i = cond (has changed i) (bytesOfEvent t i (intAt values i)) []
 
   -- writing them asks for room and for values of their size
   pub events-ready : (at size : ℕ) → at + (p .counts .n + p .counts .m) * 12 ≤ size → ((i : ℕ) → i < p .counts .n + p .counts .m → ∣ intAt values i ∣ ≤ M)

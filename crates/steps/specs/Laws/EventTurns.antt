@@ -12,7 +12,7 @@ use Rattle.bitset.specs.Mask.{has, each, lowestOf, restOf}
 use Rattle.bitset.specs.Laws.Visiting.{rest-lt, lowest-lt, has-lowest, has-rest, each-step, each-done}
 use Rattle.plan.specs.Lists.{intAt, joined}
 use Rattle.plan.specs.Laws.Small.{size-mag}
-use Rattle.machine.specs.Instant.{eventBytes}
+use Rattle.machine.specs.Instant.{bytesOfEvent}
 use Rattle.machine.specs.Laws.EventWords.{length-event}
 use Rattle.steps.specs.Events.{eventsIn, putAt, EventsReady}
 use Rattle.steps.specs.Laws.Buffers.{length-put, put-none, put-append}
@@ -33,7 +33,7 @@ each-append f test (suc n) s = go (test n) (each-append f test n s)
 
 module _ (t : ℕ) (values : List ℤ) where
   abbrev pub eventOf : ℕ → List ℕ
-  eventOf i = eventBytes t i (intAt values i)
+  eventOf i = bytesOfEvent t i (intAt values i)
 
   module _ (m : ℕ) where
     pub events-first : 0 < m → m < 2 ^ 64 → eventsIn t m values ≡ eventOf (lowestOf 64 m) ++ eventsIn t (restOf m) values

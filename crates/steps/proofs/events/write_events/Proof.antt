@@ -8,7 +8,7 @@ use Rattle.bitset.specs.Laws.Visiting.{rest-lt}
 use Rattle.words.specs.Word.{wordOf}
 use Rattle.words.specs.Laws.Putting.{rd32, length-behind}
 use Rattle.plan.specs.Lists.{intAt}
-use Rattle.machine.specs.Instant.{eventBytes}
+use Rattle.machine.specs.Instant.{bytesOfEvent}
 use Rattle.steps.specs.Laws.Buffers.{put-back}
 use Rattle.steps.specs.Laws.EventTurns.{Writing, begun, finished, room, source-lt, value-small, turn}
 use Rattle.steps.proofs.events.write_events.Statement.{statement}
@@ -77,7 +77,7 @@ loop-less c =
     omega (arith, c .rest64 .ensures, rest-lt (inside .before .loop .left) (some inside))
 
 loop-again : tie.Need-loop-again Inv-loop μ-loop
-unfolding eventBytes
+unfolding bytesOfEvent
 loop-again c =
     let written = c .before .before .before .write-triple in
     let source = c .before .before .before .before .before .before .lowest64 in
