@@ -5,8 +5,9 @@
 //! - [`limits`], [`words`], [`status`], [`plan`]: the figures, the words of files and events, the three
 //!   statuses and the plan as plain data;
 //! - [`mod@file`]: the plan file, its refusals 1 to 9, the section view and the encoding;
-//! - [`plain`]: the plain machine, naive on purpose, with an observer of what a lazy engine moves;
-//! - [`engine`]: the lazy and the eager engine, which share no code with the plain machine;
+//! - [`engine`]: the lazy and the eager engine;
+//! - [`plain`]: the plain machine, naive on purpose, which shares no code with the engines, with an
+//!   observer of what each of them moves;
 //! - [`raw`], [`sound`], [`calls`]: the state as a struct of arrays, its soundness, the public calls;
 //! - [`fast`]: the lazy engine once more, written for speed, to time the proved one against;
 //! - [`listing`]: the listing program as a function;

@@ -2,8 +2,9 @@
 
 mod common;
 
-use common::{loaded, spoiled_cups, CHECKER, ENGINES, MARK};
+use common::{loaded, spoiled_cups, CHECKER, MARK};
 use cup_check::calls::Simulator;
+use cup_check::engine::Engine;
 use cup_check::generate::breakage::with_wild_number;
 use cup_check::generate::states::sound_state;
 use cup_check::generate::{plans, Breakage, Rng};
@@ -24,7 +25,7 @@ fn assert_breaks(state: &RawState, clause: Clause) {
 /// Asserts that every call declines by 10 and changes nothing.
 fn assert_declined(state: &RawState) {
     let mut buffer = [MARK; 5_000];
-    for engine in ENGINES {
+    for engine in Engine::BOTH {
         let ran = CHECKER.run(engine, state, 1, &mut buffer);
         assert_eq!((ran.number, ran.status), (REFUSED_UNSOUND, 0));
         assert_eq!((ran.integrator, ran.written), (0, 0));

@@ -2,7 +2,7 @@
 
 mod common;
 
-use common::{loaded, run, CHECKER, ENGINES, MARK};
+use common::{loaded, run, CHECKER, MARK};
 use cup_check::calls::{Ran, Simulator};
 use cup_check::engine::Engine;
 use cup_check::file::encode;
@@ -30,7 +30,7 @@ fn run_with(engine: Engine, state: &RawState, budget: u64, length: usize) -> (Ra
 
 /// Asserts that both runs decline with a number and change nothing.
 fn assert_declined(state: &RawState, budget: u64, length: usize, number: usize) {
-    for engine in ENGINES {
+    for engine in Engine::BOTH {
         let (ran, buffer) = run_with(engine, state, budget, length);
         let expected = Ran {
             number,
@@ -59,7 +59,7 @@ fn runs_decline_by_10_then_11_then_12() {
 
 #[test]
 fn the_largest_budget_and_the_shortest_buffer_are_accepted() {
-    for engine in ENGINES {
+    for engine in Engine::BOTH {
         assert_eq!(
             run_with(engine, &start(), 1_024, 1_024 * INSTANT).0.number,
             0
@@ -71,7 +71,7 @@ fn the_largest_budget_and_the_shortest_buffer_are_accepted() {
 
 #[test]
 fn bytes_after_those_written_keep_their_value() {
-    for engine in ENGINES {
+    for engine in Engine::BOTH {
         let (ran, buffer) = run_with(engine, &start(), 2, 2 * INSTANT + 7);
         assert_eq!(ran.written, 24);
         assert!(buffer[24..].iter().all(|&byte| byte == MARK));

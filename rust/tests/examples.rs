@@ -2,7 +2,7 @@
 
 mod common;
 
-use common::{events_of_plan, loaded, run, run_plan, CHECKER, ENGINES};
+use common::{events_of_plan, loaded, run, run_plan, CHECKER};
 use cup_check::calls::Simulator;
 use cup_check::engine::{rules, Engine};
 use cup_check::file::encode;
@@ -57,7 +57,7 @@ fn p1_lazy_updates_are_3_and_eager_updates_4() {
 
 #[test]
 fn p1_positions_at_clock_6_are_18_and_24() {
-    for engine in ENGINES {
+    for engine in Engine::BOTH {
         let state = run_plan(engine, &document_cup(), 64).state;
         assert_eq!(state.run.clocks.clock, 6);
         assert_eq!(CHECKER.position(&state, 0).value, 18);

@@ -2,7 +2,7 @@
 
 mod common;
 
-use common::{events_of_plan, loaded, refusal, refusal_of_plan, run, run_plan, CHECKER, ENGINES};
+use common::{events_of_plan, loaded, refusal, refusal_of_plan, run, run_plan, CHECKER};
 use cup_check::calls::Simulator;
 use cup_check::engine::Engine;
 use cup_check::file::encode;
@@ -145,7 +145,7 @@ fn wild_counts_are_refused_without_being_added() {
         state.plan.counts.k = value;
         state.plan.counts.links = value;
         state.plan.counts.commands = value;
-        for engine in ENGINES {
+        for engine in Engine::BOTH {
             assert_eq!(CHECKER.run(engine, &state, 0, &mut []).number, 10);
         }
         assert_eq!(CHECKER.position(&state, 0).number, 10);
@@ -234,7 +234,7 @@ fn barred() -> Plan {
 
 #[test]
 fn range_names_the_lowest_integrator_beyond_and_not_the_lowest_due() {
-    for engine in ENGINES {
+    for engine in Engine::BOTH {
         let ran = run_plan(engine, &barred(), 3);
         assert_eq!((ran.number, ran.status, ran.integrator), (0, 2, 1));
     }
@@ -243,7 +243,7 @@ fn range_names_the_lowest_integrator_beyond_and_not_the_lowest_due() {
 #[test]
 fn range_bars_the_commands_of_its_tick_too() {
     let start = loaded(&barred());
-    for engine in ENGINES {
+    for engine in Engine::BOTH {
         let (ran, bytes) = run(engine, &start, 3);
         assert!(bytes.is_empty());
         assert_eq!(ran.state, start);
@@ -325,7 +325,7 @@ fn budget_0_with_an_empty_buffer_answers_the_status() {
         (loaded(&barred()), 2, 1),
     ];
     for (state, status, integrator) in states {
-        for engine in ENGINES {
+        for engine in Engine::BOTH {
             let ran = CHECKER.run(engine, &state, 0, &mut []);
             assert_eq!((ran.number, ran.written), (0, 0));
             assert_eq!((ran.status, ran.integrator), (status, integrator));
@@ -347,7 +347,7 @@ fn a_run_that_starts_at_its_end_changes_nothing() {
         run_plan(Engine::Eager, &document_cup(), 9).state,
         loaded(&barred()),
     ] {
-        for engine in ENGINES {
+        for engine in Engine::BOTH {
             let (ran, bytes) = run(engine, &state, 1_024);
             assert_eq!((ran.number, bytes.len()), (0, 0));
             assert_eq!(ran.state, state);

@@ -2,8 +2,9 @@
 
 mod common;
 
-use common::{listing_by_plain, loaded, run, CHECKER, ENGINES};
+use common::{listing_by_plain, loaded, run, CHECKER};
 use cup_check::calls::Simulator;
+use cup_check::engine::Engine;
 use cup_check::file::encode;
 use cup_check::generate::states::sound_state;
 use cup_check::generate::{plans, Rng};
@@ -42,7 +43,7 @@ fn a_written_state_loads_as_the_start_of_its_plan() {
     for_plans(1_000, |rng, plan| {
         let start = loaded(plan);
         let budget = rng.below(50) as u64;
-        let (ran, _) = run(rng.pick(&ENGINES), &start, budget);
+        let (ran, _) = run(rng.pick(&Engine::BOTH), &start, budget);
         assert_eq!(CHECKER.load(&written(&ran.state)).state, start);
         let by_hand = sound_state(rng, plan);
         assert_eq!(CHECKER.load(&written(&by_hand)).state, start);

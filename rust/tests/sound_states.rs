@@ -2,7 +2,7 @@
 
 mod common;
 
-use common::{events, loaded, rng_of, run, CHECKER, ENGINES};
+use common::{events, loaded, rng_of, run, CHECKER};
 use cup_check::compare::continued_list;
 use cup_check::compare::counts::STATUSES;
 use cup_check::engine::Engine;
@@ -47,7 +47,7 @@ fn any_sound_state_runs_right() {
 fn a_clock_between_instants_runs_right() {
     let mut met = compare_continued(60, |rng, plan| {
         let budget = rng.below(40) as u64;
-        let engine = rng.pick(&ENGINES);
+        let engine = rng.pick(&Engine::BOTH);
         let (ran, _) = run(engine, &loaded(plan), budget);
         between_instants(rng, &ran.state)
     });

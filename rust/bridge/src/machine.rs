@@ -5,6 +5,7 @@
 
 use crate::header;
 use crate::state::{Loaded, Positioned, Ran, State, Tables, Written};
+use cup_check::engine::Engine;
 
 /// Loads a plan file: number, entry, and the start state or the idle state.
 #[allow(unsafe_code)]
@@ -63,17 +64,16 @@ pub fn run_eager(state: &State, budget: u64, buffer: &mut [u8]) -> Box<Ran> {
 }
 
 /// A run by either engine.
-pub fn run(state: &State, eager: bool, budget: u64, buffer: &mut [u8]) -> Box<Ran> {
-    if eager {
-        run_eager(state, budget, buffer)
-    } else {
-        run_lazy(state, budget, buffer)
+pub fn run(engine: Engine, state: &State, budget: u64, buffer: &mut [u8]) -> Box<Ran> {
+    match engine {
+        Engine::Lazy => run_lazy(state, budget, buffer),
+        Engine::Eager => run_eager(state, budget, buffer),
     }
 }
 
 /// One instant: a run with budget 1.
-pub fn instant(state: &State, eager: bool, buffer: &mut [u8]) -> Box<Ran> {
-    run(state, eager, 1, buffer)
+pub fn instant(engine: Engine, state: &State, buffer: &mut [u8]) -> Box<Ran> {
+    run(engine, state, 1, buffer)
 }
 
 /// The position call: 10 for a state that is not sound, 14 for an integrator number of n or more, else

@@ -3,6 +3,7 @@
 use cup_bridge::machine::{instant, load, position, run, sound, tables};
 use cup_bridge::state::{State, Tables};
 use cup_bridge::{meaning, read, rewrite, section, Answer, Rewritten};
+use cup_check::engine::Engine;
 use cup_check::file::read::place_in;
 use cup_check::samples;
 use cup_check::words::{signed_at, word_at};
@@ -102,14 +103,14 @@ fn positions(state: &State) -> [i64; 2] {
 fn a_cup_in_full_instant_by_instant() {
     let start = load(&kept("plans/sample.plan")).state;
     assert_eq!((start.run.s[..2].to_vec(), start.run.d[0]), (vec![3, 0], 4));
-    for (eager, updates) in [(false, [2, 3]), (true, [2, 4])] {
+    for (engine, updates) in [(Engine::Lazy, [2, 3]), (Engine::Eager, [2, 4])] {
         let mut buffer = [7; 40];
-        let first = instant(&start, eager, &mut buffer);
+        let first = instant(engine, &start, &mut buffer);
         assert_eq!((first.number, first.status, first.integrator), (0, 0, 0));
         assert_eq!(events(&buffer[..first.written]), [(4, 0, 12)]);
         assert_eq!(buffer[12..], [7; 28]);
         assert_eq!(first.state.run.clocks.updates, updates[0]);
-        let second = instant(&first.state, eager, &mut buffer[..36]);
+        let second = instant(engine, &first.state, &mut buffer[..36]);
         assert_eq!((second.number, second.status), (0, 1));
         assert_eq!(events(&buffer[..second.written]), [(6, 2, -3)]);
         let run = &second.state.run;
@@ -119,11 +120,11 @@ fn a_cup_in_full_instant_by_instant() {
         );
         assert_eq!(positions(&second.state), [18, 24]);
         // Finished: nothing more happens.
-        let third = instant(&second.state, eager, &mut buffer[..36]);
+        let third = instant(engine, &second.state, &mut buffer[..36]);
         assert_eq!((third.number, third.status, third.written), (0, 1, 0));
         assert_eq!(third.state, second.state);
         // One byte short.
-        let short = instant(&start, eager, &mut [7; 35]);
+        let short = instant(engine, &start, &mut [7; 35]);
         assert_eq!((short.number, short.status, short.written), (12, 0, 0));
         assert_eq!(short.state, start);
     }
@@ -134,9 +135,9 @@ fn a_cup_in_full_instant_by_instant() {
 fn a_cup_in_full_by_one_run() {
     let start = load(&kept("plans/sample.plan")).state;
     assert_eq!(positions(&start), [0, 0]);
-    for (eager, updates) in [(false, 3), (true, 4)] {
+    for (engine, updates) in [(Engine::Lazy, 3), (Engine::Eager, 4)] {
         let mut buffer = [7; 64 * 36];
-        let ran = run(&start, eager, 64, &mut buffer);
+        let ran = run(engine, &start, 64, &mut buffer);
         assert_eq!((ran.number, ran.status, ran.integrator), (0, 1, 0));
         assert_eq!(events(&buffer[..ran.written]), [(4, 0, 12), (6, 2, -3)]);
         assert!(buffer[24..].iter().all(|&byte| byte == 7));
@@ -147,12 +148,12 @@ fn a_cup_in_full_by_one_run() {
         );
         assert_eq!(positions(&ran.state), [18, 24]);
         // A run of no instant tells the status and needs no buffer.
-        let none = run(&start, eager, 0, &mut []);
+        let none = run(engine, &start, 0, &mut []);
         assert_eq!((none.number, none.status, none.written), (0, 0, 0));
         assert_eq!(none.state, start);
         let declined = |state: &State, budget, room: usize| {
             let mut buffer = vec![7; room];
-            let ran = run(state, eager, budget, &mut buffer);
+            let ran = run(engine, state, budget, &mut buffer);
             assert_eq!((ran.status, ran.integrator, ran.written), (0, 0, 0));
             assert_eq!(ran.state, *state);
             assert!(buffer.iter().all(|&byte| byte == 7));

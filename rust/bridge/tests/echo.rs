@@ -127,9 +127,9 @@ const INSTANT_BYTES: usize = (INTEGRATORS + INPUTS) * EVENT_BYTES;
 fn proved(state: &State) -> Answers {
     let mut file = vec![0; LONGEST_FILE];
     let number = write(state, &mut file).number;
-    let runs = [false, true].map(|eager| {
+    let runs = Engine::BOTH.map(|engine| {
         let mut events = vec![0; INSTANT_BYTES];
-        let ran = *instant(state, eager, &mut events);
+        let ran = *instant(engine, state, &mut events);
         (ran.number, ran.status, ran.integrator, events, ran.state)
     });
     Answers {
@@ -143,7 +143,7 @@ fn second(state: &State) -> Answers {
     let checker = Checker::default();
     let mut file = vec![0; LONGEST_FILE];
     let number = checker.write(&raw, &mut file).number;
-    let runs = [Engine::Lazy, Engine::Eager].map(|engine| {
+    let runs = Engine::BOTH.map(|engine| {
         let mut events = vec![0; INSTANT_BYTES];
         let ran = checker.run(engine, &raw, 1, &mut events);
         let state = State::from(&ran.state);

@@ -3,6 +3,7 @@
 
 use cup_bridge::campaign::{instants, soundness, starts, tables, writes, Archive, Machine};
 use cup_bridge::state::{Loaded, Ran, State, Tables, Written};
+use cup_check::engine::Engine;
 use cup_check::limits::{
     ACCEPTED, EVENT_BYTES, FINISHED, HEADER_BYTES, INPUTS, INTEGRATORS, INTEGRATOR_BYTES, NEVER,
     PAUSED, REFUSED_COMMAND, REFUSED_RUN_BUFFER, REFUSED_UNSOUND, REFUSED_WRITE_BUFFER, SOURCES,
@@ -218,19 +219,19 @@ impl Machine for Mutant {
         written
     }
 
-    fn instant(&self, state: &State, eager: bool, buffer: &mut [u8]) -> Box<Ran> {
+    fn instant(&self, engine: Engine, state: &State, buffer: &mut [u8]) -> Box<Ran> {
         let before = buffer.to_vec();
-        let eager = match self {
-            Mutant::InstantEagerForLazy => true,
-            Mutant::InstantLazyForEager => false,
-            _ => eager,
+        let engine = match self {
+            Mutant::InstantEagerForLazy => Engine::Eager,
+            Mutant::InstantLazyForEager => Engine::Lazy,
+            _ => engine,
         };
-        let mut ran = Archive.instant(state, eager, buffer);
+        let mut ran = Archive.instant(engine, state, buffer);
         let taken = ran.state.run.clocks.clock > state.run.clocks.clock;
         match ran.number {
             ACCEPTED if taken => self.mutate_taken(state, &mut ran, buffer),
             ACCEPTED => (),
-            _ => self.mutate_declined(state, eager, &mut ran, &before, buffer),
+            _ => self.mutate_declined(engine, state, &mut ran, &before, buffer),
         }
         let (number, room) = (ran.number, before.len());
         match self {
@@ -308,8 +309,8 @@ impl Mutant {
     /// The answer of a declined call as the mutant has it.
     fn mutate_declined(
         &self,
+        engine: Engine,
         state: &State,
-        eager: bool,
         ran: &mut Ran,
         before: &[u8],
         buffer: &mut [u8],
@@ -318,7 +319,7 @@ impl Mutant {
             Mutant::InstantWritesIntoShort if !buffer.is_empty() => buffer[0] ^= 1,
             Mutant::InstantOneByteShort => {
                 let mut longer = [before, &[0]].concat();
-                *ran = *Archive.instant(state, eager, &mut longer);
+                *ran = *Archive.instant(engine, state, &mut longer);
             }
             Mutant::InstantShortBeforeUnsound if buffer.is_empty() => {
                 ran.number = REFUSED_RUN_BUFFER

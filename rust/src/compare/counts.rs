@@ -1,5 +1,6 @@
 //! What is counted over lists of run calls.
 
+use crate::engine::Engine;
 use crate::limits::M;
 use crate::met::Met;
 use crate::plain::{Event, Plain, Taken};
@@ -17,8 +18,11 @@ pub const LAZILY_MOVED: [&str; 3] = [
 ];
 
 /// Counts an accepted call that took so many instants and left the plain machine here.
-pub fn count_accepted(met: &mut Met, eager: bool, instants: usize, plain: &Plain) {
-    met.count(if eager { "eager calls" } else { "lazy calls" });
+pub fn count_accepted(met: &mut Met, engine: Engine, instants: usize, plain: &Plain) {
+    met.count(match engine {
+        Engine::Lazy => "lazy calls",
+        Engine::Eager => "eager calls",
+    });
     met.count_if(instants == 0, "accepted, no instant");
     let status = plain.status();
     met.count(STATUSES[status.number()]);

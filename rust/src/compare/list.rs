@@ -195,27 +195,26 @@ impl Comparison<'_> {
         self.check_events(ran, buffer, events_before)?;
         self.check_single_instants(call.engine, ran, buffer, &moves)?;
         self.check_counts(ran, &moves)?;
-        let eager = call.engine == Engine::Eager;
-        count_accepted(self.met, eager, moves.len(), &self.plain);
+        count_accepted(self.met, call.engine, moves.len(), &self.plain);
         Ok(())
     }
 
     /// Feeds the plain machine one accepted budget; answers for each instant of the call which
     /// integrators it has to move.
     fn run_plain(&mut self, call: &Call) -> Vec<BTreeSet<usize>> {
-        let lazy = call.engine == Engine::Lazy;
         let plan = self.plain.plan;
         let mut moves = Vec::new();
         let (observer, met) = (&self.observer, &mut *self.met);
         self.plain.run_observed(u128::from(call.budget), |taken| {
-            let moved = observer.moved(taken, true);
-            count_instant(met, taken, moved.len(), plan);
-            if lazy {
-                count_lazy(met, moved.len(), plan);
-                moves.push(moved);
-            } else {
-                moves.push(observer.moved(taken, false));
-            }
+            let lazily_moved = observer.moved(Engine::Lazy, taken);
+            count_instant(met, taken, lazily_moved.len(), plan);
+            moves.push(match call.engine {
+                Engine::Lazy => {
+                    count_lazy(met, lazily_moved.len(), plan);
+                    lazily_moved
+                }
+                Engine::Eager => observer.moved(Engine::Eager, taken),
+            });
         });
         self.budget_sum += u128::from(call.budget);
         moves

@@ -22,3 +22,8 @@ pub enum Engine {
     /// All.
     Eager,
 }
+
+impl Engine {
+    /// The lazy engine, then the eager one.
+    pub const BOTH: [Engine; 2] = [Engine::Lazy, Engine::Eager];
+}

@@ -21,7 +21,7 @@ pub fn run_list(rng: &mut Rng, events_per_instant: usize) -> Vec<Call> {
     let engines: &[Engine] = match rng.below(6) {
         0 => &[Engine::Lazy],
         1 => &[Engine::Eager],
-        _ => &[Engine::Lazy, Engine::Eager],
+        _ => &Engine::BOTH,
     };
     let calls = rng.below(10) + 1;
     (0..calls)
@@ -33,7 +33,7 @@ pub fn run_list(rng: &mut Rng, events_per_instant: usize) -> Vec<Call> {
 /// of a plan that runs for so long.
 pub fn long_list(rng: &mut Rng, events_per_instant: usize) -> Vec<Call> {
     let buffer = LARGEST_BUDGET as usize * events_per_instant * EVENT_BYTES;
-    let engines = (0..12).map(|_| rng.pick(&[Engine::Lazy, Engine::Eager]));
+    let engines = (0..12).map(|_| rng.pick(&Engine::BOTH));
     let call = |engine| Call {
         engine,
         budget: LARGEST_BUDGET,

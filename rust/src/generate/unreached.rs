@@ -58,7 +58,7 @@ impl Fill {
 /// What some instants of either engine lead to from the start.
 fn reached(rng: &mut Rng, plan: &Plan) -> RawState {
     let budget = rng.below(12) as u64;
-    let engine = rng.pick(&[Engine::Lazy, Engine::Eager]);
+    let engine = rng.pick(&Engine::BOTH);
     let mut buffer = vec![0; budget as usize * plan.events_per_instant() * EVENT_BYTES];
     let start = RawState::start(plan);
     let ran = Checker::default().run(engine, &start, budget, &mut buffer);

@@ -3,7 +3,7 @@
 //!
 //! It is naive on purpose. Every instant moves every integrator, works out every node and every
 //! slope anew and looks for every due tick from the words of the Due rule. Nothing is kept that
-//! could be worked out, and nothing is shared with the engines.
+//! could be worked out, and nothing is shared with the engines but the names of the two.
 
 pub mod due;
 pub mod event;

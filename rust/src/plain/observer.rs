@@ -1,6 +1,7 @@
-//! Watches the plain machine and tells which integrators a lazy engine has to move.
+//! Watches the plain machine and tells which integrators an engine has to move.
 
 use super::Taken;
+use crate::engine::Engine;
 use crate::plan::{Plan, LIMIT};
 use std::collections::BTreeSet;
 
@@ -36,10 +37,14 @@ impl Observer {
     }
 
     /// The integrators that step 5 moves: "those due or reached, the eager engine all".
-    pub fn moved(&self, taken: &Taken, lazy: bool) -> BTreeSet<usize> {
-        if !lazy {
-            return (0..self.integrators).collect();
+    pub fn moved(&self, engine: Engine, taken: &Taken) -> BTreeSet<usize> {
+        match engine {
+            Engine::Lazy => self.due_or_reached(taken),
+            Engine::Eager => (0..self.integrators).collect(),
         }
+    }
+
+    fn due_or_reached(&self, taken: &Taken) -> BTreeSet<usize> {
         let mut moved: BTreeSet<usize> = taken.due.iter().copied().collect();
         for source in self.touched_sources(taken) {
             moved.extend(&self.reading_integrators[source]);

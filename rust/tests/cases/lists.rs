@@ -37,7 +37,7 @@ const LONGEST_LISTED_FILE: usize = 260;
 pub fn required() -> Met {
     let mut met = Met::default();
     met.require("lists", WANTED.len() as u64);
-    met.require_each(["eager instants", "lazy instants"], 20);
+    met.require_each(Engine::BOTH.map(instants_of), 20);
     met.require("instants", 60);
     met.require("lists with instants of both engines", 1);
     met.require("lazy instants that move who is not due", 1);
@@ -51,36 +51,42 @@ pub fn required() -> Met {
 fn count_list(met: &mut Met, plan: &Plan, played: &Played) {
     let observer = Observer::of(plan);
     let mut machine = Plain::start(plan);
-    let engines = |met: &Met| [met.of("eager instants"), met.of("lazy instants")];
-    let before = engines(met);
+    let before = met.clone();
     for (call, fed) in played.list.iter().zip(played.fed()) {
         machine.run_observed(u128::from(fed), |taken| {
-            let moved = observer.moved(taken, true).len();
-            count_instant(met, call.engine, taken, moved, plan);
+            let lazily_moved = observer.moved(Engine::Lazy, taken).len();
+            count_instant(met, call.engine, taken, lazily_moved, plan);
         });
     }
     for (ran, _) in &played.answers {
         met.count_if(ran.number == REFUSED_BUDGET, "decline 11");
         met.count_if(ran.number == REFUSED_RUN_BUFFER, "decline 12");
     }
-    let both = (0..2).all(|engine| engines(met)[engine] > before[engine]);
+    let took_instants = |engine| met.of(instants_of(engine)) > before.of(instants_of(engine));
+    let both = Engine::BOTH.into_iter().all(took_instants);
     met.count_if(both, "lists with instants of both engines");
     met.count("lists");
     met.count(STATUSES[machine.status().number()]);
 }
 
-/// Counts an instant, of whose integrators a lazy engine moves `moved`.
+/// The count of an engine's instants.
+fn instants_of(engine: Engine) -> &'static str {
+    match engine {
+        Engine::Lazy => "lazy instants",
+        Engine::Eager => "eager instants",
+    }
+}
+
+/// Counts an instant, of whose integrators the lazy engine moves `moved`.
 fn count_instant(met: &mut Met, engine: Engine, taken: &Taken, moved: usize, plan: &Plan) {
     let (due, all) = (taken.due.len(), plan.integrators.len());
     met.count("instants");
     met.count_if(due > 0 && !taken.commanded.is_empty(), "due and commanded");
-    if engine == Engine::Eager {
-        met.count("eager instants");
-        return;
+    met.count(instants_of(engine));
+    if engine == Engine::Lazy {
+        met.count_if(moved > due, "lazy instants that move who is not due");
+        met.count_if(moved < all, "lazy instants that leave some where they are");
     }
-    met.count("lazy instants");
-    met.count_if(moved > due, "lazy instants that move who is not due");
-    met.count_if(moved < all, "lazy instants that leave some where they are");
 }
 
 /// The declarations of every list that is wanted.

@@ -1,7 +1,8 @@
 //! Lists of run calls, and what this simulator makes of them.
 
-use crate::common::{CHECKER, ENGINES, MARK};
+use crate::common::{CHECKER, MARK};
 use cup_check::calls::{Ran, Simulator};
+use cup_check::engine::Engine;
 use cup_check::generate::{Call, Rng};
 use cup_check::limits::{ACCEPTED, EVENT_BYTES, LARGEST_BUDGET};
 use cup_check::plan::Plan;
@@ -19,7 +20,7 @@ pub fn short_list(rng: &mut Rng, plan: &Plan) -> Vec<Call> {
         (last, last * room),
     ];
     let call = |(budget, buffer): (usize, usize)| Call {
-        engine: rng.pick(&ENGINES),
+        engine: rng.pick(&Engine::BOTH),
         budget: budget as u64,
         buffer,
     };

@@ -24,9 +24,6 @@ pub const CHECKER: Checker = Checker {
     mutant: cup_check::engine::Mutant::None,
 };
 
-/// Both engines.
-pub const ENGINES: [Engine; 2] = [Engine::Lazy, Engine::Eager];
-
 /// The byte that test buffers are filled with.
 pub const MARK: u8 = 0xa5;
 
@@ -80,7 +77,7 @@ pub fn events_of_plan(plan: &Plan, budget: u64) -> Vec<(u32, u32, i32)> {
     let mut plain = Plain::start(plan);
     plain.run(u128::from(budget));
     let expected = plain.event_bytes();
-    for engine in ENGINES {
+    for engine in Engine::BOTH {
         assert_eq!(run(engine, &loaded(plan), budget).1, expected, "{engine:?}");
     }
     events(&expected)
@@ -92,7 +89,9 @@ pub fn listing_by_plain(plan: &Plan, most: u128) -> Option<String> {
     let observer = Observer::of(plan);
     let mut plain = Plain::start(plan);
     let mut updates = 0;
-    plain.run_observed(most, |taken| updates += observer.moved(taken, true).len());
+    plain.run_observed(most, |taken| {
+        updates += observer.moved(Engine::Lazy, taken).len()
+    });
     let status = plain.status().number();
     let mut text = String::new();
     for event in &plain.events {

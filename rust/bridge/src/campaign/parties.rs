@@ -52,8 +52,8 @@ pub trait Machine {
     }
 
     /// One instant.
-    fn instant(&self, state: &State, eager: bool, buffer: &mut [u8]) -> Box<Ran> {
-        machine::instant(state, eager, buffer)
+    fn instant(&self, engine: Engine, state: &State, buffer: &mut [u8]) -> Box<Ran> {
+        machine::instant(engine, state, buffer)
     }
 }
 
@@ -90,11 +90,7 @@ impl Simulator for Archive {
     }
 
     fn run(&self, engine: Engine, state: &RawState, budget: u64, buffer: &mut [u8]) -> calls::Ran {
-        let state = State::from(state);
-        let ran = match engine {
-            Engine::Lazy => machine::run_lazy(&state, budget, buffer),
-            Engine::Eager => machine::run_eager(&state, budget, buffer),
-        };
+        let ran = machine::run(engine, &State::from(state), budget, buffer);
         calls::Ran {
             number: ran.number,
             status: ran.status,

@@ -5,6 +5,7 @@ mod sides;
 
 use cup_bridge::machine::{echo, sound};
 use cup_bridge::timing::{repeated, times, warn_of_checks, Repeated};
+use cup_check::engine::Engine;
 use cup_check::file::rules;
 use cup_check::limits::{FINISHED, LARGEST_BUDGET, LISTING_BUDGET, PAUSED};
 use cup_check::plan::Plan;
@@ -122,8 +123,8 @@ fn start_of(plan: &Plan) -> Start {
 /// The best times of a course in ns, by side.
 fn timed(start: &Start, course: Course) -> [f64; 5] {
     let sides: [Repeated; 5] = [
-        repeated(|| start.proved(false, course, &mut |_| ())),
-        repeated(|| start.proved(true, course, &mut |_| ())),
+        repeated(|| start.proved(Engine::Lazy, course, &mut |_| ())),
+        repeated(|| start.proved(Engine::Eager, course, &mut |_| ())),
         repeated(|| start.called(course, &mut |_| ())),
         repeated(|| start.kept(course, &mut |_| ())),
         repeated(|| start.readable(course, &mut |_| ())),

@@ -60,15 +60,15 @@ impl Start {
     }
 
     /// The proved calls; every one is given a copy of a state and answers one.
-    pub fn proved(&self, eager: bool, course: Course, events: Events) -> Box<Ran> {
+    pub fn proved(&self, engine: Engine, course: Course, events: Events) -> Box<Ran> {
         let buffer = &mut *self.buffer.borrow_mut();
-        let mut ran = machine::run(black_box(&self.proved), eager, course.budget, buffer);
+        let mut ran = machine::run(engine, black_box(&self.proved), course.budget, buffer);
         events(&buffer[..ran.written]);
         for _ in 1..course.calls {
             if ran.status != PAUSED {
                 break;
             }
-            ran = machine::run(&ran.state, eager, course.budget, buffer);
+            ran = machine::run(engine, &ran.state, course.budget, buffer);
             events(&buffer[..ran.written]);
         }
         ran
@@ -127,12 +127,12 @@ impl Start {
     /// of its own.
     pub fn agreed(&self, course: Course) -> End {
         let lazy = collected(|events| {
-            let ran = self.proved(false, course, events);
+            let ran = self.proved(Engine::Lazy, course, events);
             assert_eq!(ran.number, ACCEPTED);
             (ran.status, RawState::from(&ran.state))
         });
         let eager = collected(|events| {
-            let ran = self.proved(true, course, events);
+            let ran = self.proved(Engine::Eager, course, events);
             (ran.status, as_lazy(&ran.state, &lazy.state))
         });
         let called = collected(|events| {

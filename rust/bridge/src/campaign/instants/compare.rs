@@ -45,7 +45,7 @@ impl<'a> Comparison<'a> {
     pub fn check(&self, rng: &mut Rng, met: &mut Met) -> Found {
         let needed = self.plan.events_per_instant() * EVENT_BYTES;
         let next = self.next();
-        for engine in [Engine::Lazy, Engine::Eager] {
+        for engine in Engine::BOTH {
             let at = |difference| format!("{engine:?}: {difference}");
             self.check_accepted(rng, met, engine, &next).map_err(at)?;
             self.check_short(rng, met, engine, needed).map_err(at)?;
@@ -113,10 +113,9 @@ impl<'a> Comparison<'a> {
         let mut right = bytes.clone();
         let buffer = MARGIN..MARGIN + length;
         let handed = State::from(state);
-        let eager = engine == Engine::Eager;
         let ran = self
             .machine
-            .instant(&handed, eager, &mut bytes[buffer.clone()]);
+            .instant(engine, &handed, &mut bytes[buffer.clone()]);
         let second = Checker {
             mutant: self.mutant,
         };
@@ -169,7 +168,7 @@ impl<'a> Comparison<'a> {
     /// Who is moved has l = c, and its stored position is the one at the clock; who is not keeps
     /// all figures.
     fn check_moved(&self, met: &mut Met, engine: Engine, taken: &Taken, after: &RawState) -> Found {
-        let moved = Observer::of(self.plan).moved(taken, engine == Engine::Lazy);
+        let moved = Observer::of(self.plan).moved(engine, taken);
         let (before, after) = (&self.state.run, &after.run);
         let grown = after.clocks.updates.wrapping_sub(before.clocks.updates);
         same("growth of updates", grown, moved.len() as u64)?;

@@ -21,8 +21,13 @@ const ENOUGH_OF_A_FILL: u64 = 1_000;
 /// How many instants each engine has to take.
 const ENOUGH_TAKEN: u64 = 100_000;
 
-/// Instants that the lazy and the eager engine took.
-const TAKEN: [&str; 2] = ["instants taken, lazy", "instants taken, eager"];
+/// The count of the instants that an engine took.
+fn taken_by(engine: Engine) -> &'static str {
+    match engine {
+        Engine::Lazy => "instants taken, lazy",
+        Engine::Eager => "instants taken, eager",
+    }
+}
 
 /// Instants of the lazy engine by how many they move.
 const MOVED: [&str; 4] = ["1 moved", "2 to 7 moved", "8 to 31 moved", "32 moved"];
@@ -53,7 +58,7 @@ pub fn required() -> Met {
     met.require("states", STATES);
     met.require_each(Fill::ALL.map(|fill| format!("{fill:?}")), ENOUGH_OF_A_FILL);
     met.require_each(SIGNS, ENOUGH_OF_A_FILL);
-    met.require_each(TAKEN, ENOUGH_TAKEN);
+    met.require_each(Engine::BOTH.map(taken_by), ENOUGH_TAKEN);
     met.require_each(STATUSES, ENOUGH);
     met.require("32 integrators", ENOUGH);
     met.require_each(["buffer too short", "not sound"], ENOUGH);
@@ -76,7 +81,7 @@ pub fn count_state(met: &mut Met, fill: Fill, state: &RawState) {
 /// Counts an accepted call from a state, by the plain machine after it.
 pub fn count_answer(met: &mut Met, engine: Engine, before: &RawState, plain: &Plain) {
     let taken = (plain.instants - before.run.clocks.instants) as usize;
-    counts::count_accepted(met, engine == Engine::Eager, taken, plain);
+    counts::count_accepted(met, engine, taken, plain);
     counts::count_events(met, &plain.events);
     if let Status::Range(_) = plain.status() {
         let tick = plain.next_instant();
@@ -87,7 +92,7 @@ pub fn count_answer(met: &mut Met, engine: Engine, before: &RawState, plain: &Pl
 
 /// Counts an instant that moves so many integrators.
 pub fn count_instant(met: &mut Met, taken: &Taken, moved: usize, engine: Engine, plan: &Plan) {
-    met.count(TAKEN[usize::from(engine == Engine::Eager)]);
+    met.count(taken_by(engine));
     met.count(COMMANDS_MET[taken.commanded.len().min(2)]);
     if engine == Engine::Eager {
         return;

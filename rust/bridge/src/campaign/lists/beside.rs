@@ -93,7 +93,7 @@ impl Between<'_> {
     fn check_unsound(&mut self, near: &RawState) -> Found {
         let state = self.unsound(near);
         let n = state.plan.counts.n;
-        for engine in [Engine::Lazy, Engine::Eager] {
+        for engine in Engine::BOTH {
             let budget = self.rng.pick(&[
                 0,
                 1,

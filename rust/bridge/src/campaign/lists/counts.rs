@@ -53,8 +53,9 @@ pub fn required() -> Met {
     met.require_each(COMPARED, ENOUGH);
     met.require("due ticks above 2^31", ENOUGH);
     met.require(OTHER_LISTS, ENOUGH);
-    met.require_each(INSTANTS, ENOUGH);
-    met.require_each(ENGINES, ENOUGH);
+    met.require_each(Engine::BOTH.map(instants_of), ENOUGH);
+    met.require_each(Engine::BOTH.map(lists_of_one), ENOUGH);
+    met.require(LISTS_OF_BOTH, ENOUGH);
     met.require(TO_AND_FRO, ENOUGH);
     met.require_each(NEVER_STARTED, ENOUGH);
     met.require_each(LAZILY_MOVED, ENOUGH);
@@ -70,15 +71,24 @@ pub const UNSOUND: &str = "decline 10";
 /// Lists of other plans between calls.
 pub const OTHER_LISTS: &str = "lists of other plans in between";
 
-/// Instants that lazy and eager calls took.
-const INSTANTS: [&str; 2] = ["instants of lazy calls", "instants of eager calls"];
+/// The count of the instants that an engine's calls took.
+fn instants_of(engine: Engine) -> &'static str {
+    match engine {
+        Engine::Lazy => "instants of lazy calls",
+        Engine::Eager => "instants of eager calls",
+    }
+}
 
-/// Lists whose instants were all lazy, all eager and of both; lists of none are not counted.
-const ENGINES: [&str; 3] = [
-    "lists of lazy instants alone",
-    "lists of eager instants alone",
-    "lists of both",
-];
+/// The count of the lists whose instants were all by one engine.
+fn lists_of_one(engine: Engine) -> &'static str {
+    match engine {
+        Engine::Lazy => "lists of lazy instants alone",
+        Engine::Eager => "lists of eager instants alone",
+    }
+}
+
+/// Lists with instants by both engines. Lists without instants are not counted.
+const LISTS_OF_BOTH: &str = "lists of both";
 
 /// Lists that went from one engine to the other several times.
 const TO_AND_FRO: &str = "lists of both, to and fro";
@@ -213,16 +223,16 @@ pub fn count_call(met: &mut Met, called: &Called) {
         status @ FINISHED..=RANGE if at_start => met.count(NEVER_STARTED[status - FINISHED]),
         _ => (),
     }
-    met.add(INSTANTS[call.engine as usize], called.instants);
+    met.add(instants_of(call.engine), called.instants);
 }
 
 /// Counts a list by the engines of its calls that took instants.
 pub fn count_engines(met: &mut Met, engines: &[Engine]) {
     let has = |engine| engines.contains(&engine);
     match (has(Engine::Lazy), has(Engine::Eager)) {
-        (true, false) => met.count(ENGINES[0]),
-        (false, true) => met.count(ENGINES[1]),
-        (true, true) => met.count(ENGINES[2]),
+        (true, false) => met.count(lists_of_one(Engine::Lazy)),
+        (false, true) => met.count(lists_of_one(Engine::Eager)),
+        (true, true) => met.count(LISTS_OF_BOTH),
         (false, false) => (),
     }
     let changes = engines.windows(2).filter(|pair| pair[0] != pair[1]);
