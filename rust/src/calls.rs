@@ -152,10 +152,10 @@ impl Simulator for Checker {
         let Some(sound) = accept(state) else {
             return answer(REFUSED_UNSOUND, 0);
         };
-        match sound.cells.get(integrator) {
+        match sound.integrators.get(integrator) {
             None => answer(REFUSED_INTEGRATOR_NUMBER, 0),
-            Some(cell) => {
-                let position = cell.position_at(sound.clock);
+            Some(found) => {
+                let position = found.position_at(sound.clock);
                 answer(
                     ACCEPTED,
                     i64::try_from(position).expect("between the levels"),

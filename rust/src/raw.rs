@@ -263,11 +263,11 @@ impl From<&State> for RawState {
         RawState {
             plan: RawPlan::from(&state.plan),
             run: RawRunning {
-                x: padded(&state.cells, |cell| cell.x),
-                q: padded(&state.cells, |cell| cell.q),
-                s: padded(&state.cells, |cell| cell.s),
-                l: padded(&state.cells, |cell| cell.l),
-                d: padded(&state.cells, |cell| cell.d),
+                x: padded(&state.integrators, |integrator| integrator.x),
+                q: padded(&state.integrators, |integrator| integrator.q),
+                s: padded(&state.integrators, |integrator| integrator.s),
+                l: padded(&state.integrators, |integrator| integrator.l),
+                d: padded(&state.integrators, |integrator| integrator.d),
                 inputs: padded(&state.inputs, |&value| value),
                 clocks: RawClocks {
                     clock: state.clock,

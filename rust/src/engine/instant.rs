@@ -1,7 +1,7 @@
 //! One instant, and the status that tells whether it can be taken.
 
 use super::rules::Rules;
-use super::state::{Cell, State};
+use super::state::{IntegratorState, State};
 use super::Engine;
 use crate::limits::{NEVER, WORD_BYTES};
 use crate::status::Status;
@@ -11,7 +11,7 @@ use crate::words::set_word;
 pub fn next_tick(state: &State) -> u32 {
     let command = state.plan.commands.get(state.next);
     let command_tick = command.map_or(NEVER, |command| command.tick);
-    let dues = state.cells.iter().map(|cell| cell.d);
+    let dues = state.integrators.iter().map(|integrator| integrator.d);
     dues.fold(command_tick, u32::min)
 }
 
@@ -21,8 +21,10 @@ pub fn status(state: &State, rules: &Rules) -> Status {
     if tick == NEVER || tick > state.plan.horizon {
         return Status::Finished;
     }
-    let barred = |cell: &Cell| cell.d == tick && (rules.bars)(cell.position_at(tick));
-    match state.cells.iter().position(barred) {
+    let barred = |integrator: &IntegratorState| {
+        integrator.d == tick && (rules.bars)(integrator.position_at(tick))
+    };
+    match state.integrators.iter().position(barred) {
         Some(integrator) => Status::Range(integrator),
         None => Status::Paused,
     }
@@ -47,7 +49,11 @@ pub fn take(state: &mut State, engine: Engine, buffer: &mut [u8], rules: &Rules)
     let tick = next_tick(state);
     let mut instant = Instant {
         tick,
-        due: state.cells.iter().map(|cell| cell.d == tick).collect(),
+        due: state
+            .integrators
+            .iter()
+            .map(|integrator| integrator.d == tick)
+            .collect(),
         commanded: vec![false; state.inputs.len()],
         touched: vec![false; state.plan.sources()],
         former_outputs: state.outputs(),
@@ -64,12 +70,12 @@ pub fn take(state: &mut State, engine: Engine, buffer: &mut [u8], rules: &Rules)
 
 /// Step 1.
 fn set_due_outputs(state: &mut State, instant: &mut Instant, rules: &Rules) {
-    for (number, cell) in state.cells.iter_mut().enumerate() {
+    for (number, integrator) in state.integrators.iter_mut().enumerate() {
         if instant.due[number] {
             let quantum = i128::from(state.plan.integrators[number].quantum);
-            let position = cell.position_at(instant.tick);
-            let output = (rules.due_output)(position, i128::from(cell.q), quantum);
-            cell.q = i64::try_from(output).expect("within ±M, or the instant is barred");
+            let position = integrator.position_at(instant.tick);
+            let output = (rules.due_output)(position, i128::from(integrator.q), quantum);
+            integrator.q = i64::try_from(output).expect("within ±M, or the instant is barred");
             instant.touched[number] = true;
         }
     }
@@ -105,7 +111,7 @@ fn move_integrators(state: &mut State, engine: Engine, instant: &Instant, rules:
     let mut moved = 0;
     for (number, &is_reached) in reached.iter().enumerate() {
         if (rules.moves)(engine, instant.due[number], is_reached) {
-            move_cell(state, number, instant, rules);
+            move_integrator(state, number, instant, rules);
             if rules.slopes_after_outputs {
                 state.settle(number, &values, rules);
             } else {
@@ -120,7 +126,7 @@ fn move_integrators(state: &mut State, engine: Engine, instant: &Instant, rules:
 
 /// "An integrator is reached if a link of its own names" a touched source.
 fn reached_integrators(state: &State, instant: &Instant) -> Vec<bool> {
-    let mut reached = vec![false; state.cells.len()];
+    let mut reached = vec![false; state.integrators.len()];
     for link in &state.plan.links {
         reached[link.target] |= instant.touched[link.source];
     }
@@ -128,16 +134,16 @@ fn reached_integrators(state: &State, instant: &Instant) -> Vec<bool> {
 }
 
 /// The position of step 5: the new output if due, else the old line followed to this tick.
-fn move_cell(state: &mut State, number: usize, instant: &Instant, rules: &Rules) {
-    let cell = &mut state.cells[number];
-    cell.x = if instant.due[number] {
-        cell.q
+fn move_integrator(state: &mut State, number: usize, instant: &Instant, rules: &Rules) {
+    let integrator = &mut state.integrators[number];
+    integrator.x = if instant.due[number] {
+        integrator.q
     } else {
-        i64::try_from(cell.position_at(instant.tick)).expect("between the levels")
+        i64::try_from(integrator.position_at(instant.tick)).expect("between the levels")
     };
-    cell.l = instant.tick;
+    integrator.l = instant.tick;
     if !instant.due[number] {
-        cell.q = (rules.receiver_output)(cell.q, cell.x);
+        integrator.q = (rules.receiver_output)(integrator.q, integrator.x);
     }
 }
 
@@ -155,7 +161,7 @@ fn values_when_set_one_by_one(
 
 /// Integrators have lower source numbers than inputs, so this order ascends.
 fn write_events(state: &State, instant: &Instant, buffer: &mut [u8]) -> usize {
-    let outputs = state.cells.iter().map(|cell| cell.q);
+    let outputs = state.integrators.iter().map(|integrator| integrator.q);
     let values = outputs.chain(state.inputs.iter().copied());
     let flags = instant.due.iter().chain(&instant.commanded);
     let mut written = 0;

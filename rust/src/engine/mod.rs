@@ -12,7 +12,7 @@ pub mod state;
 
 pub use mutant::Mutant;
 pub use rules::Rules;
-pub use state::{Cell, State};
+pub use state::{IntegratorState, State};
 
 /// Which integrators an instant moves.
 #[derive(Clone, Copy, Debug, PartialEq, Eq)]

@@ -6,7 +6,7 @@ use crate::plan::Plan;
 
 /// What is kept for one integrator, under document 01's letters.
 #[derive(Clone, Copy, Debug, PartialEq, Eq)]
-pub struct Cell {
+pub struct IntegratorState {
     /// Position at tick l.
     pub x: i64,
     /// Output.
@@ -19,7 +19,7 @@ pub struct Cell {
     pub d: u32,
 }
 
-impl Cell {
+impl IntegratorState {
     /// x + s × (t − l). The tick must not lie before l.
     pub fn position_at(&self, tick: u32) -> i128 {
         i128::from(self.x) + i128::from(self.s) * i128::from(tick - self.l)
@@ -31,8 +31,8 @@ impl Cell {
 pub struct State {
     /// The plan.
     pub plan: Plan,
-    /// One cell for each integrator.
-    pub cells: Vec<Cell>,
+    /// What is kept for each integrator.
+    pub integrators: Vec<IntegratorState>,
     /// The value of each input.
     pub inputs: Vec<i64>,
     /// c.
@@ -48,15 +48,16 @@ pub struct State {
 impl State {
     /// Start, for a plan that keeps the rules.
     pub fn start(plan: Plan) -> State {
-        let at_rest = |start| Cell {
+        let at_rest = |start| IntegratorState {
             x: start,
             q: start,
             s: 0,
             l: 0,
             d: NEVER,
         };
+        let starts = plan.integrators.iter().map(|entry| entry.start);
         let mut state = State {
-            cells: plan.integrators.iter().map(|e| at_rest(e.start)).collect(),
+            integrators: starts.map(at_rest).collect(),
             inputs: plan.inputs.clone(),
             clock: 0,
             next: 0,
@@ -65,7 +66,7 @@ impl State {
             plan,
         };
         let values = state.source_values(&state.outputs(), &Rules::DOCUMENT);
-        for number in 0..state.cells.len() {
+        for number in 0..state.integrators.len() {
             state.settle(number, &values, &Rules::DOCUMENT);
         }
         state
@@ -78,7 +79,10 @@ impl State {
 
     /// The outputs of all integrators.
     pub fn outputs(&self) -> Vec<i64> {
-        self.cells.iter().map(|cell| cell.q).collect()
+        self.integrators
+            .iter()
+            .map(|integrator| integrator.q)
+            .collect()
     }
 
     /// The values of all sources by number, with the given outputs for the integrators.
@@ -107,20 +111,20 @@ impl State {
     /// The due tick of an integrator by the Due rule from its x, q and l and the slope given;
     /// `None` is never.
     pub fn due_tick(&self, number: usize, slope: i128, rules: &Rules) -> Option<i128> {
-        let cell = &self.cells[number];
+        let integrator = &self.integrators[number];
         let quantum = i128::from(self.plan.integrators[number].quantum);
-        let (x, q) = (i128::from(cell.x), i128::from(cell.q));
+        let (x, q) = (i128::from(integrator.x), i128::from(integrator.q));
         let ticks = (rules.ticks_to_level)(x, q, quantum, slope)?;
-        Some(i128::from(cell.l) + ticks)
+        Some(i128::from(integrator.l) + ticks)
     }
 
     /// Gives an integrator that was moved "the new slope and due tick".
     pub fn settle(&mut self, number: usize, values: &[i128], rules: &Rules) {
         let slope = self.slope(number, values, rules);
         let due = self.due_tick(number, slope, rules);
-        let cell = &mut self.cells[number];
-        cell.s = i64::try_from(slope).expect("a slope is below 2^44");
-        cell.d = due.map_or(NEVER, |tick| {
+        let integrator = &mut self.integrators[number];
+        integrator.s = i64::try_from(slope).expect("a slope is below 2^44");
+        integrator.d = due.map_or(NEVER, |tick| {
             u32::try_from(tick).expect("a due tick is below 2^32")
         });
     }

@@ -1,7 +1,7 @@
 //! One instant, and what is ahead of it.
 
 use super::tables::NODES_FROM;
-use super::{Cell, Fast};
+use super::{Fast, IntegratorState};
 use crate::limits::{EVENT_BYTES, INTEGRATORS, M, NEVER, SOURCES, WORD_BYTES};
 use crate::status::Status;
 
@@ -48,7 +48,7 @@ impl Fast {
             return Status::Finished;
         }
         for i in members(due) {
-            let value = self.cells[i].position_at(tick);
+            let value = self.integrators[i].position_at(tick);
             if !(-M..=M).contains(&value) {
                 return Status::Range(i);
             }
@@ -60,10 +60,10 @@ impl Fast {
     #[inline]
     pub(super) fn take(&mut self, tick: u32, due: u32, buffer: &mut [u8], at: usize) -> usize {
         for i in members(due) {
-            let cell = &mut self.cells[i];
-            cell.x = cell.position_at(tick);
-            cell.l = tick;
-            self.values[i] = cell.x;
+            let integrator = &mut self.integrators[i];
+            integrator.x = integrator.position_at(tick);
+            integrator.l = tick;
+            self.values[i] = integrator.x;
         }
         let changed = u64::from(due) | self.obey_commands(tick);
         let mut reached = 0;
@@ -115,16 +115,16 @@ impl Fast {
     /// Brings an integrator to a tick, with the slope and due tick that it has from there.
     #[inline]
     fn settle(&mut self, i: usize, tick: u32) {
-        let part = &self.tables.parts[i];
-        let cell = &mut self.cells[i];
-        cell.x = cell.position_at(tick);
-        cell.l = tick;
-        cell.s = self.tables.rate(part, &self.values);
-        self.dues[i] = cell.due(part.quantum, self.values[i]);
+        let entry = &self.tables.integrators[i];
+        let integrator = &mut self.integrators[i];
+        integrator.x = integrator.position_at(tick);
+        integrator.l = tick;
+        integrator.s = self.tables.rate(entry, &self.values);
+        self.dues[i] = integrator.due(entry.quantum, self.values[i]);
     }
 }
 
-impl Cell {
+impl IntegratorState {
     /// x + s × (t − l).
     #[inline]
     fn position_at(&self, tick: u32) -> i64 {

@@ -24,7 +24,7 @@ use tables::{Tables, Values};
 
 /// What is kept for one integrator beside its output and its due tick.
 #[derive(Clone, Copy, Debug, Default)]
-struct Cell {
+struct IntegratorState {
     x: i64,
     s: i64,
     l: u32,
@@ -36,7 +36,7 @@ pub struct Fast {
     tables: Tables,
     /// By source number: outputs, inputs and nodes.
     values: Values,
-    cells: [Cell; INTEGRATORS],
+    integrators: [IntegratorState; INTEGRATORS],
     /// Due ticks; behind the last integrator never.
     dues: [u32; INTEGRATORS],
     clock: u32,
@@ -61,7 +61,7 @@ impl Fast {
         let tables = Tables::of(plan);
         let mut fast = Fast {
             values: tables.values(&run.q, &run.inputs),
-            cells: [Cell::default(); INTEGRATORS],
+            integrators: [IntegratorState::default(); INTEGRATORS],
             dues: [NEVER; INTEGRATORS],
             clock: run.clocks.clock,
             next: run.clocks.next,
@@ -69,8 +69,8 @@ impl Fast {
             updates: run.clocks.updates,
             tables,
         };
-        for (i, cell) in fast.cells[..plan.counts.n].iter_mut().enumerate() {
-            *cell = Cell {
+        for (i, integrator) in fast.integrators[..plan.counts.n].iter_mut().enumerate() {
+            *integrator = IntegratorState {
                 x: run.x[i],
                 s: run.s[i],
                 l: run.l[i],
@@ -100,10 +100,10 @@ impl Fast {
     pub fn figures(&self) -> RawRunning {
         let (n, m) = (self.tables.n, self.tables.m);
         let mut run = RawRunning {
-            x: self.cells.map(|cell| cell.x),
+            x: self.integrators.map(|integrator| integrator.x),
             q: [0; INTEGRATORS],
-            s: self.cells.map(|cell| cell.s),
-            l: self.cells.map(|cell| cell.l),
+            s: self.integrators.map(|integrator| integrator.s),
+            l: self.integrators.map(|integrator| integrator.l),
             d: [0; INTEGRATORS],
             inputs: Default::default(),
             clocks: RawClocks {

@@ -49,7 +49,7 @@ pub struct Command {
 
 /// What stays the same of an integrator.
 #[derive(Clone, Copy, Debug, Default)]
-pub struct Part {
+pub struct Integrator {
     /// D.
     pub quantum: i64,
     /// Its first row of links.
@@ -72,7 +72,7 @@ pub struct Tables {
     /// How many commands there are.
     pub commanded: usize,
     /// By integrator.
-    pub parts: [Part; INTEGRATORS],
+    pub integrators: [Integrator; INTEGRATORS],
     /// By target.
     links: [[Link; TERMS]; ROWS],
     /// By node; a member of a mask is always a place.
@@ -92,7 +92,7 @@ impl Tables {
             k: plan.counts.k,
             horizon: plan.horizon,
             commanded: plan.counts.commands,
-            parts: [Part::default(); INTEGRATORS],
+            integrators: [Integrator::default(); INTEGRATORS],
             links: [[Link::default(); TERMS]; ROWS],
             nodes: [Node::default(); NODES_FROM],
             commands: [Command::default(); COMMANDS],
@@ -114,9 +114,9 @@ impl Tables {
     /// The links, where each integrator's lie, and what they reach.
     fn fill_links(&mut self, plan: &RawPlan) {
         let (mut row, mut e) = (0, 0);
-        for (i, part) in self.parts[..plan.counts.n].iter_mut().enumerate() {
-            part.quantum = plan.integrators.quanta[i];
-            part.from = row;
+        for (i, integrator) in self.integrators[..plan.counts.n].iter_mut().enumerate() {
+            integrator.quantum = plan.integrators.quanta[i];
+            integrator.from = row;
             let own = plan.links.targets[e..plan.counts.links].iter();
             let last = e + own.take_while(|&&target| target == i).count();
             while e < last {
@@ -130,7 +130,7 @@ impl Tables {
                 }
                 row += 1;
             }
-            part.to = row;
+            integrator.to = row;
         }
     }
 
@@ -169,9 +169,9 @@ impl Tables {
 
     /// The rate of an integrator.
     #[inline]
-    pub fn rate(&self, part: &Part, values: &Values) -> i64 {
+    pub fn rate(&self, integrator: &Integrator, values: &Values) -> i64 {
         let mut sum = 0;
-        for row in &self.links[part.from..part.to] {
+        for row in &self.links[integrator.from..integrator.to] {
             for link in row {
                 sum += i64::from(link.coefficient) * values[usize::from(link.source)];
             }

@@ -58,12 +58,12 @@ fn change_field(rng: &mut Rng, state: &mut RawState) {
     match rng.below(16) {
         0 => change_count(rng, &mut state.plan.counts),
         1 | 2 => spoil(rng, state),
-        3 => change_integrator(rng, state),
+        3 => change_start_or_quantum(rng, state),
         4 => change_node(rng, &mut state.plan),
         5 => change_link(rng, &mut state.plan),
         6 => change_command(rng, state),
-        7 => change_horizon_or_input(rng, state),
-        8..=12 => change_cell(rng, state),
+        7 => change_horizon_or_first_value(rng, state),
+        8..=12 => change_figure_or_input(rng, state),
         _ => change_counter(rng, state),
     }
 }
@@ -90,7 +90,7 @@ fn change_count(rng: &mut Rng, counts: &mut RawCounts) {
     *count = near(rng, *count as i64, &[0, most as i64]) as usize;
 }
 
-fn change_horizon_or_input(rng: &mut Rng, state: &mut RawState) {
+fn change_horizon_or_first_value(rng: &mut Rng, state: &mut RawState) {
     let plan = &mut state.plan;
     if rng.once_in(2) || plan.counts.m == 0 {
         let last = plan.commands.ticks[plan.counts.commands.clamp(1, COMMANDS) - 1];
@@ -103,7 +103,7 @@ fn change_horizon_or_input(rng: &mut Rng, state: &mut RawState) {
     }
 }
 
-fn change_integrator(rng: &mut Rng, state: &mut RawState) {
+fn change_start_or_quantum(rng: &mut Rng, state: &mut RawState) {
     let (integrators, run) = (&mut state.plan.integrators, &state.run);
     let i = some(rng, state.plan.counts.n, INTEGRATORS);
     if rng.once_in(2) {
@@ -189,7 +189,7 @@ fn change_command(rng: &mut Rng, state: &mut RawState) {
     }
 }
 
-fn change_cell(rng: &mut Rng, state: &mut RawState) {
+fn change_figure_or_input(rng: &mut Rng, state: &mut RawState) {
     let (plan, run) = (&state.plan, &mut state.run);
     let i = some(rng, plan.counts.n, INTEGRATORS);
     let (x, q, quantum) = (run.x[i], run.q[i], plan.integrators.quanta[i]);
@@ -308,23 +308,23 @@ fn settle(state: &mut RawState, what: Settled) {
         return;
     };
     let values = kept.source_values(&kept.outputs(), &Rules::DOCUMENT);
-    for i in 0..kept.cells.len() {
+    for i in 0..kept.integrators.len() {
         if what == Settled::SlopesAndDueTicks {
-            kept.cells[i].s = kept.slope(i, &values, &Rules::DOCUMENT) as i64;
+            kept.integrators[i].s = kept.slope(i, &values, &Rules::DOCUMENT) as i64;
         }
-        kept.cells[i].d = due(&kept, i);
-        if what == Settled::SlopesAndDueTicks && kept.cells[i].d <= kept.clock {
-            kept.cells[i].l = kept.clock;
-            kept.cells[i].d = due(&kept, i);
+        kept.integrators[i].d = due(&kept, i);
+        if what == Settled::SlopesAndDueTicks && kept.integrators[i].d <= kept.clock {
+            kept.integrators[i].l = kept.clock;
+            kept.integrators[i].d = due(&kept, i);
         }
-        (state.run.s[i], state.run.l[i]) = (kept.cells[i].s, kept.cells[i].l);
-        state.run.d[i] = kept.cells[i].d;
+        (state.run.s[i], state.run.l[i]) = (kept.integrators[i].s, kept.integrators[i].l);
+        state.run.d[i] = kept.integrators[i].d;
     }
     set_next(state);
 }
 
 fn due(kept: &State, i: usize) -> u32 {
-    let tick = kept.due_tick(i, kept.cells[i].s.into(), &Rules::DOCUMENT);
+    let tick = kept.due_tick(i, kept.integrators[i].s.into(), &Rules::DOCUMENT);
     tick.map_or(NEVER, |tick| u32::try_from(tick).unwrap_or(NEVER))
 }
 

@@ -11,7 +11,7 @@ pub use mutant::Mutant;
 pub use table::Soundness;
 pub use unused::Array;
 
-use crate::engine::{Cell, State};
+use crate::engine::{IntegratorState, State};
 use crate::file::rules;
 use crate::file::Refusal;
 use crate::limits::Section;
@@ -93,7 +93,7 @@ fn within_counts<'r>(table: &Soundness, raw: &'r RawState) -> Option<(Cow<'r, Ra
     let counted = with_counts(table, raw)?;
     let plan = counted.plan.to_plan()?;
     let run = &counted.run;
-    let cell = |i| Cell {
+    let integrator = |i| IntegratorState {
         x: run.x[i],
         q: run.q[i],
         s: run.s[i],
@@ -101,7 +101,7 @@ fn within_counts<'r>(table: &Soundness, raw: &'r RawState) -> Option<(Cow<'r, Ra
         d: run.d[i],
     };
     let state = State {
-        cells: (0..counted.plan.counts.n).map(cell).collect(),
+        integrators: (0..counted.plan.counts.n).map(integrator).collect(),
         inputs: run.inputs[..counted.plan.counts.m].to_vec(),
         clock: run.clocks.clock,
         next: run.clocks.next,
@@ -142,7 +142,7 @@ fn broken_in(table: &Soundness, raw: &RawState, state: &State) -> Vec<Clause> {
     }
     check_counters(table, state, &mut broken);
     check_inputs(table, state, &mut broken);
-    check_cells(table, state, &mut broken);
+    check_integrators(table, state, &mut broken);
     broken
 }
 
@@ -157,7 +157,7 @@ fn check_counters(table: &Soundness, state: &State, broken: &mut Vec<Clause>) {
     if !(table.instants)(state.instants.into(), clock) {
         broken.push(Clause::InstantsAboveClock);
     }
-    let moves = state.cells.len() as i128 * i128::from(state.instants);
+    let moves = state.integrators.len() as i128 * i128::from(state.instants);
     if !(table.updates)(state.updates.into(), moves) {
         broken.push(Clause::UpdatesAboveMoves);
     }
@@ -173,7 +173,7 @@ fn check_inputs(table: &Soundness, state: &State, broken: &mut Vec<Clause>) {
 
 /// The clauses of each integrator. i128 holds rates of wild outputs and distances of wild
 /// positions, so that one wild number does not hide the clauses it does not touch.
-fn check_cells(table: &Soundness, state: &State, broken: &mut Vec<Clause>) {
+fn check_integrators(table: &Soundness, state: &State, broken: &mut Vec<Clause>) {
     if !has_values(&state.plan) {
         // Only a table that passes over rules of the plan comes here.
         broken.push(Clause::Slope(0));
@@ -181,24 +181,30 @@ fn check_cells(table: &Soundness, state: &State, broken: &mut Vec<Clause>) {
     }
     let clock = i128::from(state.clock);
     let values = state.source_values(&state.outputs(), &table.machine);
-    for (number, cell) in state.cells.iter().enumerate() {
-        let (x, q) = (i128::from(cell.x), i128::from(cell.q));
+    for (number, integrator) in state.integrators.iter().enumerate() {
+        let (x, q) = (i128::from(integrator.x), i128::from(integrator.q));
         let quantum = i128::from(state.plan.integrators[number].quantum);
         let mut unless = |kept: bool, clause: fn(usize) -> Clause| {
             if !kept {
                 broken.push(clause(number));
             }
         };
-        unless((table.moved)(cell.l.into(), clock), Clause::MovedAfterClock);
-        unless((table.ahead)(clock, cell.d.into()), Clause::DueNotAhead);
+        unless(
+            (table.moved)(integrator.l.into(), clock),
+            Clause::MovedAfterClock,
+        );
+        unless(
+            (table.ahead)(clock, integrator.d.into()),
+            Clause::DueNotAhead,
+        );
         unless((table.output)(q), Clause::OutputBeyond);
         unless((table.near)(x, q, quantum), Clause::PositionOutsideLevels);
         let right = state.slope(number, &values, &table.machine);
-        unless((table.slope)(cell.s.into(), right), Clause::Slope);
+        unless((table.slope)(integrator.s.into(), right), Clause::Slope);
         // Due is asked of the slope that the state holds; whether that slope is right is Rate's
         // clause.
-        let due = state.due_tick(number, cell.s.into(), &table.machine);
-        unless((table.due)(cell.d, due), Clause::Due);
+        let due = state.due_tick(number, integrator.s.into(), &table.machine);
+        unless((table.due)(integrator.d, due), Clause::Due);
     }
 }
 
