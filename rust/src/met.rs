@@ -124,7 +124,7 @@ mod tests {
     fn required() -> Met {
         let mut met = Met::default();
         met.require("files", 3);
-        met.require_each(["lawful", "damaged"], 1);
+        met.require_each(["accepted", "damaged"], 1);
         met
     }
 
@@ -132,7 +132,7 @@ mod tests {
     fn a_count_below_its_least_is_thin() {
         let mut met = required();
         met.add("files", 2);
-        met.count("lawful");
+        met.count("accepted");
         met.count_if(false, "damaged");
         let thin = ["files: 2, at least 3", "damaged: 0, at least 1"];
         assert_eq!(met.thin(), thin);
@@ -146,7 +146,7 @@ mod tests {
     fn what_is_counted_under_another_name_is_missed() {
         let mut met = required();
         met.add("files", 3);
-        met.add("Lawful", 1);
+        met.add("Accepted", 1);
         met.add("damaged", 1);
         met.assert_enough();
     }
@@ -165,7 +165,7 @@ mod tests {
         met.raise("longest", 7);
         met.raise("longest", 5);
         met.add("files", 4);
-        let lines = "  files: 4, at least 3\n  lawful: 0, at least 1\n  damaged: 0, at least 1\n";
+        let lines = "  files: 4, at least 3\n  accepted: 0, at least 1\n  damaged: 0, at least 1\n";
         assert_eq!(met.to_string(), format!("{lines}  longest: 7\n"));
         assert_eq!((met.of("files"), met.of("none such")), (4, 0));
     }

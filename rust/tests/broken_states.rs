@@ -86,8 +86,8 @@ fn every_unused_entry_has_to_be_0() {
 
 #[test]
 fn numbers_wider_than_a_file_holds_break_the_plans_rules() {
-    let lawful = Plan::new(9).integrator(0, 1).input(0).limit(0, 0, 0);
-    let state = loaded(&lawful.link(0, 1, 1).command(5, 0, 0));
+    let accepted = Plan::new(9).integrator(0, 1).input(0).limit(0, 0, 0);
+    let state = loaded(&accepted.link(0, 1, 1).command(5, 0, 0));
     // 2^32 more is the same word in a file, but not the same number in a state.
     type Change = fn(&mut RawPlan);
     let changes: [(Change, usize); 13] = [

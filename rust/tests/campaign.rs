@@ -15,7 +15,7 @@ use cup_check::sound::broken_clauses;
 const LISTS: u64 = 400;
 
 #[test]
-fn generated_plans_are_lawful_and_their_start_is_sound() {
+fn generated_plans_are_accepted_and_their_start_is_sound() {
     for family in Family::ALL {
         for seed in 0..300 {
             let plan = family.plan(&mut rng_of(family, seed));

@@ -96,7 +96,7 @@ fn the_plain_machine_tells_the_same_listings() {
 
 #[test]
 fn the_full_plan_uses_every_section_to_its_limit() {
-    let plan = read(&kept("full", "plan")).expect("it is lawful");
+    let plan = read(&kept("full", "plan")).expect("it is accepted");
     assert_eq!(plan.integrators.len(), 32);
     assert_eq!(plan.inputs.len(), 8);
     assert_eq!(plan.nodes.len(), 16);
@@ -139,7 +139,7 @@ fn the_listing_is_written_run_by_run() {
     };
     let written = write_listing(&file, &mut output);
     assert!(written.is_err());
-    let plan = read(&file).expect("it is lawful");
+    let plan = read(&file).expect("it is accepted");
     let mut first_run = Plain::start(&plan);
     first_run.run(u128::from(LISTING_BUDGET));
     let lines = output.taken.iter().filter(|&&byte| byte == b'\n').count();
@@ -159,7 +159,7 @@ fn the_listing_loads_no_more_than_4493_bytes() {
         assert_eq!(printed(&long), "refused 2 0\n");
     }
     // Pairs that describe 5,004 bytes: what the program reads ends before them.
-    let mut sections = cup_check::file::layout::section_bytes(&read(&full).expect("lawful"));
+    let mut sections = cup_check::file::layout::section_bytes(&read(&full).expect("accepted"));
     sections[4].resize(64 * 12 + 512, 0);
     let whole = cup_check::file::layout::assemble(9, &sections);
     assert_eq!(refusal(&whole), (3, 0));

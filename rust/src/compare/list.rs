@@ -22,7 +22,7 @@ use std::collections::BTreeSet;
 /// Integrator numbers that no plan has, among them those that are low ones if cut to 8, 16 or 32 bits.
 const WILD: [usize; 6] = [INTEGRATORS, 1 << 8, 1 << 16, 1 << 32, 1 << 63, usize::MAX];
 
-/// Loads a lawful plan's file, views its sections, runs the list from the loaded state and writes
+/// Loads an accepted plan's file, views its sections, runs the list from the loaded state and writes
 /// the plan again.
 pub fn loaded_list(simulator: &dyn Simulator, plan: &Plan, list: &[Call], met: &mut Met) -> Found {
     loaded_list_beside(simulator, plan, list, met, &mut ())

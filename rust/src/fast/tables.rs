@@ -84,7 +84,7 @@ pub struct Tables {
 }
 
 impl Tables {
-    /// The tables of a lawful plan.
+    /// The tables of an accepted plan.
     pub fn of(plan: &RawPlan) -> Tables {
         let mut tables = Tables {
             n: plan.counts.n,

@@ -1,4 +1,4 @@
-//! Files for comparing two readers, of every sort: lawful, with planted faults, damaged, loose and
+//! Files for comparing two readers, of every sort: accepted, with planted faults, damaged, loose and
 //! large.
 
 use super::damage::{boundary_word, boundary_words, damaged, noise};
@@ -17,8 +17,8 @@ use std::ops::RangeInclusive;
 /// How a file comes about.
 #[derive(Clone, Copy, Debug, PartialEq, Eq, PartialOrd, Ord)]
 pub enum Origin {
-    /// The file of a lawful plan.
-    Lawful,
+    /// The file of an accepted plan.
+    Accepted,
     /// One planted fault.
     OneFault,
     /// Two planted faults, often in one section.
@@ -44,7 +44,7 @@ pub enum Origin {
 impl Origin {
     /// Every way in which a file comes about.
     pub const ALL: [Origin; 11] = [
-        Origin::Lawful,
+        Origin::Accepted,
         Origin::OneFault,
         Origin::TwoFaults,
         Origin::TwiceInOneEntry,
@@ -63,7 +63,7 @@ pub const LARGE_BYTES: usize = 100_000;
 
 /// Of a hundred random files, how many come about in each way.
 const SHARES: [(Origin, usize); 10] = [
-    (Origin::Lawful, 16),
+    (Origin::Accepted, 16),
     (Origin::OneFault, 25),
     (Origin::TwoFaults, 16),
     (Origin::TwiceInOneEntry, 4),
@@ -111,7 +111,7 @@ fn file(rng: &mut Rng, origin: Origin) -> Vec<u8> {
             return noise(rng, most);
         }
         Origin::Large => return large(rng, &plan),
-        Origin::Lawful | Origin::NextToSample => (),
+        Origin::Accepted | Origin::NextToSample => (),
     }
     encode(&plan)
 }

@@ -1,4 +1,4 @@
-//! Faults planted in lawful plans, so that the right refusal is known beforehand.
+//! Faults planted in accepted plans, so that the right refusal is known beforehand.
 
 use super::rng::Rng;
 use crate::file::layout::{assemble, section_bytes};
@@ -26,7 +26,7 @@ pub struct Planted {
     pub refusal: Refusal,
 }
 
-/// A lawful plan's file with one fault; `None` if the plan has no entry that can carry it.
+/// An accepted plan's file with one fault; `None` if the plan has no entry that can carry it.
 pub fn planted(rng: &mut Rng, plan: &Plan, cause: Cause) -> Option<Planted> {
     if cause.number() <= REFUSED_SIZES {
         let refusal = Refusal::whole(cause);

@@ -1,4 +1,4 @@
-//! Lawful plans from ranges for their counts and numbers.
+//! Accepted plans from ranges for their counts and numbers.
 
 use super::rng::Rng;
 use crate::limits::{Section, SECTIONS};

@@ -7,7 +7,7 @@ use crate::plain::values;
 use crate::plan::Plan;
 use crate::raw::{RawCounts, RawPlan, RawRunning, RawState};
 
-/// A sound state of a lawful plan with any clock, outputs, positions, inputs and counts. Slopes
+/// A sound state of an accepted plan with any clock, outputs, positions, inputs and counts. Slopes
 /// and due ticks come from the plain machine's rules, not from the engines'.
 pub fn sound_state(rng: &mut Rng, plan: &Plan) -> RawState {
     let mut state = RawState::start(plan);
@@ -60,7 +60,7 @@ pub fn moved_to_clock(state: &RawState) -> RawState {
 }
 
 /// Works slopes and due ticks out anew from the plan, outputs, positions, inputs and l. The plan
-/// must be lawful; the rest may be anything that the plain rules can work with.
+/// must be an accepted one; the rest may be anything that the plain rules can work with.
 pub fn settle(state: &mut RawState) {
     let plan = state.plan.to_plan().expect("counts within their limits");
     let run = &mut state.run;

@@ -1,6 +1,6 @@
 //! Ways of filling a sound state, most of which no run leads to.
 //!
-//! Each starts from a lawful plan, chooses clock, last-moved ticks, outputs, positions between the
+//! Each starts from an accepted plan, chooses clock, last-moved ticks, outputs, positions between the
 //! levels, inputs within ±M and counts, and works out slopes and due ticks by the plain machine's
 //! rules. An integrator that would be due at or before the clock is taken as moved at the clock.
 
@@ -40,7 +40,7 @@ impl Fill {
         Fill::Reached,
     ];
 
-    /// A sound state of a lawful plan.
+    /// A sound state of an accepted plan.
     pub fn state(self, rng: &mut Rng, plan: &Plan) -> RawState {
         match self {
             Fill::Anything => sound_state(rng, plan),

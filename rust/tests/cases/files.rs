@@ -29,10 +29,10 @@ fn count(met: &mut Met, file: &[u8]) {
     }
 }
 
-/// A lawful file, a file for each cause of refusal, and damaged files.
+/// An accepted file, a file for each cause of refusal, and damaged files.
 pub fn declarations(met: &mut Met) -> Vec<Declaration> {
-    let lawful = theorem("lawful".to_string(), &encode(&every_section()), met);
-    let mut all = vec![lawful];
+    let accepted = theorem("accepted-file".to_string(), &encode(&every_section()), met);
+    let mut all = vec![accepted];
     for cause in Cause::ALL {
         let plan = every_section();
         let faulty = SEEDS.filter_map(|seed| planted(&mut Rng::new(seed), &plan, cause));
@@ -78,7 +78,7 @@ fn theorem(name: String, file: &[u8], met: &mut Met) -> Declaration {
     Declaration::Theorem { name, cases }
 }
 
-/// A lawful file, said to be refused.
+/// An accepted file, said to be refused.
 pub fn wrong(name: &str) -> Declaration {
     let file = bytes(&encode(&every_section()));
     Declaration::Theorem {

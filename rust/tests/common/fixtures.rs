@@ -7,7 +7,7 @@ use cup_check::raw::{RawPlan, RawRunning, RawState};
 use cup_check::samples::document_cup;
 use cup_check::sound::Clause;
 
-/// A lawful plan in which every section has entries and every node kind occurs.
+/// An accepted plan in which every section has entries and every node kind occurs.
 pub fn every_section() -> Plan {
     Plan::new(100)
         .integrator(-M, 1)

@@ -38,7 +38,7 @@ pub fn refusal_of_plan(plan: &Plan) -> (usize, usize) {
     refusal(&encode(plan))
 }
 
-/// The start state of a lawful plan.
+/// The start state of an accepted plan.
 pub fn loaded(plan: &Plan) -> RawState {
     let loaded = CHECKER.load(&encode(plan));
     assert_eq!((loaded.number, loaded.entry), (ACCEPTED, 0), "{plan:?}");

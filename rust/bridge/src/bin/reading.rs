@@ -62,7 +62,7 @@ fn time_calls(name: &str, plan: &[u8]) {
         Box::new(|times| {
             let mut buffer = vec![0; length];
             for _ in 0..times {
-                let read = file::read(black_box(plan)).expect("the samples timed are lawful");
+                let read = file::read(black_box(plan)).expect("the samples timed are accepted");
                 black_box(file::write(&read, black_box(&mut buffer)));
             }
         }),

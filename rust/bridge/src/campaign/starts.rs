@@ -59,7 +59,7 @@ impl Campaign {
     }
 }
 
-/// In turn a lawful plan of each family, then as many files of any sort.
+/// In turn an accepted plan of each family, then as many files of any sort.
 fn any(number: u64, rng: &mut Rng) -> (String, Vec<u8>) {
     let families = Family::ALL.len();
     match Family::ALL.get(number as usize % (2 * families)) {

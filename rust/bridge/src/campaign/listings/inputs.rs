@@ -16,11 +16,11 @@ use cup_check::raw::RawState;
 /// How an input comes about.
 #[derive(Clone, Copy, Debug, PartialEq, Eq, PartialOrd, Ord)]
 pub enum Sort {
-    /// A lawful plan of each family in turn.
+    /// An accepted plan of each family in turn.
     Plan,
     /// A file of any sort of [`cup_check::generate::files`].
     File,
-    /// A beginning of a lawful plan, often none of it or less than a header.
+    /// A beginning of an accepted plan, often none of it or less than a header.
     Beginning,
     /// A plan with bytes behind it.
     WithMore,
@@ -68,7 +68,7 @@ const LENGTHS: [u64; 9] = [
 const IN_PIECES: usize = 20;
 
 impl Input {
-    /// Half of them lawful plans, and of the other half most files of any sort.
+    /// Half of them accepted plans, and of the other half most files of any sort.
     pub fn drawn(rng: &mut Rng, number: u64) -> Input {
         let sort = match number % 10 {
             0 | 2 | 4 | 6 | 8 => Sort::Plan,
@@ -98,7 +98,7 @@ impl Input {
     }
 }
 
-/// A lawful plan that ends soon.
+/// An accepted plan that ends soon.
 fn plan_file(rng: &mut Rng, family: Family) -> Vec<u8> {
     let plan = family.plan(rng);
     encode(&bounded(rng, plan))
