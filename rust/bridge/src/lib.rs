@@ -12,8 +12,8 @@
 pub mod campaign;
 mod header;
 pub mod machine;
+pub mod measure;
 pub mod state;
-pub mod timing;
 
 use cup_check::limits::{
     ACCEPTED, REFUSED_BUDGET, REFUSED_COMMAND, REFUSED_HORIZON, REFUSED_INPUT, REFUSED_INTEGRATOR,

@@ -1,6 +1,6 @@
 //! Times of the proved calls beside the second simulator's, in one run.
 
-use cup_bridge::timing::{repeated, times, warn_of_checks, Repeated};
+use cup_bridge::measure::{repeated, times, warn_of_checks, Repeated};
 use cup_bridge::{read, rewrite, section};
 use cup_check::file;
 use cup_check::samples;

@@ -4,7 +4,7 @@ mod plans;
 mod sides;
 
 use cup_bridge::machine::{echo, sound};
-use cup_bridge::timing::{repeated, times, warn_of_checks, Repeated};
+use cup_bridge::measure::{repeated, times, warn_of_checks, Repeated};
 use cup_check::engine::Engine;
 use cup_check::file::rules;
 use cup_check::limits::{FINISHED, LARGEST_BUDGET, LISTING_BUDGET, PAUSED};

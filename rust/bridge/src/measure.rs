@@ -1,4 +1,4 @@
-//! Times of calls, taken in turn, so that what else the machine does meets all of them.
+//! Run times of calls, measured in turn, so that what else the computer does slows all of them.
 
 use std::hint::black_box;
 use std::time::{Duration, Instant};
@@ -31,17 +31,17 @@ pub fn repeated<'a, T>(call: impl Fn() -> T + 'a) -> Repeated<'a> {
 
 /// The times of some calls, a batch of each in turn.
 pub fn times<const N: usize>(calls: &[Repeated; N]) -> [Times; N] {
-    let repeats = calls.each_ref().map(in_a_batch);
-    let mut taken = [const { Vec::new() }; N];
+    let repeats = calls.each_ref().map(repeats_in_a_batch);
+    let mut batches = [const { Vec::new() }; N];
     for _ in 0..BATCHES {
         for (number, call) in calls.iter().enumerate() {
             let started = Instant::now();
             call(repeats[number]);
-            let batch = started.elapsed().as_nanos() as f64;
-            taken[number].push(batch / repeats[number] as f64);
+            let nanoseconds = started.elapsed().as_nanos() as f64;
+            batches[number].push(nanoseconds / repeats[number] as f64);
         }
     }
-    taken.map(summed_up)
+    batches.map(best_and_median)
 }
 
 /// Says so if the build spends time on checks that only the second simulator has.
@@ -53,7 +53,7 @@ pub fn warn_of_checks() {
 }
 
 /// How often a call fits a batch.
-fn in_a_batch(call: &Repeated) -> usize {
+fn repeats_in_a_batch(call: &Repeated) -> usize {
     let mut times = 1;
     loop {
         let started = Instant::now();
@@ -65,10 +65,10 @@ fn in_a_batch(call: &Repeated) -> usize {
     }
 }
 
-fn summed_up(mut taken: Vec<f64>) -> Times {
-    taken.sort_by(f64::total_cmp);
+fn best_and_median(mut batches: Vec<f64>) -> Times {
+    batches.sort_by(f64::total_cmp);
     Times {
-        best: taken[0],
-        median: taken[taken.len() / 2],
+        best: batches[0],
+        median: batches[batches.len() / 2],
     }
 }
