@@ -9,7 +9,7 @@ use crate::limits::{
     REFUSED_WRITE_BUFFER,
 };
 use crate::raw::RawState;
-use crate::sound::accept;
+use crate::sound::sound_engine_state;
 
 /// What load answers.
 #[derive(Clone, Debug, PartialEq, Eq)]
@@ -73,14 +73,14 @@ pub trait Simulator {
     fn position(&self, state: &RawState, integrator: usize) -> Positioned;
 }
 
-/// This package's simulator, with one rule exchanged on request.
+/// The second simulator, with one rule exchanged on request.
 #[derive(Clone, Copy, Debug, Default)]
-pub struct Checker {
+pub struct SecondSimulator {
     /// The exchanged rule of the runs.
     pub mutant: Mutant,
 }
 
-impl Simulator for Checker {
+impl Simulator for SecondSimulator {
     fn load(&self, file: &[u8]) -> Loaded {
         match read(file) {
             Ok(plan) => Loaded {
@@ -106,7 +106,7 @@ impl Simulator for Checker {
             length,
             state: state.clone(),
         };
-        let Some(sound) = accept(state) else {
+        let Some(sound) = sound_engine_state(state) else {
             return answer(REFUSED_UNSOUND, 0);
         };
         match write(&sound.plan, buffer) {
@@ -123,7 +123,7 @@ impl Simulator for Checker {
             written: 0,
             state: state.clone(),
         };
-        let Some(mut running) = accept(state) else {
+        let Some(mut running) = sound_engine_state(state) else {
             return declined(REFUSED_UNSOUND);
         };
         if budget > LARGEST_BUDGET {
@@ -149,7 +149,7 @@ impl Simulator for Checker {
             value,
             state: state.clone(),
         };
-        let Some(sound) = accept(state) else {
+        let Some(sound) = sound_engine_state(state) else {
             return answer(REFUSED_UNSOUND, 0);
         };
         match sound.integrators.get(integrator) {

@@ -5,7 +5,7 @@
 /// M: the bound of starts, quanta, input values, node limits and outputs, in grains.
 pub const M: i64 = 1 << 30;
 /// Grains in a millilitre: the divisor of the rate and of node kind 1.
-pub const GRAINS: i64 = 1 << GRAIN_BITS;
+pub const GRAINS_PER_ML: i64 = 1 << GRAIN_BITS;
 /// The same as a number of bits: an arithmetic shift by them rounds towards minus infinity.
 pub const GRAIN_BITS: u32 = 16;
 /// The bound of a link's coefficient.

@@ -1,6 +1,6 @@
 //! The listing program as a function from bytes to text.
 
-use crate::calls::{Checker, Ran, Simulator};
+use crate::calls::{Ran, SecondSimulator, Simulator};
 use crate::engine::Engine;
 use crate::limits::{ACCEPTED, EVENT_BYTES, LISTING_BUDGET, LISTING_INPUT, PAUSED, WORD_BYTES};
 use crate::raw::RawState;
@@ -18,7 +18,7 @@ pub fn listing(input: &[u8]) -> String {
 /// more events than fit the memory.
 pub fn write_listing(input: &[u8], output: &mut impl Write) -> io::Result<()> {
     let file = &input[..input.len().min(LISTING_INPUT)];
-    let loaded = Checker::default().load(file);
+    let loaded = SecondSimulator::default().load(file);
     match loaded.number {
         ACCEPTED => write_runs(loaded.state, output),
         number => {
@@ -33,7 +33,7 @@ fn write_runs(mut state: RawState, output: &mut impl Write) -> io::Result<()> {
     let events = LISTING_BUDGET as usize * state.plan.counts.events_per_instant();
     let mut buffer = vec![0; events * EVENT_BYTES];
     loop {
-        let ran = Checker::default().run(Engine::Lazy, &state, LISTING_BUDGET, &mut buffer);
+        let ran = SecondSimulator::default().run(Engine::Lazy, &state, LISTING_BUDGET, &mut buffer);
         assert_eq!(
             ran.number, ACCEPTED,
             "a declined run would be repeated for ever"

@@ -1,5 +1,5 @@
 //! What a comparison has met: counts by name, and the least that they have to reach, so that a comparison
-//! can fail by being thin.
+//! fails that met something too seldom.
 
 use std::borrow::Cow;
 use std::collections::HashMap;
@@ -53,7 +53,7 @@ impl Met {
     }
 
     /// Keeps the highest number, in place of a count.
-    pub fn raise(&mut self, name: impl Into<Name>, to: u64) {
+    pub fn keep_highest(&mut self, name: impl Into<Name>, to: u64) {
         let kept = self.at(name.into());
         kept.count = kept.count.max(to);
     }
@@ -65,7 +65,7 @@ impl Met {
     }
 
     /// What was met too seldom to count as compared.
-    pub fn thin(&self) -> Vec<String> {
+    pub fn too_seldom(&self) -> Vec<String> {
         let seldom = self.counts.iter().filter(|count| count.count < count.least);
         seldom.map(Count::to_string).collect()
     }
@@ -76,8 +76,8 @@ impl Met {
             self.counts.iter().any(|count| count.least > 0),
             "nothing has to be met"
         );
-        let thin = self.thin();
-        assert!(thin.is_empty(), "met too seldom: {thin:?}");
+        let seldom = self.too_seldom();
+        assert!(seldom.is_empty(), "met too seldom: {seldom:?}");
     }
 
     fn at(&mut self, name: Name) -> &mut Count {
@@ -129,13 +129,13 @@ mod tests {
     }
 
     #[test]
-    fn a_count_below_its_least_is_thin() {
+    fn a_count_below_its_least_is_too_seldom() {
         let mut met = required();
         met.add("files", 2);
         met.count("accepted");
         met.count_if(false, "damaged");
-        let thin = ["files: 2, at least 3", "damaged: 0, at least 1"];
-        assert_eq!(met.thin(), thin);
+        let seldom = ["files: 2, at least 3", "damaged: 0, at least 1"];
+        assert_eq!(met.too_seldom(), seldom);
         met.count("files");
         met.count_if(true, "damaged");
         met.assert_enough();
@@ -162,8 +162,8 @@ mod tests {
     #[test]
     fn names_stay_in_the_order_in_which_they_came_up() {
         let mut met = required();
-        met.raise("longest", 7);
-        met.raise("longest", 5);
+        met.keep_highest("longest", 7);
+        met.keep_highest("longest", 5);
         met.add("files", 4);
         let lines = "  files: 4, at least 3\n  accepted: 0, at least 1\n  damaged: 0, at least 1\n";
         assert_eq!(met.to_string(), format!("{lines}  longest: 7\n"));

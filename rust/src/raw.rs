@@ -160,52 +160,56 @@ impl RawPlan {
         } = self.counts;
         self.counts.fit().then(|| Plan {
             horizon: self.horizon,
-            integrators: (0..n).map(|i| self.integrators.entry(i)).collect(),
+            integrators: (0..n)
+                .map(|number| self.integrators.entry(number))
+                .collect(),
             inputs: self.inputs.firsts[..m].to_vec(),
-            nodes: (0..k).map(|j| self.nodes.entry(j)).collect(),
-            links: (0..links).map(|e| self.links.entry(e)).collect(),
-            commands: (0..commands).map(|e| self.commands.entry(e)).collect(),
+            nodes: (0..k).map(|number| self.nodes.entry(number)).collect(),
+            links: (0..links).map(|number| self.links.entry(number)).collect(),
+            commands: (0..commands)
+                .map(|number| self.commands.entry(number))
+                .collect(),
         })
     }
 }
 
 impl RawIntegrators {
-    fn entry(&self, i: usize) -> Integrator {
+    fn entry(&self, number: usize) -> Integrator {
         Integrator {
-            start: self.starts[i],
-            quantum: self.quanta[i],
+            start: self.starts[number],
+            quantum: self.quanta[number],
         }
     }
 }
 
 impl RawNodes {
-    fn entry(&self, j: usize) -> Node {
+    fn entry(&self, number: usize) -> Node {
         Node {
-            kind: self.kinds[j],
-            a: self.a[j],
-            b: self.b[j],
-            low: self.lows[j],
-            high: self.highs[j],
+            kind: self.kinds[number],
+            a: self.a[number],
+            b: self.b[number],
+            low: self.lows[number],
+            high: self.highs[number],
         }
     }
 }
 
 impl RawLinks {
-    fn entry(&self, e: usize) -> Link {
+    fn entry(&self, number: usize) -> Link {
         Link {
-            target: self.targets[e],
-            source: self.sources[e],
-            coefficient: self.coefficients[e],
+            target: self.targets[number],
+            source: self.sources[number],
+            coefficient: self.coefficients[number],
         }
     }
 }
 
 impl RawCommands {
-    fn entry(&self, e: usize) -> Command {
+    fn entry(&self, number: usize) -> Command {
         Command {
-            tick: self.ticks[e],
-            input: self.inputs[e],
-            value: self.values[e],
+            tick: self.ticks[number],
+            input: self.inputs[number],
+            value: self.values[number],
         }
     }
 }

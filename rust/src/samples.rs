@@ -1,7 +1,7 @@
 //! The plans kept in the folder `plans`, with no chance in them.
 
 use crate::file::encode;
-use crate::limits::{GRAINS, LARGEST_HORIZON, M};
+use crate::limits::{GRAINS_PER_ML, LARGEST_HORIZON, M};
 use crate::plan::Plan;
 
 /// A plan file and its name without ending.
@@ -32,12 +32,12 @@ pub fn all() -> Vec<Sample> {
 
 /// Grains of a number of millilitres.
 const fn ml(amount: i64) -> i64 {
-    amount * GRAINS
+    amount * GRAINS_PER_ML
 }
 
 /// The coefficient that takes this part of a source's value per tick.
 const fn part(of: i64) -> i64 {
-    GRAINS / of
+    GRAINS_PER_ML / of
 }
 
 /// Document 01's "A cup in full".
@@ -46,8 +46,8 @@ pub fn document_cup() -> Plan {
         .integrator(0, 10)
         .integrator(0, 1_000)
         .input(3)
-        .link(0, 2, GRAINS)
-        .link(1, 0, GRAINS)
+        .link(0, 2, GRAINS_PER_ML)
+        .link(1, 0, GRAINS_PER_ML)
         .command(6, 0, -3)
 }
 
@@ -58,7 +58,10 @@ fn chain() -> Plan {
     for _ in 0..5 {
         plan = plan.integrator(0, ml(6));
     }
-    plan = plan.input(ml(2)).link(0, 0, -drain).link(0, 5, GRAINS);
+    plan = plan
+        .input(ml(2))
+        .link(0, 0, -drain)
+        .link(0, 5, GRAINS_PER_ML);
     for cup in 1..5 {
         plan = plan.link(cup, cup - 1, drain).link(cup, cup, -drain);
     }
@@ -80,11 +83,11 @@ fn kinds() -> Plan {
         .difference(first, second)
         .limit(difference, -ml(10), ml(10))
         .product(second, valve)
-        .link(first, pump, GRAINS)
-        .link(first, drain, -GRAINS)
+        .link(first, pump, GRAINS_PER_ML)
+        .link(first, drain, -GRAINS_PER_ML)
         .link(first, flow, -part(20))
         .link(second, flow, part(20))
-        .link(second, outflow, -GRAINS)
+        .link(second, outflow, -GRAINS_PER_ML)
         .command(200, 0, ml(2))
         .command(200, 2, part(40))
         .command(350, 0, 0)
@@ -97,7 +100,7 @@ fn overflow() -> Plan {
         .integrator(0, ml(100))
         .integrator(ml(20), ml(5))
         .input(ml(3))
-        .link(0, 2, GRAINS)
+        .link(0, 2, GRAINS_PER_ML)
         .link(1, 1, part(8))
         .command(20, 0, ml(6))
         .command(9_000, 0, 0)
@@ -113,8 +116,8 @@ fn long() -> Plan {
         .input(1)
         .input(3 << 26)
         .threshold(second, level, 2, -2)
-        .link(first, rate, GRAINS)
-        .link(second, turn, GRAINS)
+        .link(first, rate, GRAINS_PER_ML)
+        .link(second, turn, GRAINS_PER_ML)
         .command(1_000_000_000, 0, -1)
         .command(1_500_000_000, 1, -(3 << 26))
         .command(LARGEST_HORIZON, 0, 0)
@@ -165,7 +168,7 @@ fn ring_links(plan: Plan, cup: usize) -> Plan {
         (cup, -part(12)),
         (before, part(24)),
         (across, part(60)),
-        (32 + place, GRAINS),
+        (32 + place, GRAINS_PER_ML),
         (32 + (place + 3) % 8, part(2)),
         (nodes, -part(90)),
         (nodes + 1 + place % 2, part(80)),

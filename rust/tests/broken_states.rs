@@ -2,7 +2,7 @@
 
 mod common;
 
-use common::{loaded, spoiled_cups, CHECKER, MARK};
+use common::{cups_with_an_unused_entry_set, loaded, MARK, SIMULATOR};
 use cup_check::calls::Simulator;
 use cup_check::engine::Engine;
 use cup_check::generate::breakage::with_wild_number;
@@ -26,15 +26,15 @@ fn assert_breaks(state: &RawState, clause: Clause) {
 fn assert_declined(state: &RawState) {
     let mut buffer = [MARK; 5_000];
     for engine in Engine::BOTH {
-        let ran = CHECKER.run(engine, state, 1, &mut buffer);
+        let ran = SIMULATOR.run(engine, state, 1, &mut buffer);
         assert_eq!((ran.number, ran.status), (REFUSED_UNSOUND, 0));
         assert_eq!((ran.integrator, ran.written), (0, 0));
         assert_eq!(&ran.state, state);
     }
-    let position = CHECKER.position(state, 0);
+    let position = SIMULATOR.position(state, 0);
     assert_eq!((position.number, position.value), (REFUSED_UNSOUND, 0));
     assert_eq!(&position.state, state);
-    let written = CHECKER.write(state, &mut buffer);
+    let written = SIMULATOR.write(state, &mut buffer);
     assert_eq!((written.number, written.length), (REFUSED_UNSOUND, 0));
     assert_eq!(&written.state, state);
     assert_eq!(buffer, [MARK; 5_000]);
@@ -67,7 +67,7 @@ fn wild_numbers_anywhere_are_answered() {
         let state = sound_state(&mut rng, &plan);
         let wild = with_wild_number(&mut rng, &state);
         if is_sound(&wild) {
-            assert_eq!(CHECKER.position(&wild, 0).number, ACCEPTED);
+            assert_eq!(SIMULATOR.position(&wild, 0).number, ACCEPTED);
             sound += 1;
         } else {
             assert_declined(&wild);
@@ -79,7 +79,7 @@ fn wild_numbers_anywhere_are_answered() {
 
 #[test]
 fn every_unused_entry_has_to_be_0() {
-    for (state, clause) in spoiled_cups() {
+    for (state, clause) in cups_with_an_unused_entry_set() {
         assert_breaks(&state, clause);
     }
 }

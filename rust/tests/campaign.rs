@@ -2,7 +2,7 @@
 
 mod common;
 
-use common::{compare_random, loaded, rng_of, CHECKER};
+use common::{compare_random, loaded, rng_of, SIMULATOR};
 use cup_check::compare::counts::STATUSES;
 use cup_check::compare::loaded_list;
 use cup_check::file::rules;
@@ -30,7 +30,7 @@ fn runs_agree_with_the_plain_machine() {
     let mut met = Met::default();
     for family in Family::ALL {
         for seed in 0..LISTS {
-            compare_random(&CHECKER, family, seed, &mut met)
+            compare_random(&SIMULATOR, family, seed, &mut met)
                 .unwrap_or_else(|difference| panic!("{difference}"));
         }
     }
@@ -66,7 +66,7 @@ fn long_runs_agree_with_the_plain_machine() {
         let mut rng = rng_of(Family::Swinging, seed);
         let plan = Family::Swinging.plan(&mut rng);
         let list = long_list(&mut rng, plan.events_per_instant());
-        loaded_list(&CHECKER, &plan, &list, &mut met)
+        loaded_list(&SIMULATOR, &plan, &list, &mut met)
             .unwrap_or_else(|difference| panic!("seed {seed}: {difference}"));
     }
     met.require("instants", 100_000);

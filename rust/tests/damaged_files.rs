@@ -2,9 +2,9 @@
 
 mod common;
 
-use common::{refusal, CHECKER};
+use common::{refusal, SIMULATOR};
 use cup_check::calls::Simulator;
-use cup_check::file::layout::assemble;
+use cup_check::file::encoding::assemble;
 use cup_check::file::read::split;
 use cup_check::file::{encode, read, Cause, Refusal};
 use cup_check::generate::damage::damaged;
@@ -20,12 +20,12 @@ use std::collections::BTreeMap;
 /// Checks a file and answers why it was refused, if it was.
 fn check(file: &[u8]) -> Option<Cause> {
     let answer = read(file);
-    let loaded = CHECKER.load(file);
+    let loaded = SIMULATOR.load(file);
     match answer {
         Ok(_) => {
             assert_eq!((loaded.number, loaded.entry), (ACCEPTED, 0));
             let mut buffer = vec![0; LONGEST_FILE];
-            let written = CHECKER.write(&loaded.state, &mut buffer);
+            let written = SIMULATOR.write(&loaded.state, &mut buffer);
             assert_eq!(&buffer[..written.length], file);
         }
         Err(refusal) => {
@@ -34,7 +34,7 @@ fn check(file: &[u8]) -> Option<Cause> {
                 (refusal.number(), refusal.entry)
             );
             assert_eq!(loaded.state, RawState::idle());
-            assert!((0..=SECTIONS).all(|number| CHECKER.section(file, number).is_empty()));
+            assert!((0..=SECTIONS).all(|number| SIMULATOR.section(file, number).is_empty()));
             assert_is_lowest(file, refusal);
         }
     }

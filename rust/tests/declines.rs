@@ -2,7 +2,7 @@
 
 mod common;
 
-use common::{loaded, run, CHECKER, MARK};
+use common::{loaded, run, MARK, SIMULATOR};
 use cup_check::calls::{Ran, Simulator};
 use cup_check::engine::Engine;
 use cup_check::file::encode;
@@ -10,7 +10,7 @@ use cup_check::raw::RawState;
 use cup_check::samples::document_cup;
 
 /// Bytes that one instant of the document's cup may write: (2 + 1) × 12.
-const INSTANT: usize = 36;
+const INSTANT_BYTES: usize = 36;
 
 fn start() -> RawState {
     loaded(&document_cup())
@@ -24,7 +24,7 @@ fn unsound() -> RawState {
 
 fn run_with(engine: Engine, state: &RawState, budget: u64, length: usize) -> (Ran, Vec<u8>) {
     let mut buffer = vec![MARK; length];
-    let ran = CHECKER.run(engine, state, budget, &mut buffer);
+    let ran = SIMULATOR.run(engine, state, budget, &mut buffer);
     (ran, buffer)
 }
 
@@ -47,13 +47,13 @@ fn assert_declined(state: &RawState, budget: u64, length: usize, number: usize) 
 #[test]
 fn runs_decline_by_10_then_11_then_12() {
     assert_declined(&unsound(), 1_025, 0, 10);
-    assert_declined(&unsound(), 1, INSTANT, 10);
+    assert_declined(&unsound(), 1, INSTANT_BYTES, 10);
     assert_declined(&start(), 1_025, 0, 11);
-    assert_declined(&start(), 1_025, 1_025 * INSTANT, 11);
+    assert_declined(&start(), 1_025, 1_025 * INSTANT_BYTES, 11);
     assert_declined(&start(), u64::MAX, 0, 11);
-    assert_declined(&start(), u64::MAX / 36 + 1, INSTANT, 11);
-    assert_declined(&start(), 1_024, 1_024 * INSTANT - 1, 12);
-    assert_declined(&start(), 1, INSTANT - 1, 12);
+    assert_declined(&start(), u64::MAX / 36 + 1, INSTANT_BYTES, 11);
+    assert_declined(&start(), 1_024, 1_024 * INSTANT_BYTES - 1, 12);
+    assert_declined(&start(), 1, INSTANT_BYTES - 1, 12);
     assert_declined(&start(), 1, 0, 12);
 }
 
@@ -61,10 +61,12 @@ fn runs_decline_by_10_then_11_then_12() {
 fn the_largest_budget_and_the_shortest_buffer_are_accepted() {
     for engine in Engine::BOTH {
         assert_eq!(
-            run_with(engine, &start(), 1_024, 1_024 * INSTANT).0.number,
+            run_with(engine, &start(), 1_024, 1_024 * INSTANT_BYTES)
+                .0
+                .number,
             0
         );
-        assert_eq!(run_with(engine, &start(), 1, INSTANT).0.number, 0);
+        assert_eq!(run_with(engine, &start(), 1, INSTANT_BYTES).0.number, 0);
         assert_eq!(run_with(engine, &start(), 0, 0).0.number, 0);
     }
 }
@@ -72,7 +74,7 @@ fn the_largest_budget_and_the_shortest_buffer_are_accepted() {
 #[test]
 fn bytes_after_those_written_keep_their_value() {
     for engine in Engine::BOTH {
-        let (ran, buffer) = run_with(engine, &start(), 2, 2 * INSTANT + 7);
+        let (ran, buffer) = run_with(engine, &start(), 2, 2 * INSTANT_BYTES + 7);
         assert_eq!(ran.written, 24);
         assert!(buffer[24..].iter().all(|&byte| byte == MARK));
     }
@@ -88,7 +90,7 @@ fn the_writer_declines_by_10_then_13() {
         (start(), file.len() - 1, 13),
     ] {
         let mut buffer = vec![MARK; length];
-        let written = CHECKER.write(&state, &mut buffer);
+        let written = SIMULATOR.write(&state, &mut buffer);
         assert_eq!((written.number, written.length), (number, 0));
         assert_eq!(written.state, state);
         assert!(buffer.iter().all(|&byte| byte == MARK));
@@ -99,7 +101,7 @@ fn the_writer_declines_by_10_then_13() {
 fn the_writer_leaves_bytes_after_the_file_alone() {
     let file = encode(&document_cup());
     let mut buffer = vec![MARK; file.len() + 3];
-    let written = CHECKER.write(&start(), &mut buffer);
+    let written = SIMULATOR.write(&start(), &mut buffer);
     assert_eq!((written.number, written.length), (0, 100));
     assert_eq!(buffer[..100], file);
     assert_eq!(buffer[100..], [MARK; 3]);
@@ -115,7 +117,7 @@ fn the_position_call_declines_by_10_then_14() {
         (start(), 32, 14),
         (start(), usize::MAX, 14),
     ] {
-        let answer = CHECKER.position(&state, integrator);
+        let answer = SIMULATOR.position(&state, integrator);
         assert_eq!((answer.number, answer.value), (number, 0));
         assert_eq!(answer.state, state);
     }

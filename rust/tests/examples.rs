@@ -2,11 +2,11 @@
 
 mod common;
 
-use common::{events_of_plan, loaded, run, run_plan, CHECKER};
+use common::{events_of_plan, loaded, run, run_plan, SIMULATOR};
 use cup_check::calls::Simulator;
 use cup_check::engine::{rules, Engine};
 use cup_check::file::encode;
-use cup_check::limits::{GRAINS, M};
+use cup_check::limits::{GRAINS_PER_ML, M};
 use cup_check::listing::listing;
 use cup_check::plain::{due, Plain};
 use cup_check::plan::Plan;
@@ -60,8 +60,8 @@ fn p1_positions_at_clock_6_are_18_and_24() {
     for engine in Engine::BOTH {
         let state = run_plan(engine, &document_cup(), 64).state;
         assert_eq!(state.run.clocks.clock, 6);
-        assert_eq!(CHECKER.position(&state, 0).value, 18);
-        assert_eq!(CHECKER.position(&state, 1).value, 24);
+        assert_eq!(SIMULATOR.position(&state, 0).value, 18);
+        assert_eq!(SIMULATOR.position(&state, 1).value, 24);
     }
     let plan = document_cup();
     let mut plain = Plain::start(&plan);
@@ -74,7 +74,7 @@ fn p1_the_written_plan_is_the_file() {
     let file = encode(&document_cup());
     let (ran, _) = run(Engine::Lazy, &loaded(&document_cup()), 2);
     let mut buffer = vec![0; file.len()];
-    let written = CHECKER.write(&ran.state, &mut buffer);
+    let written = SIMULATOR.write(&ran.state, &mut buffer);
     assert_eq!((written.number, written.length), (0, file.len()));
     assert_eq!(buffer, file);
 }
@@ -112,13 +112,21 @@ fn p5_a_level_reached_exactly_or_passed() {
 
 #[test]
 fn p5_what_lies_beyond_the_level_is_kept() {
-    let plan = Plan::new(1).integrator(0, 10).input(11).link(0, 1, GRAINS);
+    let plan = Plan::new(1)
+        .integrator(0, 10)
+        .input(11)
+        .link(0, 1, GRAINS_PER_ML);
     assert_eq!(events_of_plan(&plan, 64), [(1, 0, 11)]);
 }
 
 #[test]
 fn p6_slopes_are_rounded_towards_minus_infinity() {
-    let sums = [(-1, 1), (-1, GRAINS), (1, GRAINS - 1), (1, GRAINS)];
+    let sums = [
+        (-1, 1),
+        (-1, GRAINS_PER_ML),
+        (1, GRAINS_PER_ML - 1),
+        (1, GRAINS_PER_ML),
+    ];
     let slopes = sums.map(|(value, coefficient)| {
         let plan = Plan::new(1).integrator(0, 1).input(value);
         start_slopes(&plan.link(0, 1, coefficient))[0]
@@ -129,14 +137,14 @@ fn p6_slopes_are_rounded_towards_minus_infinity() {
 #[test]
 fn p7_a_product_is_rounded_towards_minus_infinity() {
     let plan = Plan::new(1).integrator(0, 1).input(1).input(-1);
-    let plan = plan.product(1, 2).link(0, 3, GRAINS);
+    let plan = plan.product(1, 2).link(0, 3, GRAINS_PER_ML);
     assert_eq!(start_slopes(&plan), [-1]);
 }
 
 #[test]
 fn p8_a_threshold_gives_hi_for_equal_sources() {
     let plan = Plan::new(1).integrator(0, 1).input(7).input(7);
-    let plan = plan.threshold(1, 2, -5, 5).link(0, 3, GRAINS);
+    let plan = plan.threshold(1, 2, -5, 5).link(0, 3, GRAINS_PER_ML);
     assert_eq!(start_slopes(&plan), [5]);
 }
 
@@ -147,7 +155,7 @@ fn p9_a_due_value_of_m_passes_and_one_above_bars() {
             Plan::new(1)
                 .integrator(sign * (M - 10), 10)
                 .input(sign * amount)
-                .link(0, 1, GRAINS)
+                .link(0, 1, GRAINS_PER_ML)
         };
         assert_eq!(
             events_of_plan(&filled_by(10), 1),

@@ -2,7 +2,7 @@
 
 mod common;
 
-use common::{loaded, rng_of, run, CHECKER, MARK};
+use common::{loaded, rng_of, run, MARK, SIMULATOR};
 use cup_check::calls::{Loaded, Positioned, Ran, Simulator, Written};
 use cup_check::compare::counts::STATUSES;
 use cup_check::compare::{continued_list, loaded_list};
@@ -20,44 +20,44 @@ const PLANS: u64 = 50;
 const RUNS: u64 = 2_000;
 
 /// This package's simulator with the fast engine for lazy runs.
-struct Quick;
+struct WithFastEngine;
 
-impl Simulator for Quick {
+impl Simulator for WithFastEngine {
     fn load(&self, file: &[u8]) -> Loaded {
-        CHECKER.load(file)
+        SIMULATOR.load(file)
     }
 
     fn section<'f>(&self, file: &'f [u8], number: usize) -> &'f [u8] {
-        CHECKER.section(file, number)
+        SIMULATOR.section(file, number)
     }
 
     fn write(&self, state: &RawState, buffer: &mut [u8]) -> Written {
-        CHECKER.write(state, buffer)
+        SIMULATOR.write(state, buffer)
     }
 
     fn run(&self, engine: Engine, state: &RawState, budget: u64, buffer: &mut [u8]) -> Ran {
         match engine {
             Engine::Lazy => run_lazy(state.clone(), budget, buffer),
-            Engine::Eager => CHECKER.run(engine, state, budget, buffer),
+            Engine::Eager => SIMULATOR.run(engine, state, budget, buffer),
         }
     }
 
     fn position(&self, state: &RawState, integrator: usize) -> Positioned {
-        CHECKER.position(state, integrator)
+        SIMULATOR.position(state, integrator)
     }
 }
 
 #[test]
 fn lists_of_calls_agree_with_the_plain_machine() {
     let mut met = Met::default();
-    for (family, seed) in materials() {
+    for (family, seed) in families_and_seeds() {
         let mut rng = rng_of(family, seed);
         let plan = family.plan(&mut rng);
         let list = run_list(&mut rng, plan.events_per_instant());
         let at = |difference: String| panic!("{family:?} seed {seed}: {difference}");
-        loaded_list(&Quick, &plan, &list, &mut met).unwrap_or_else(at);
+        loaded_list(&WithFastEngine, &plan, &list, &mut met).unwrap_or_else(at);
         let state = rng.pick(&Fill::ALL).state(&mut rng, &plan);
-        continued_list(&Quick, &plan, &state, &list, &mut met).unwrap_or_else(at);
+        continued_list(&WithFastEngine, &plan, &state, &list, &mut met).unwrap_or_else(at);
     }
     met.require("lazy calls", RUNS);
     met.require_each(STATUSES, 500);
@@ -72,7 +72,7 @@ fn lists_of_calls_agree_with_the_plain_machine() {
 #[test]
 fn a_call_answers_what_the_lazy_engine_does() {
     let mut compared = 0;
-    for (family, seed) in materials() {
+    for (family, seed) in families_and_seeds() {
         let mut rng = rng_of(family, seed);
         let plan = family.plan(&mut rng);
         let list = run_list(&mut rng, plan.events_per_instant());
@@ -82,7 +82,7 @@ fn a_call_answers_what_the_lazy_engine_does() {
                 let mut bytes = vec![MARK; call.buffer];
                 let mut right = bytes.clone();
                 let ran = run_lazy(state.clone(), call.budget, &mut bytes);
-                let expected = CHECKER.run(Engine::Lazy, &state, call.budget, &mut right);
+                let expected = SIMULATOR.run(Engine::Lazy, &state, call.budget, &mut right);
                 assert!(ran == expected, "{family:?} seed {seed}: {call:?}");
                 assert_eq!(bytes, right, "{family:?} seed {seed}: {call:?}");
                 compared += u64::from(ran.number == ACCEPTED);
@@ -96,7 +96,7 @@ fn a_call_answers_what_the_lazy_engine_does() {
 #[test]
 fn tables_may_be_kept_over_runs() {
     let mut compared = 0;
-    for (family, seed) in materials() {
+    for (family, seed) in families_and_seeds() {
         let mut rng = rng_of(family, seed);
         let plan = family.plan(&mut rng);
         let list = run_list(&mut rng, plan.events_per_instant());
@@ -131,13 +131,13 @@ fn compare_kept(plan: &Plan, list: &[Call]) -> u64 {
         assert_eq!(outcome.status.integrator(), expected.integrator);
         assert_eq!(&written[..outcome.written], bytes);
         assert!(written[outcome.written..].iter().all(|&byte| byte == MARK));
-        assert_eq!(kept.figures(), expected.state.run);
+        assert_eq!(kept.running(), expected.state.run);
         state = expected.state;
         compared += 1;
     }
     compared
 }
 
-fn materials() -> impl Iterator<Item = (Family, u64)> {
+fn families_and_seeds() -> impl Iterator<Item = (Family, u64)> {
     (0..PLANS).flat_map(|seed| Family::ALL.map(|family| (family, seed)))
 }

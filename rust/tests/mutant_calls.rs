@@ -3,7 +3,7 @@
 
 mod common;
 
-use common::{first_difference, CHECKER};
+use common::{first_difference, SIMULATOR};
 use cup_check::calls::{Loaded, Positioned, Ran, Simulator, Written};
 use cup_check::engine::Engine;
 use cup_check::limits::{ACCEPTED, EVENT_BYTES, FINISHED, LARGEST_BUDGET, RANGE};
@@ -17,7 +17,7 @@ enum Mutant {
     ViewIsEmpty,
     EmptyViewAtTheStart,
     WriterWritesNothing,
-    WriterGoesOn,
+    WriterClearsLaterBytes,
     EagerBodyUnderLazy,
     LazyBodyUnderEager,
     OnlyFirstInstant,
@@ -26,7 +26,7 @@ enum Mutant {
     RangeBeforehand,
     StateUntouched,
     InventedCount,
-    StatusOfEntry,
+    StatusBeforeRun,
     LaterByteChanged,
     DeclineChangesBuffer,
     DeclineChangesState,
@@ -42,7 +42,7 @@ const MUTANTS: [Mutant; 22] = [
     Mutant::ViewIsEmpty,
     Mutant::EmptyViewAtTheStart,
     Mutant::WriterWritesNothing,
-    Mutant::WriterGoesOn,
+    Mutant::WriterClearsLaterBytes,
     Mutant::EagerBodyUnderLazy,
     Mutant::LazyBodyUnderEager,
     Mutant::OnlyFirstInstant,
@@ -51,7 +51,7 @@ const MUTANTS: [Mutant; 22] = [
     Mutant::RangeBeforehand,
     Mutant::StateUntouched,
     Mutant::InventedCount,
-    Mutant::StatusOfEntry,
+    Mutant::StatusBeforeRun,
     Mutant::LaterByteChanged,
     Mutant::DeclineChangesBuffer,
     Mutant::DeclineChangesState,
@@ -61,13 +61,19 @@ const MUTANTS: [Mutant; 22] = [
     Mutant::ClockRunsOn,
 ];
 
-/// The checker's calls as a mutant has them.
+/// The second simulator's calls as a mutant has them.
 struct MutantCalls(Mutant);
 
 impl MutantCalls {
-    /// What is handed to the checker's run instead of the engine and budget asked for.
-    fn asked(&self, engine: Engine, budget: u64, room: usize, instant: usize) -> (Engine, u64) {
-        let fitting = (room / instant) as u64;
+    /// What is handed to the second simulator's run instead of the engine and budget asked for.
+    fn instead(
+        &self,
+        engine: Engine,
+        budget: u64,
+        length: usize,
+        instant_bytes: usize,
+    ) -> (Engine, u64) {
+        let fitting = (length / instant_bytes) as u64;
         match self.0 {
             Mutant::EagerBodyUnderLazy => (Engine::Eager, budget),
             Mutant::LazyBodyUnderEager => (Engine::Lazy, budget),
@@ -82,18 +88,18 @@ impl MutantCalls {
     }
 
     /// The answer of an accepted run as the mutant has it.
-    fn mutate_accepted(&self, entry: &RawState, ran: &mut Ran, buffer: &mut [u8]) {
+    fn mutate_accepted(&self, before: &RawState, ran: &mut Ran, buffer: &mut [u8]) {
         let clocks = &mut ran.state.run.clocks;
         match self.0 {
             Mutant::FinishedBeforehand => ran.status = FINISHED,
             Mutant::RangeBeforehand => ran.status = RANGE,
-            Mutant::StateUntouched => ran.state = entry.clone(),
+            Mutant::StateUntouched => ran.state = before.clone(),
             Mutant::InventedCount => clocks.updates = clocks.instants,
-            Mutant::StatusOfEntry => {
-                ran.status = CHECKER.run(Engine::Lazy, entry, 0, &mut []).status
+            Mutant::StatusBeforeRun => {
+                ran.status = SIMULATOR.run(Engine::Lazy, before, 0, &mut []).status
             }
             Mutant::LaterByteChanged if ran.written < buffer.len() => buffer[ran.written] ^= 1,
-            Mutant::ClockRunsOn if ran.status == FINISHED => clocks.clock = entry.plan.horizon,
+            Mutant::ClockRunsOn if ran.status == FINISHED => clocks.clock = before.plan.horizon,
             _ => {}
         }
     }
@@ -111,17 +117,17 @@ impl MutantCalls {
 impl Simulator for MutantCalls {
     fn load(&self, file: &[u8]) -> Loaded {
         match self.0 {
-            Mutant::LoaderDeclinesAll => CHECKER.load(&[]),
+            Mutant::LoaderDeclinesAll => SIMULATOR.load(&[]),
             Mutant::LoaderGivesIdle => Loaded {
                 state: RawState::idle(),
-                ..CHECKER.load(file)
+                ..SIMULATOR.load(file)
             },
-            _ => CHECKER.load(file),
+            _ => SIMULATOR.load(file),
         }
     }
 
     fn section<'f>(&self, file: &'f [u8], number: usize) -> &'f [u8] {
-        let part = CHECKER.section(file, number);
+        let part = SIMULATOR.section(file, number);
         match self.0 {
             Mutant::ViewIsEmpty => &file[..0],
             Mutant::EmptyViewAtTheStart if part.is_empty() => &file[..0],
@@ -131,20 +137,20 @@ impl Simulator for MutantCalls {
 
     fn write(&self, state: &RawState, buffer: &mut [u8]) -> Written {
         match self.0 {
-            Mutant::WriterWritesNothing => CHECKER.write(state, &mut buffer.to_vec()),
-            Mutant::WriterGoesOn => {
-                let written = CHECKER.write(state, buffer);
+            Mutant::WriterWritesNothing => SIMULATOR.write(state, &mut buffer.to_vec()),
+            Mutant::WriterClearsLaterBytes => {
+                let written = SIMULATOR.write(state, buffer);
                 buffer[written.length..].fill(0);
                 written
             }
-            _ => CHECKER.write(state, buffer),
+            _ => SIMULATOR.write(state, buffer),
         }
     }
 
     fn run(&self, engine: Engine, state: &RawState, budget: u64, buffer: &mut [u8]) -> Ran {
-        let instant = state.plan.counts.events_per_instant() * EVENT_BYTES;
-        let (engine, budget) = self.asked(engine, budget, buffer.len(), instant);
-        let mut ran = CHECKER.run(engine, state, budget, buffer);
+        let instant_bytes = state.plan.counts.events_per_instant() * EVENT_BYTES;
+        let (engine, budget) = self.instead(engine, budget, buffer.len(), instant_bytes);
+        let mut ran = SIMULATOR.run(engine, state, budget, buffer);
         match ran.number {
             ACCEPTED => self.mutate_accepted(state, &mut ran, buffer),
             _ => self.mutate_declined(&mut ran, buffer),
@@ -153,7 +159,7 @@ impl Simulator for MutantCalls {
     }
 
     fn position(&self, state: &RawState, integrator: usize) -> Positioned {
-        let mut answer = CHECKER.position(state, integrator);
+        let mut answer = SIMULATOR.position(state, integrator);
         if self.0 == Mutant::PositionStored && answer.number == ACCEPTED {
             answer.value = state.run.x[integrator];
         }

@@ -2,11 +2,11 @@
 
 mod common;
 
-use common::{events_of_plan, loaded, refusal, refusal_of_plan, run, run_plan, CHECKER};
+use common::{events_of_plan, loaded, refusal, refusal_of_plan, run, run_plan, SIMULATOR};
 use cup_check::calls::Simulator;
 use cup_check::engine::Engine;
 use cup_check::file::encode;
-use cup_check::limits::{GRAINS, LARGEST_COEFFICIENT, M, NEVER};
+use cup_check::limits::{GRAINS_PER_ML, LARGEST_COEFFICIENT, M, NEVER};
 use cup_check::plan::{Command, Plan};
 use cup_check::samples::document_cup;
 use cup_check::sound::{broken_clauses, is_sound, Clause};
@@ -16,7 +16,7 @@ fn filled(start: i64, quantum: i64, rate: i64, horizon: u32) -> Plan {
     Plan::new(horizon)
         .integrator(start, quantum)
         .input(rate)
-        .link(0, 1, GRAINS)
+        .link(0, 1, GRAINS_PER_ML)
 }
 
 /// Refusal of a cup and an input with one node.
@@ -120,7 +120,7 @@ fn the_view_is_empty_when_only_an_entry_is_faulty() {
     plan.commands[0].value = M + 1;
     let file = encode(&plan);
     assert_eq!(refusal(&file), (9, 0));
-    assert!((0..5).all(|number| CHECKER.section(&file, number).is_empty()));
+    assert!((0..5).all(|number| SIMULATOR.section(&file, number).is_empty()));
 }
 
 // Sound states.
@@ -146,10 +146,10 @@ fn wild_counts_are_refused_without_being_added() {
         state.plan.counts.links = value;
         state.plan.counts.commands = value;
         for engine in Engine::BOTH {
-            assert_eq!(CHECKER.run(engine, &state, 0, &mut []).number, 10);
+            assert_eq!(SIMULATOR.run(engine, &state, 0, &mut []).number, 10);
         }
-        assert_eq!(CHECKER.position(&state, 0).number, 10);
-        assert_eq!(CHECKER.write(&state, &mut [0; 200]).number, 10);
+        assert_eq!(SIMULATOR.position(&state, 0).number, 10);
+        assert_eq!(SIMULATOR.write(&state, &mut [0; 200]).number, 10);
     }
 }
 
@@ -165,7 +165,7 @@ fn wild_values_are_refused_without_overflow() {
                 &mut run.s[0],
                 &mut run.inputs[0],
             ][place] = value;
-            assert_eq!(CHECKER.position(&state, 0).number, 10, "{place} {value}");
+            assert_eq!(SIMULATOR.position(&state, 0).number, 10, "{place} {value}");
         }
     }
 }
@@ -192,7 +192,7 @@ fn a_rate_is_the_floor_of_the_whole_sum() {
 fn a_node_whose_value_stays_still_reaches() {
     // Cup 1 reads a limit of cup 0 that is 0 before and after; cup 2 reads nothing.
     let plan = filled(0, 1, 1, 1).integrator(0, 1).integrator(0, 1);
-    let mut plan = plan.limit(0, 0, 0).link(1, 4, GRAINS);
+    let mut plan = plan.limit(0, 0, 0).link(1, 4, GRAINS_PER_ML);
     plan.links[0].source = 3;
     let ran = run_plan(Engine::Lazy, &plan, 1);
     assert_eq!(ran.state.run.l[..3], [1, 1, 0]);
@@ -212,7 +212,7 @@ fn a_command_that_repeats_a_value_still_reaches_and_is_an_event() {
 fn kind_2_does_not_depend_on_integrator_0() {
     // Integrator 0 is due; cup 1 reads a limit of the input alone, whose B is 0.
     let plan = filled(0, 1, 1, 1).integrator(0, 9);
-    let mut plan = plan.limit(2, 0, 5).link(1, 3, GRAINS);
+    let mut plan = plan.limit(2, 0, 5).link(1, 3, GRAINS_PER_ML);
     plan.links[0].source = 2;
     let ran = run_plan(Engine::Lazy, &plan, 1);
     assert_eq!(ran.state.run.clocks.updates, 1);
@@ -226,9 +226,9 @@ fn barred() -> Plan {
         .integrator(M, 10)
         .integrator(-M, 10)
         .input(10)
-        .link(0, 3, GRAINS)
-        .link(1, 3, GRAINS)
-        .link(2, 3, -GRAINS)
+        .link(0, 3, GRAINS_PER_ML)
+        .link(1, 3, GRAINS_PER_ML)
+        .link(2, 3, -GRAINS_PER_ML)
         .command(1, 0, 0)
 }
 
@@ -300,10 +300,10 @@ fn slopes_see_all_outputs_of_their_instant() {
         .integrator(0, 5)
         .integrator(0, 5)
         .input(5)
-        .link(0, 1, GRAINS)
-        .link(0, 2, GRAINS)
-        .link(1, 0, GRAINS)
-        .link(1, 2, GRAINS);
+        .link(0, 1, GRAINS_PER_ML)
+        .link(0, 2, GRAINS_PER_ML)
+        .link(1, 0, GRAINS_PER_ML)
+        .link(1, 2, GRAINS_PER_ML);
     let state = run_plan(Engine::Lazy, &plan, 1).state;
     assert_eq!(state.run.s[..2], [10, 10]);
 }
@@ -313,7 +313,7 @@ fn slopes_see_all_outputs_of_their_instant() {
 #[test]
 fn the_buffer_goes_by_the_budget_even_when_the_run_would_end_at_once() {
     let finished = run_plan(Engine::Lazy, &document_cup(), 64).state;
-    let answer = CHECKER.run(Engine::Lazy, &finished, 1, &mut [0; 35]);
+    let answer = SIMULATOR.run(Engine::Lazy, &finished, 1, &mut [0; 35]);
     assert_eq!(answer.number, 12);
 }
 
@@ -326,7 +326,7 @@ fn budget_0_with_an_empty_buffer_answers_the_status() {
     ];
     for (state, status, integrator) in states {
         for engine in Engine::BOTH {
-            let ran = CHECKER.run(engine, &state, 0, &mut []);
+            let ran = SIMULATOR.run(engine, &state, 0, &mut []);
             assert_eq!((ran.number, ran.written), (0, 0));
             assert_eq!((ran.status, ran.integrator), (status, integrator));
             assert_eq!(ran.state, state);

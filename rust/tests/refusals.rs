@@ -2,12 +2,12 @@
 
 mod common;
 
-use common::{every_section, loaded, refusal, refusal_of_plan, CHECKER};
+use common::{every_section, loaded, refusal, refusal_of_plan, SIMULATOR};
 use cup_check::calls::Simulator;
-use cup_check::file::layout::{assemble, section_bytes};
+use cup_check::file::encoding::{assemble, section_bytes};
 use cup_check::file::read::place_in;
 use cup_check::file::{encode, read, Cause};
-use cup_check::generate::plant::{in_file, in_plan, planted, twice_in_one_entry};
+use cup_check::generate::plant::{plant_in_file, plant_in_plan, plant_twice_in_one_entry, planted};
 use cup_check::generate::{plans, Rng};
 use cup_check::limits::{Section, LARGEST_HORIZON, M};
 use cup_check::plan::Plan;
@@ -61,8 +61,8 @@ fn of_two_planted_faults_the_lower_number_then_the_lower_entry_is_answered() {
         let mut plan = plans::any(&mut rng);
         let (first, second) = (rng.pick(&ENTRY_CAUSES), rng.pick(&ENTRY_CAUSES));
         let (Some(one), Some(other)) = (
-            in_plan(&mut rng, &mut plan, first),
-            in_plan(&mut rng, &mut plan, second),
+            plant_in_plan(&mut rng, &mut plan, first),
+            plant_in_plan(&mut rng, &mut plan, second),
         ) else {
             continue;
         };
@@ -103,7 +103,7 @@ fn two_faults_of_one_entry_are_one_answer() {
     for seed in 0..1_000 {
         let mut rng = Rng::new(seed);
         let mut plan = plans::any(&mut rng);
-        if let Some(entry) = twice_in_one_entry(&mut rng, &mut plan) {
+        if let Some(entry) = plant_twice_in_one_entry(&mut rng, &mut plan) {
             let (number, answered) = refusal_of_plan(&plan);
             assert!(number >= 8, "seed {seed}");
             assert_eq!(answered, entry, "seed {seed}");
@@ -120,9 +120,9 @@ fn a_fault_of_the_file_goes_before_a_fault_of_an_entry() {
         let mut rng = Rng::new(seed);
         let mut plan = plans::any(&mut rng);
         let entry_cause = rng.pick(&ENTRY_CAUSES);
-        both += usize::from(in_plan(&mut rng, &mut plan, entry_cause).is_some());
+        both += usize::from(plant_in_plan(&mut rng, &mut plan, entry_cause).is_some());
         let cause = Cause::ALL[rng.below(7)];
-        let file = in_file(&mut rng, &plan, cause);
+        let file = plant_in_file(&mut rng, &plan, cause);
         assert_eq!(refusal(&file), (cause.number(), 0), "seed {seed}");
     }
     println!("{both} of 1000 files have a fault of an entry as well");
@@ -217,46 +217,69 @@ fn every_odd_length_is_refused() {
 #[test]
 fn the_lowest_of_several_faulty_entries_is_answered() {
     assert_eq!(
-        changed(|p| p.links.iter_mut().skip(1).for_each(|l| l.coefficient = 0)),
+        changed(|plan| plan
+            .links
+            .iter_mut()
+            .skip(1)
+            .for_each(|link| link.coefficient = 0)),
         (8, 1)
     );
     assert_eq!(
-        changed(|p| p.commands.iter_mut().skip(2).for_each(|c| c.tick = 101)),
+        changed(|plan| plan
+            .commands
+            .iter_mut()
+            .skip(2)
+            .for_each(|command| command.tick = 101)),
         (9, 2)
     );
     assert_eq!(
-        changed(|p| p.nodes.iter_mut().for_each(|n| n.a = 99)),
+        changed(|plan| plan.nodes.iter_mut().for_each(|node| node.a = 99)),
         (7, 0)
     );
-    assert_eq!(changed(|p| p.inputs = vec![0, M + 1, M + 1]), (6, 1));
+    assert_eq!(changed(|plan| plan.inputs = vec![0, M + 1, M + 1]), (6, 1));
     assert_eq!(
-        changed(|p| p.integrators.iter_mut().for_each(|i| i.quantum = 0)),
+        changed(|plan| plan
+            .integrators
+            .iter_mut()
+            .for_each(|entry| entry.quantum = 0)),
         (5, 0)
     );
 }
 
 #[test]
 fn an_order_fault_is_the_later_entrys() {
-    assert_eq!(changed(|p| p.links.swap(1, 2)), (8, 2));
-    assert_eq!(changed(|p| p.links[3] = p.links[2]), (8, 3));
-    assert_eq!(changed(|p| p.commands.swap(0, 1)), (9, 1));
-    assert_eq!(changed(|p| p.commands[2] = p.commands[1]), (9, 2));
+    assert_eq!(changed(|plan| plan.links.swap(1, 2)), (8, 2));
+    assert_eq!(changed(|plan| plan.links[3] = plan.links[2]), (8, 3));
+    assert_eq!(changed(|plan| plan.commands.swap(0, 1)), (9, 1));
+    assert_eq!(changed(|plan| plan.commands[2] = plan.commands[1]), (9, 2));
     // A lower target with a higher source, and a lower tick with a higher input, still descend.
-    assert_eq!(changed(|p| p.links[2].target = 0), (8, 2));
+    assert_eq!(changed(|plan| plan.links[2].target = 0), (8, 2));
     assert_eq!(
-        changed(|p| (p.commands[3].tick, p.commands[3].input) = (49, 1)),
+        changed(|plan| (plan.commands[3].tick, plan.commands[3].input) = (49, 1)),
         (9, 3)
     );
 }
 
 #[test]
 fn a_node_names_lower_sources_only() {
-    for (number, places) in (4..8).enumerate() {
-        assert_eq!(changed(|p| p.nodes[number].a = places - 1).0, 0);
-        assert_eq!(changed(|p| p.nodes[number].a = places), (7, number));
+    for (number, sources_below) in (4..8).enumerate() {
+        assert_eq!(
+            changed(|plan| plan.nodes[number].a = sources_below - 1).0,
+            0
+        );
+        assert_eq!(
+            changed(|plan| plan.nodes[number].a = sources_below),
+            (7, number)
+        );
         if number != 2 {
-            assert_eq!(changed(|p| p.nodes[number].b = places - 1).0, 0);
-            assert_eq!(changed(|p| p.nodes[number].b = places), (7, number));
+            assert_eq!(
+                changed(|plan| plan.nodes[number].b = sources_below - 1).0,
+                0
+            );
+            assert_eq!(
+                changed(|plan| plan.nodes[number].b = sources_below),
+                (7, number)
+            );
         }
     }
 }
@@ -264,7 +287,7 @@ fn a_node_names_lower_sources_only() {
 #[test]
 fn a_refused_file_gives_the_idle_state() {
     let idle = loaded(&Plan::new(1).integrator(0, 1));
-    assert_eq!(CHECKER.load(&[]).state, idle);
+    assert_eq!(SIMULATOR.load(&[]).state, idle);
     assert_eq!(RawState::idle(), idle);
     assert_eq!(idle.run.d[0], u32::MAX);
 }
@@ -274,12 +297,12 @@ fn the_section_view_is_part_of_the_file() {
     let file = encode(&document_cup());
     let spans = [44..60, 60..64, 64..64, 64..88, 88..100];
     for (number, span) in spans.into_iter().enumerate() {
-        let part = CHECKER.section(&file, number);
+        let part = SIMULATOR.section(&file, number);
         assert_eq!(part, &file[span.clone()]);
         assert_eq!(place_in(&file, part), span.start);
     }
     for number in [5, 6, 255, usize::MAX] {
-        assert!(CHECKER.section(&file, number).is_empty());
+        assert!(SIMULATOR.section(&file, number).is_empty());
     }
 }
 
@@ -291,7 +314,7 @@ fn the_section_view_of_a_refused_file_is_empty() {
         let planted = planted(&mut rng, &plan, cause).expect("every section has entries");
         for number in 0..=5 {
             assert!(
-                CHECKER.section(&planted.file, number).is_empty(),
+                SIMULATOR.section(&planted.file, number).is_empty(),
                 "{cause:?}"
             );
         }

@@ -2,7 +2,7 @@
 
 mod common;
 
-use common::{listing_by_plain, loaded, run, CHECKER};
+use common::{listing_by_plain, loaded, run, SIMULATOR};
 use cup_check::calls::Simulator;
 use cup_check::engine::Engine;
 use cup_check::file::encode;
@@ -24,7 +24,7 @@ fn for_plans(count: u64, mut check: impl FnMut(&mut Rng, &Plan)) {
 /// The file that the writer gives for a state.
 fn written(state: &RawState) -> Vec<u8> {
     let mut buffer = vec![0; LONGEST_FILE];
-    let written = CHECKER.write(state, &mut buffer);
+    let written = SIMULATOR.write(state, &mut buffer);
     assert_eq!(written.number, 0);
     buffer.truncate(written.length);
     buffer
@@ -34,7 +34,7 @@ fn written(state: &RawState) -> Vec<u8> {
 fn a_loaded_file_is_written_as_it_was() {
     for_plans(2_000, |_, plan| {
         let file = encode(plan);
-        assert_eq!(written(&CHECKER.load(&file).state), file);
+        assert_eq!(written(&SIMULATOR.load(&file).state), file);
     });
 }
 
@@ -44,14 +44,14 @@ fn a_written_state_loads_as_the_start_of_its_plan() {
         let start = loaded(plan);
         let budget = rng.below(50) as u64;
         let (ran, _) = run(rng.pick(&Engine::BOTH), &start, budget);
-        assert_eq!(CHECKER.load(&written(&ran.state)).state, start);
+        assert_eq!(SIMULATOR.load(&written(&ran.state)).state, start);
         let by_hand = sound_state(rng, plan);
-        assert_eq!(CHECKER.load(&written(&by_hand)).state, start);
+        assert_eq!(SIMULATOR.load(&written(&by_hand)).state, start);
     });
 }
 
 #[test]
-fn a_plan_survives_the_raw_state() {
+fn a_plan_comes_back_from_a_raw_state() {
     for_plans(1_000, |_, plan| {
         assert_eq!(loaded(plan).plan.to_plan().as_ref(), Some(plan));
     });
@@ -62,7 +62,7 @@ fn the_sections_are_the_files_parts_in_order() {
     for_plans(1_000, |_, plan| {
         let file = encode(plan);
         let parts: Vec<&[u8]> = (0..5)
-            .map(|number| CHECKER.section(&file, number))
+            .map(|number| SIMULATOR.section(&file, number))
             .collect();
         assert_eq!(parts.concat(), file[44..]);
         assert_eq!(parts[0].len(), 8 * plan.integrators.len());

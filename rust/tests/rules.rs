@@ -2,7 +2,7 @@
 
 use cup_check::engine::rules;
 use cup_check::generate::Rng;
-use cup_check::limits::{GRAINS, M};
+use cup_check::limits::{GRAINS_PER_ML, M};
 use cup_check::plain::{due, values};
 use cup_check::plan::{Node, Plan};
 
@@ -55,13 +55,24 @@ fn slopes_agree_for_every_sum() {
         let plain = values::slope(&plan, 0, &[value]);
         let sum = i128::from(value) * i128::from(coefficient);
         assert_eq!(rules::slope(sum), i128::from(plain));
-        assert_eq!(plain, (value * coefficient).div_euclid(GRAINS));
+        assert_eq!(plain, (value * coefficient).div_euclid(GRAINS_PER_ML));
     }
 }
 
 #[test]
 fn node_values_agree_for_every_kind() {
-    let ends = [-M, 1 - M, -GRAINS, -1, 0, 1, GRAINS - 1, GRAINS, M - 1, M];
+    let ends = [
+        -M,
+        1 - M,
+        -GRAINS_PER_ML,
+        -1,
+        0,
+        1,
+        GRAINS_PER_ML - 1,
+        GRAINS_PER_ML,
+        M - 1,
+        M,
+    ];
     for seed in 0..50_000 {
         let mut rng = Rng::new(seed);
         let any = |rng: &mut Rng| match rng.once_in(2) {
@@ -86,9 +97,9 @@ fn node_values_agree_for_every_kind() {
             };
             let mut plan = Plan::new(1).integrator(0, 1).integrator(0, 1);
             plan.nodes.push(node);
-            let sources = values::of_all_sources(&plan, &[a, b], &[]);
+            let values = values::of_all_sources(&plan, &[a, b], &[]);
             let engine = rules::node_value(&node, i128::from(a), i128::from(b));
-            assert_eq!(i128::from(sources[2]), engine, "{node:?} a {a} b {b}");
+            assert_eq!(i128::from(values[2]), engine, "{node:?} a {a} b {b}");
             assert!(engine.abs() <= i128::from(M));
         }
     }

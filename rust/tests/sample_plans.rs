@@ -18,7 +18,7 @@ fn plans_folder() -> PathBuf {
     Path::new(env!("CARGO_MANIFEST_DIR")).join("../plans")
 }
 
-fn kept(name: &str, ending: &str) -> Vec<u8> {
+fn kept_file(name: &str, ending: &str) -> Vec<u8> {
     let path = plans_folder().join(name).with_extension(ending);
     fs::read(&path).unwrap_or_else(|error| panic!("{}: {error}", path.display()))
 }
@@ -51,7 +51,12 @@ fn the_program_makes_the_files_that_are_kept() {
     for sample in samples::all() {
         for ending in ["plan", "txt"] {
             let made = fs::read(folder.join(sample.name).with_extension(ending)).expect("made");
-            assert_eq!(made, kept(sample.name, ending), "{}.{ending}", sample.name);
+            assert_eq!(
+                made,
+                kept_file(sample.name, ending),
+                "{}.{ending}",
+                sample.name
+            );
         }
     }
 }
@@ -77,10 +82,10 @@ fn each_plan_ends_as_described() {
     ];
     assert_eq!(ends.len(), samples::all().len());
     for (name, end) in ends {
-        let text = listing(&kept(name, "plan"));
+        let text = listing(&kept_file(name, "plan"));
         assert_eq!(text.lines().last(), Some(end), "{name}");
         assert!(text.lines().count() <= 200, "{name}");
-        assert_eq!(text.as_bytes(), kept(name, "txt"), "{name}");
+        assert_eq!(text.as_bytes(), kept_file(name, "txt"), "{name}");
     }
 }
 
@@ -96,7 +101,7 @@ fn the_plain_machine_tells_the_same_listings() {
 
 #[test]
 fn the_full_plan_uses_every_section_to_its_limit() {
-    let plan = read(&kept("full", "plan")).expect("it is accepted");
+    let plan = read(&kept_file("full", "plan")).expect("it is accepted");
     assert_eq!(plan.integrators.len(), 32);
     assert_eq!(plan.inputs.len(), 8);
     assert_eq!(plan.nodes.len(), 16);
@@ -107,18 +112,21 @@ fn the_full_plan_uses_every_section_to_its_limit() {
 #[test]
 fn the_program_prints_the_listing() {
     for name in ["sample", "kinds", "overflow", "refused"] {
-        assert_eq!(printed(&kept(name, "plan")).as_bytes(), kept(name, "txt"));
+        assert_eq!(
+            printed(&kept_file(name, "plan")).as_bytes(),
+            kept_file(name, "txt")
+        );
     }
     assert_eq!(printed(b""), "refused 1 0\n");
 }
 
 /// Takes a number of writes, then fails.
-struct Full {
+struct FailingOutput {
     left: usize,
     taken: Vec<u8>,
 }
 
-impl Write for Full {
+impl Write for FailingOutput {
     fn write(&mut self, bytes: &[u8]) -> io::Result<usize> {
         let left = self.left.checked_sub(1);
         self.left = left.ok_or(io::ErrorKind::BrokenPipe)?;
@@ -132,8 +140,8 @@ impl Write for Full {
 
 #[test]
 fn the_listing_is_written_run_by_run() {
-    let file = kept("chain", "plan");
-    let mut output = Full {
+    let file = kept_file("chain", "plan");
+    let mut output = FailingOutput {
         left: 1,
         taken: Vec::new(),
     };
@@ -144,7 +152,7 @@ fn the_listing_is_written_run_by_run() {
     first_run.run(u128::from(LISTING_BUDGET));
     let lines = output.taken.iter().filter(|&&byte| byte == b'\n').count();
     assert_eq!(lines, first_run.events.len());
-    assert!(kept("chain", "txt").starts_with(&output.taken));
+    assert!(kept_file("chain", "txt").starts_with(&output.taken));
 }
 
 #[test]
@@ -159,9 +167,9 @@ fn the_listing_loads_no_more_than_4493_bytes() {
         assert_eq!(printed(&long), "refused 2 0\n");
     }
     // Pairs that describe 5,004 bytes: what the program reads ends before them.
-    let mut sections = cup_check::file::layout::section_bytes(&read(&full).expect("accepted"));
+    let mut sections = cup_check::file::encoding::section_bytes(&read(&full).expect("accepted"));
     sections[4].resize(64 * 12 + 512, 0);
-    let whole = cup_check::file::layout::assemble(9, &sections);
+    let whole = cup_check::file::encoding::assemble(9, &sections);
     assert_eq!(refusal(&whole), (3, 0));
     assert_eq!(listing(&whole), "refused 2 0\n");
 }

@@ -10,7 +10,7 @@ use cup_check::words::{signed_at, word_at};
 use std::fs;
 use std::path::Path;
 
-fn kept(place: &str) -> Vec<u8> {
+fn repository_file(place: &str) -> Vec<u8> {
     let path = Path::new(env!("CARGO_MANIFEST_DIR"))
         .join("../..")
         .join(place);
@@ -39,7 +39,7 @@ fn the_samples_are_read() {
 /// none.
 #[test]
 fn a_section_is_a_part_of_the_callers_file() {
-    let file = kept("plans/sample.plan");
+    let file = repository_file("plans/sample.plan");
     for (number, (offset, length)) in [(44, 16), (60, 4), (64, 0), (64, 24), (88, 12)]
         .into_iter()
         .enumerate()
@@ -55,7 +55,7 @@ fn a_section_is_a_part_of_the_callers_file() {
     for number in [5, 1 << 32, usize::MAX] {
         assert!(is_none(&file, number));
     }
-    let refused = kept("plans/refused.plan");
+    let refused = repository_file("plans/refused.plan");
     for number in 0..=5 {
         assert!(is_none(&refused, number));
     }
@@ -63,7 +63,7 @@ fn a_section_is_a_part_of_the_callers_file() {
 
 #[test]
 fn a_plan_is_rewritten() {
-    let file = kept("plans/full.plan");
+    let file = repository_file("plans/full.plan");
     let mut buffer = vec![7; file.len() + 3];
     let whole = Rewritten {
         number: 0,
@@ -101,7 +101,7 @@ fn positions(state: &State) -> [i64; 2] {
 /// Document 01's "A cup in full": events, status, clock, instants and updates, and the positions.
 #[test]
 fn a_cup_in_full_instant_by_instant() {
-    let start = load(&kept("plans/sample.plan")).state;
+    let start = load(&repository_file("plans/sample.plan")).state;
     assert_eq!((start.run.s[..2].to_vec(), start.run.d[0]), (vec![3, 0], 4));
     for (engine, updates) in [(Engine::Lazy, [2, 3]), (Engine::Eager, [2, 4])] {
         let mut buffer = [7; 40];
@@ -133,7 +133,7 @@ fn a_cup_in_full_instant_by_instant() {
 /// The same by one call, and what the calls decline.
 #[test]
 fn a_cup_in_full_by_one_run() {
-    let start = load(&kept("plans/sample.plan")).state;
+    let start = load(&repository_file("plans/sample.plan")).state;
     assert_eq!(positions(&start), [0, 0]);
     for (engine, updates) in [(Engine::Lazy, 3), (Engine::Eager, 4)] {
         let mut buffer = [7; 64 * 36];
@@ -151,8 +151,8 @@ fn a_cup_in_full_by_one_run() {
         let none = run(engine, &start, 0, &mut []);
         assert_eq!((none.number, none.status, none.written), (0, 0, 0));
         assert_eq!(none.state, start);
-        let declined = |state: &State, budget, room: usize| {
-            let mut buffer = vec![7; room];
+        let declined = |state: &State, budget, length: usize| {
+            let mut buffer = vec![7; length];
             let ran = run(engine, state, budget, &mut buffer);
             assert_eq!((ran.status, ran.integrator, ran.written), (0, 0, 0));
             assert_eq!(ran.state, *state);
@@ -175,7 +175,7 @@ fn a_cup_in_full_by_one_run() {
 
 #[test]
 fn a_sound_state_has_tables_and_another_has_none() {
-    let mut state = load(&kept("plans/sample.plan")).state;
+    let mut state = load(&repository_file("plans/sample.plan")).state;
     assert!(sound(&state));
     let found = tables(&state);
     assert_eq!(found.ranges[..4], [0, 1, 2, 0]);
@@ -190,7 +190,7 @@ fn a_sound_state_has_tables_and_another_has_none() {
 /// The table in the repository's README has the same words.
 #[test]
 fn every_number_means_what_the_readme_says() {
-    let readme = String::from_utf8(kept("README.md")).expect("text");
+    let readme = String::from_utf8(repository_file("README.md")).expect("text");
     let (_, table) = readme
         .split_once("## What each refusal means")
         .expect("the table of refusals");
@@ -211,7 +211,7 @@ fn every_number_means_what_the_readme_says() {
 /// So has the C header, above the name of each number.
 #[test]
 fn every_number_means_what_the_header_says() {
-    let header = String::from_utf8(kept("include/cup.h")).expect("text");
+    let header = String::from_utf8(repository_file("include/cup.h")).expect("text");
     let words: Vec<&str> = header
         .split_whitespace()
         .filter(|word| *word != "*")

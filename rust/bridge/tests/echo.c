@@ -75,11 +75,11 @@ static void echo_state(void)
     FIELDS(PRINT_ONE, PRINT_MANY)
 }
 
-int main(int count, char **words)
+int main(int argc, char **argv)
 {
-    if (count == 2 && strcmp(words[1], "layout") == 0)
+    if (argc == 2 && strcmp(argv[1], "layout") == 0)
         print_layout();
-    else if (count == 2 && strcmp(words[1], "state") == 0)
+    else if (argc == 2 && strcmp(argv[1], "state") == 0)
         echo_state();
     else {
         fprintf(stderr, "usage: echo layout | echo state\n");

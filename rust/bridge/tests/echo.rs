@@ -10,7 +10,7 @@ mod common;
 use common::compiled;
 use cup_bridge::machine::{echo, instant, sound, write};
 use cup_bridge::state::{Loaded, Plan, Positioned, Ran, Running, State, Tables, Written};
-use cup_check::calls::{Checker, Simulator};
+use cup_check::calls::{SecondSimulator, Simulator};
 use cup_check::engine::Engine;
 use cup_check::generate::{plans, Fill, Rng};
 use cup_check::limits::{EVENT_BYTES, INPUTS, INTEGRATORS, LONGEST_FILE};
@@ -70,7 +70,11 @@ fn a_state_filled_with_different_numbers_comes_back_through_c() {
     let numbers: String = entries.map(|entry| format!("{entry}\n")).collect();
     let mut expected = String::new();
     for field in &fields {
-        let entries: String = field.entries.iter().map(|e| format!(" {e}")).collect();
+        let entries: String = field
+            .entries
+            .iter()
+            .map(|entry| format!(" {entry}"))
+            .collect();
         expected += &format!("{}{entries}\n", field.name);
     }
     assert_eq!(printed("state", &numbers), expected);
@@ -140,12 +144,12 @@ fn proved(state: &State) -> Answers {
 
 fn second(state: &State) -> Answers {
     let raw = RawState::from(state);
-    let checker = Checker::default();
+    let simulator = SecondSimulator::default();
     let mut file = vec![0; LONGEST_FILE];
-    let number = checker.write(&raw, &mut file).number;
+    let number = simulator.write(&raw, &mut file).number;
     let runs = Engine::BOTH.map(|engine| {
         let mut events = vec![0; INSTANT_BYTES];
-        let ran = checker.run(engine, &raw, 1, &mut events);
+        let ran = simulator.run(engine, &raw, 1, &mut events);
         let state = State::from(&ran.state);
         (ran.number, ran.status, ran.integrator, events, state)
     });

@@ -6,11 +6,11 @@
 mod common;
 
 use common::Report;
-use cup_bridge::campaign::{Archive, Campaign, FILES};
+use cup_bridge::campaign::{Campaign, ProvedCalls, FILES};
 
 #[test]
-fn the_proved_calls_agree_with_the_second_simulator() {
-    let campaign = Campaign::asked_for();
+fn the_proved_calls_on_files_agree_with_the_second_simulator() {
+    let campaign = Campaign::by_variables();
     assert!(campaign.files >= FILES, "CUP_FILES is at least {FILES}");
     let report = Report {
         title: "campaign",
@@ -18,6 +18,6 @@ fn the_proved_calls_agree_with_the_second_simulator() {
         seed: campaign.seed,
         mutant: Some(format!("{:?}", campaign.mutant)),
     };
-    let met = report.judge(|| campaign.run(&Archive));
+    let met = report.check(|| campaign.run(&ProvedCalls));
     assert_eq!(met.of("files"), campaign.files);
 }

@@ -8,13 +8,13 @@ mod common;
 
 use common::Report;
 use cup_bridge::campaign::instants::{Campaign, STATES};
-use cup_bridge::campaign::{count_signs, Archive, SIGNS};
+use cup_bridge::campaign::{count_signs, ProvedCalls, SIGNS};
 use cup_check::generate::{plans, Fill, Rng};
 use cup_check::met::Met;
 
 #[test]
 fn the_proved_instant_agrees_with_the_second_simulator() {
-    let campaign = Campaign::asked_for();
+    let campaign = Campaign::by_variables();
     let least = STATES;
     assert!(campaign.states >= least, "CUP_INSTANTS is at least {least}");
     let report = Report {
@@ -23,12 +23,12 @@ fn the_proved_instant_agrees_with_the_second_simulator() {
         seed: campaign.seed,
         mutant: Some(format!("{:?}", campaign.mutant)),
     };
-    let met = report.judge(|| campaign.run(&Archive));
+    let met = report.check(|| campaign.run(&ProvedCalls));
     assert_eq!(met.of("states"), campaign.states);
 }
 
 #[test]
-fn what_a_run_leaves_has_no_sign_of_another_state() {
+fn a_state_that_a_run_leaves_has_none_of_the_signs() {
     let mut met = Met::default();
     for seed in 0..5_000 {
         let mut rng = Rng::new(seed);

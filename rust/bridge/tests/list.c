@@ -155,10 +155,10 @@ static void check_call(CupRan *lazy, CupRan *eager)
     check_positions(&lazy->state, &eager->state);
 }
 
-int main(int count, char **words)
+int main(int argc, char **argv)
 {
-    demand(count == 2, "usage: list FILE");
-    size_t length = read_file(words[1]);
+    demand(argc == 2, "usage: list FILE");
+    size_t length = read_file(argv[1]);
     CupLoaded loaded = cup_load(file, length);
     if (loaded.number != CUP_ACCEPTED) {
         printf("refused %zu %zu\n", loaded.number, loaded.entry);

@@ -8,9 +8,9 @@ mod common;
 
 use common::{root, Report};
 use cup_bridge::campaign::listings::{
-    compare, Campaign, Input, Lister, Program, Sort, INPUTS_COMPARED,
+    compare, Campaign, Input, Lister, Origin, Program, INPUTS_COMPARED,
 };
-use cup_check::calls::{Checker, Simulator};
+use cup_check::calls::{SecondSimulator, Simulator};
 use cup_check::limits::{LISTING_BUDGET, LISTING_INPUT, LONGEST_FILE};
 use cup_check::listing::listing;
 use std::path::PathBuf;
@@ -30,7 +30,7 @@ fn program() -> Program {
 
 #[test]
 fn the_listing_program_agrees_with_the_second_simulator() {
-    let campaign = Campaign::asked_for();
+    let campaign = Campaign::by_variables();
     let least = INPUTS_COMPARED;
     assert!(campaign.inputs >= least, "CUP_LISTINGS is at least {least}");
     let report = Report {
@@ -40,7 +40,7 @@ fn the_listing_program_agrees_with_the_second_simulator() {
         mutant: None,
     };
     let program = program();
-    let met = report.judge(|| campaign.run(&program));
+    let met = report.check(|| campaign.run(&program));
     assert_eq!(met.of("inputs"), campaign.inputs);
 }
 
@@ -61,9 +61,9 @@ fn the_listing_program_lists_every_kept_file() {
             false => listing(&bytes),
         };
         for pieces in [1, 3] {
-            let (sort, bytes) = (Sort::File, bytes.clone());
+            let (origin, bytes) = (Origin::File, bytes.clone());
             let input = Input {
-                sort,
+                origin,
                 bytes,
                 pieces,
             };
@@ -129,7 +129,7 @@ impl Lister for Mutant {
 
 /// What would be printed of a longer input if all of it were read.
 fn refused_whole(input: &[u8]) -> String {
-    let loaded = Checker::default().load(input);
+    let loaded = SecondSimulator::default().load(input);
     format!("refused {} {}\n", loaded.number, loaded.entry)
 }
 

@@ -8,11 +8,11 @@ mod common;
 
 use common::Report;
 use cup_bridge::campaign::lists::{Campaign, LISTS};
-use cup_bridge::campaign::Archive;
+use cup_bridge::campaign::ProvedCalls;
 
 #[test]
 fn the_proved_runs_agree_with_the_second_simulator() {
-    let campaign = Campaign::asked_for();
+    let campaign = Campaign::by_variables();
     let least = LISTS;
     assert!(campaign.lists >= least, "CUP_LISTS is at least {least}");
     let report = Report {
@@ -21,6 +21,6 @@ fn the_proved_runs_agree_with_the_second_simulator() {
         seed: campaign.seed,
         mutant: Some(format!("{:?}", campaign.mutant)),
     };
-    let met = report.judge(|| campaign.run(&Archive));
+    let met = report.check(|| campaign.run(&ProvedCalls));
     assert_eq!(met.of("lists"), campaign.lists);
 }

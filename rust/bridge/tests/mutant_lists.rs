@@ -4,8 +4,8 @@
 mod mutant_runs;
 
 use cup_bridge::campaign::lists::Campaign;
-use cup_bridge::campaign::Archive;
-use cup_check::calls::{Checker, Simulator};
+use cup_bridge::campaign::ProvedCalls;
+use cup_check::calls::{SecondSimulator, Simulator};
 use cup_check::engine;
 use mutant_runs::{Mutant, MutantCalls, POSITIONS, RUNS};
 
@@ -28,11 +28,11 @@ fn first_difference(simulator: &dyn Simulator, mutant: engine::Mutant) -> Option
 #[test]
 fn every_mutant_of_the_second_simulators_engines_is_found_over_lists() {
     for mutant in engine::Mutant::ALL {
-        let found = first_difference(&Archive, mutant);
+        let found = first_difference(&ProvedCalls, mutant);
         println!("{mutant:?}: {found:?}");
         assert!(found.is_some(), "{mutant:?} was not found");
     }
-    assert_eq!(first_difference(&Archive, engine::Mutant::None), None);
+    assert_eq!(first_difference(&ProvedCalls, engine::Mutant::None), None);
 }
 
 /// Here the second simulator's engines stand in for the proved ones, so that it is the plain machine
@@ -40,7 +40,7 @@ fn every_mutant_of_the_second_simulators_engines_is_found_over_lists() {
 #[test]
 fn every_mutant_of_the_engines_is_found_by_the_plain_machine() {
     for mutant in engine::Mutant::ALL {
-        let found = first_difference(&Checker { mutant }, engine::Mutant::None);
+        let found = first_difference(&SecondSimulator { mutant }, engine::Mutant::None);
         println!("{mutant:?}: {found:?}");
         let found = found.unwrap_or_else(|| panic!("{mutant:?} was not found"));
         assert!(!found.contains("second simulator's engine"), "{found}");
@@ -68,8 +68,8 @@ fn every_mutant_of_a_run_is_found() {
 
 /// The plain machine has neither stored positions nor last-moved ticks, so this is the engines' to find.
 #[test]
-fn lines_stated_at_another_tick_are_found_by_the_engines() {
-    let calls = MutantCalls::new(Mutant::UnmovedStatedLater);
+fn positions_stored_for_another_tick_are_found_by_the_engines() {
+    let calls = MutantCalls::new(Mutant::UnmovedStoredForTickBefore);
     let found = first_difference(&calls, engine::Mutant::None).expect("it is found");
     assert!(
         found.contains("second simulator's engine: state"),

@@ -1,7 +1,7 @@
 //! The campaigns over states can fail: they find every mutant of the second simulator's test of soundness
 //! and of its engines, and every mutant of the calls.
 
-use cup_bridge::campaign::{instants, soundness, starts, tables, writes, Archive, Machine};
+use cup_bridge::campaign::{instants, soundness, starts, tables, writes, Machine, ProvedCalls};
 use cup_bridge::state::{Loaded, Ran, State, Tables, Written};
 use cup_check::engine::Engine;
 use cup_check::limits::{
@@ -12,22 +12,22 @@ use cup_check::limits::{
 use cup_check::{engine, sound};
 
 /// States tried for each mutant of the test of soundness; most are found within the first hundreds.
-const SOUNDNESS: u64 = 40_000;
+const SOUNDNESS_STATES: u64 = 40_000;
 /// States and files tried for each other mutant.
-const OTHERS: u64 = 2_000;
+const OTHER_CASES: u64 = 2_000;
 /// The bytes of the shortest plan's file.
-const SHORTEST: usize = HEADER_BYTES + INTEGRATOR_BYTES;
+const SHORTEST_FILE: usize = HEADER_BYTES + INTEGRATOR_BYTES;
 /// Where the tried ones start from.
 const SEED: u64 = 1;
 
 /// The first difference between the proved test of soundness and the second simulator's.
 fn difference_in_soundness(mutant: sound::Mutant) -> Option<String> {
     let campaign = soundness::Campaign {
-        states: SOUNDNESS,
+        states: SOUNDNESS_STATES,
         seed: SEED,
         mutant,
     };
-    campaign.run(&Archive).differences.into_iter().next()
+    campaign.run(&ProvedCalls).differences.into_iter().next()
 }
 
 #[test]
@@ -61,7 +61,7 @@ fn every_mutant_of_the_test_of_soundness_and_of_the_engines_has_a_name() {
 /// The first difference between a machine's instants and the second simulator's.
 fn difference_in_instants(machine: &dyn Machine, mutant: engine::Mutant) -> Option<String> {
     let campaign = instants::Campaign {
-        states: OTHERS,
+        states: OTHER_CASES,
         seed: SEED,
         mutant,
     };
@@ -71,11 +71,14 @@ fn difference_in_instants(machine: &dyn Machine, mutant: engine::Mutant) -> Opti
 #[test]
 fn every_mutant_of_the_second_simulators_engines_is_found_by_single_instants() {
     for mutant in engine::Mutant::ALL {
-        let found = difference_in_instants(&Archive, mutant);
+        let found = difference_in_instants(&ProvedCalls, mutant);
         println!("{mutant:?}: {found:?}");
         assert!(found.is_some(), "{mutant:?} was not found");
     }
-    assert_eq!(difference_in_instants(&Archive, engine::Mutant::None), None);
+    assert_eq!(
+        difference_in_instants(&ProvedCalls, engine::Mutant::None),
+        None
+    );
 }
 
 /// Mutants of the proved calls.
@@ -105,7 +108,7 @@ enum Mutant {
     InstantShortBeforeUnsound,
     InstantStatusBefore,
     InstantIntegratorAlways,
-    InstantWrittenRoom,
+    InstantWrittenIsBufferLength,
     InstantNotCounted,
     InstantCommandsStay,
     InstantClockRunsOn,
@@ -143,7 +146,7 @@ const WRITING: [Mutant; 7] = [
 ];
 
 /// Mutants of an instant.
-const PLAYING: [Mutant; 18] = [
+const INSTANT: [Mutant; 18] = [
     Mutant::InstantCountsDueTwice,
     Mutant::InstantSkipsLowest,
     Mutant::InstantSkipsThirtyTwo,
@@ -155,7 +158,7 @@ const PLAYING: [Mutant; 18] = [
     Mutant::InstantShortBeforeUnsound,
     Mutant::InstantStatusBefore,
     Mutant::InstantIntegratorAlways,
-    Mutant::InstantWrittenRoom,
+    Mutant::InstantWrittenIsBufferLength,
     Mutant::InstantNotCounted,
     Mutant::InstantCommandsStay,
     Mutant::InstantClockRunsOn,
@@ -177,11 +180,11 @@ const TABLES: [Mutant; 7] = [
 
 impl Machine for Mutant {
     fn load(&self, file: &[u8]) -> Box<Loaded> {
-        let mut loaded = Archive.load(file);
+        let mut loaded = ProvedCalls.load(file);
         let run = &mut loaded.state.run;
         match self {
             Mutant::LoadsEntryZero => loaded.entry = 0,
-            Mutant::LoadsIdleAlways => loaded.state = Archive.load(&[]).state,
+            Mutant::LoadsIdleAlways => loaded.state = ProvedCalls.load(&[]).state,
             Mutant::LoadsPlanOfRefused if loaded.number == REFUSED_COMMAND => {
                 loaded.state.plan.horizon = 2
             }
@@ -195,22 +198,30 @@ impl Machine for Mutant {
 
     fn write(&self, state: &State, buffer: &mut [u8]) -> Box<Written> {
         let before = buffer.to_vec();
-        let mut written = Archive.write(state, buffer);
-        let (number, length, room) = (written.number, written.length, before.len());
+        let mut written = ProvedCalls.write(state, buffer);
+        let (number, length, buffer_length) = (written.number, written.length, before.len());
         match self {
             Mutant::WritesWithoutLastByte if number == ACCEPTED => {
                 buffer[length - 1] = before[length - 1]
             }
-            Mutant::WritesBehind if number == ACCEPTED && length < room => buffer[length] ^= 1,
-            Mutant::WritesIntoShort if number == REFUSED_WRITE_BUFFER && room > 0 => buffer[0] ^= 1,
+            Mutant::WritesBehind if number == ACCEPTED && length < buffer_length => {
+                buffer[length] ^= 1
+            }
+            Mutant::WritesIntoShort if number == REFUSED_WRITE_BUFFER && buffer_length > 0 => {
+                buffer[0] ^= 1
+            }
             Mutant::WritesOneByteShort if number == REFUSED_WRITE_BUFFER => {
                 let mut longer = [before, vec![0]].concat();
-                return Archive.write(state, &mut longer);
+                return ProvedCalls.write(state, &mut longer);
             }
-            Mutant::WritesShortBeforeUnsound if number == REFUSED_UNSOUND && room < SHORTEST => {
+            Mutant::WritesShortBeforeUnsound
+                if number == REFUSED_UNSOUND && buffer_length < SHORTEST_FILE =>
+            {
                 written.number = REFUSED_WRITE_BUFFER
             }
-            Mutant::WritesLengthOfShort if number == REFUSED_WRITE_BUFFER => written.length = room,
+            Mutant::WritesLengthOfShort if number == REFUSED_WRITE_BUFFER => {
+                written.length = buffer_length
+            }
             Mutant::WritesStateBackOtherwise if number == REFUSED_WRITE_BUFFER => {
                 written.state.run.clocks.updates = 0;
             }
@@ -226,19 +237,21 @@ impl Machine for Mutant {
             Mutant::InstantLazyForEager => Engine::Lazy,
             _ => engine,
         };
-        let mut ran = Archive.instant(engine, state, buffer);
+        let mut ran = ProvedCalls.instant(engine, state, buffer);
         let taken = ran.state.run.clocks.clock > state.run.clocks.clock;
         match ran.number {
             ACCEPTED if taken => self.mutate_taken(state, &mut ran, buffer),
             ACCEPTED => (),
             _ => self.mutate_declined(engine, state, &mut ran, &before, buffer),
         }
-        let (number, room) = (ran.number, before.len());
+        let (number, buffer_length) = (ran.number, before.len());
         match self {
-            Mutant::InstantWritesBehind if number == ACCEPTED && ran.written < room => {
+            Mutant::InstantWritesBehind if number == ACCEPTED && ran.written < buffer_length => {
                 buffer[ran.written] ^= 1;
             }
-            Mutant::InstantWrittenRoom if number == ACCEPTED => ran.written = room,
+            Mutant::InstantWrittenIsBufferLength if number == ACCEPTED => {
+                ran.written = buffer_length
+            }
             Mutant::InstantIntegratorAlways if number == ACCEPTED && ran.status == FINISHED => {
                 ran.integrator = 1
             }
@@ -248,7 +261,7 @@ impl Machine for Mutant {
     }
 
     fn tables(&self, state: &State) -> Box<Tables> {
-        let mut tables = Archive.tables(state);
+        let mut tables = ProvedCalls.tables(state);
         let nodes = state.plan.counts.n.wrapping_add(state.plan.counts.m);
         match self {
             Mutant::TablesWithoutEnd => tables.ranges[state.plan.counts.n.min(INTEGRATORS)] = 0,
@@ -319,7 +332,7 @@ impl Mutant {
             Mutant::InstantWritesIntoShort if !buffer.is_empty() => buffer[0] ^= 1,
             Mutant::InstantOneByteShort => {
                 let mut longer = [before, &[0]].concat();
-                *ran = *Archive.instant(engine, state, &mut longer);
+                *ran = *ProvedCalls.instant(engine, state, &mut longer);
             }
             Mutant::InstantShortBeforeUnsound if buffer.is_empty() => {
                 ran.number = REFUSED_RUN_BUFFER
@@ -343,12 +356,12 @@ fn find(mutants: &[Mutant], first_difference: impl Fn(&dyn Machine) -> Option<St
         println!("{mutant:?}: {found:?}");
         assert!(found.is_some(), "{mutant:?} was not found");
     }
-    assert_eq!(first_difference(&Archive), None);
+    assert_eq!(first_difference(&ProvedCalls), None);
 }
 
 #[test]
 fn every_mutant_of_load_is_found() {
-    let (files, seed) = (OTHERS, SEED);
+    let (files, seed) = (OTHER_CASES, SEED);
     let campaign = starts::Campaign { files, seed };
     find(&LOADING, |machine| {
         campaign.run(machine).differences.into_iter().next()
@@ -357,7 +370,7 @@ fn every_mutant_of_load_is_found() {
 
 #[test]
 fn every_mutant_of_the_plan_writer_is_found() {
-    let (states, seed) = (OTHERS, SEED);
+    let (states, seed) = (OTHER_CASES, SEED);
     let campaign = writes::Campaign { states, seed };
     find(&WRITING, |machine| {
         campaign.run(machine).differences.into_iter().next()
@@ -366,7 +379,7 @@ fn every_mutant_of_the_plan_writer_is_found() {
 
 #[test]
 fn every_mutant_of_the_tables_is_found() {
-    let (states, seed) = (OTHERS, SEED);
+    let (states, seed) = (OTHER_CASES, SEED);
     let campaign = tables::Campaign { states, seed };
     find(&TABLES, |machine| {
         campaign.run(machine).differences.into_iter().next()
@@ -375,7 +388,7 @@ fn every_mutant_of_the_tables_is_found() {
 
 #[test]
 fn every_mutant_of_an_instant_is_found() {
-    find(&PLAYING, |machine| {
+    find(&INSTANT, |machine| {
         difference_in_instants(machine, engine::Mutant::None)
     });
 }

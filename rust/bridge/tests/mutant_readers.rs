@@ -1,7 +1,7 @@
 //! The campaign over files can fail: it finds every mutant of the second simulator's reader, and every
 //! mutant of the calls.
 
-use cup_bridge::campaign::{Archive, Campaign, Reader};
+use cup_bridge::campaign::{Campaign, ProvedCalls, Reader};
 use cup_bridge::{Answer, Rewritten};
 use cup_check::file;
 use cup_check::file::read::{place_in, split};
@@ -32,13 +32,13 @@ fn first_difference(reader: &dyn Reader, mutant: file::Mutant) -> Option<String>
 #[test]
 fn without_a_mutant_the_same_files_agree() {
     let none: [String; 0] = [];
-    assert_eq!(differences(&Archive, file::Mutant::None), none);
+    assert_eq!(differences(&ProvedCalls, file::Mutant::None), none);
 }
 
 #[test]
 fn every_mutant_of_the_second_simulators_reader_is_found() {
     for mutant in file::Mutant::ALL {
-        let found = first_difference(&Archive, mutant);
+        let found = first_difference(&ProvedCalls, mutant);
         println!("{mutant:?}: {found:?}");
         assert!(found.is_some(), "{mutant:?} was not found");
     }
@@ -92,7 +92,7 @@ const MUTANTS: [Mutant; 15] = [
 
 impl Reader for Mutant {
     fn read(&self, file: &[u8]) -> Answer {
-        let mut answer = Archive.read(file);
+        let mut answer = ProvedCalls.read(file);
         match self {
             Mutant::EntryOneHigher if answer.number == REFUSED_COMMAND => answer.entry += 1,
             Mutant::EntryOfWholeFile if answer.number == REFUSED_SIZES => answer.entry = 1,
@@ -102,7 +102,7 @@ impl Reader for Mutant {
     }
 
     fn section<'f>(&self, file: &'f [u8], number: usize) -> &'f [u8] {
-        let part = Archive.section(file, number);
+        let part = ProvedCalls.section(file, number);
         let at = place_in(file, part);
         match self {
             Mutant::SectionShifted if !part.is_empty() => &file[at - 1..][..part.len()],
@@ -114,15 +114,15 @@ impl Reader for Mutant {
             Mutant::SectionOfRefused if number < SECTIONS => {
                 split(file).map_or(part, |all| all[number])
             }
-            Mutant::SectionAboveFour => Archive.section(file, number.min(SECTIONS - 1)),
-            Mutant::SectionNumberIn32Bits => Archive.section(file, number as u32 as usize),
+            Mutant::SectionAboveFour => ProvedCalls.section(file, number.min(SECTIONS - 1)),
+            Mutant::SectionNumberIn32Bits => ProvedCalls.section(file, number as u32 as usize),
             _ => part,
         }
     }
 
     fn rewrite(&self, file: &[u8], buffer: &mut [u8]) -> Rewritten {
         let before = buffer.to_vec();
-        let mut answer = Archive.rewrite(file, buffer);
+        let mut answer = ProvedCalls.rewrite(file, buffer);
         let (number, length) = (answer.number, answer.length);
         match self {
             Mutant::LastByteUnwritten if number == ACCEPTED => {

@@ -77,8 +77,8 @@ fn every_number_in_c_is_the_documents() {
 
 #[test]
 fn the_figures_that_c_does_not_have_are_the_documents() {
-    use cup_check::limits::{GRAINS, LISTING_BUDGET, LISTING_INPUT};
-    assert_eq!(GRAINS, 65_536);
+    use cup_check::limits::{GRAINS_PER_ML, LISTING_BUDGET, LISTING_INPUT};
+    assert_eq!(GRAINS_PER_ML, 65_536);
     assert_eq!((LISTING_INPUT, LISTING_BUDGET), (4_493, 64));
 }
 

@@ -8,11 +8,11 @@ mod common;
 
 use common::Report;
 use cup_bridge::campaign::soundness::{Campaign, STATES};
-use cup_bridge::campaign::Archive;
+use cup_bridge::campaign::ProvedCalls;
 
 #[test]
-fn the_proved_test_agrees_with_the_second_simulator() {
-    let campaign = Campaign::asked_for();
+fn the_proved_test_of_soundness_agrees_with_the_second_simulator() {
+    let campaign = Campaign::by_variables();
     let least = STATES;
     assert!(campaign.states >= least, "CUP_STATES is at least {least}");
     let report = Report {
@@ -21,6 +21,6 @@ fn the_proved_test_agrees_with_the_second_simulator() {
         seed: campaign.seed,
         mutant: Some(format!("{:?}", campaign.mutant)),
     };
-    let met = report.judge(|| campaign.run(&Archive));
+    let met = report.check(|| campaign.run(&ProvedCalls));
     assert_eq!(met.of("states"), campaign.states);
 }

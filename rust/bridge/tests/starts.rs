@@ -5,13 +5,13 @@
 mod common;
 
 use common::Report;
-use cup_bridge::campaign::{starts, tables, writes, Archive, Outcome};
+use cup_bridge::campaign::{starts, tables, writes, Outcome, ProvedCalls};
 use cup_bridge::machine::{load, write};
 use cup_check::met::Met;
 use cup_check::samples;
 
-/// Judges a campaign that has no mutants of the second simulator.
-fn judge(
+/// Checks a campaign that has no mutants of the second simulator.
+fn check(
     title: &'static str,
     counted: &'static str,
     seed: u64,
@@ -23,35 +23,39 @@ fn judge(
         seed,
         mutant: None,
     };
-    report.judge(run)
+    report.check(run)
 }
 
 #[test]
 fn what_is_loaded_agrees_with_the_second_simulator() {
-    let campaign = starts::Campaign::asked_for();
+    let campaign = starts::Campaign::by_variables();
     let least = starts::FILES;
     assert!(campaign.files >= least, "CUP_STARTS is at least {least}");
-    let met = judge("starts", "files loaded", campaign.seed, || {
-        campaign.run(&Archive)
+    let met = check("starts", "files loaded", campaign.seed, || {
+        campaign.run(&ProvedCalls)
     });
     assert_eq!(met.of("files loaded"), campaign.files);
 }
 
 #[test]
 fn what_is_written_agrees_with_the_second_simulator() {
-    let campaign = writes::Campaign::asked_for();
+    let campaign = writes::Campaign::by_variables();
     let least = writes::STATES;
     assert!(campaign.states >= least, "CUP_WRITES is at least {least}");
-    let met = judge("writes", "states", campaign.seed, || campaign.run(&Archive));
+    let met = check("writes", "states", campaign.seed, || {
+        campaign.run(&ProvedCalls)
+    });
     assert_eq!(met.of("states"), campaign.states);
 }
 
 #[test]
 fn the_tables_agree_with_document_01_followed_word_for_word() {
-    let campaign = tables::Campaign::asked_for();
+    let campaign = tables::Campaign::by_variables();
     let least = tables::STATES;
     assert!(campaign.states >= least, "CUP_TABLES is at least {least}");
-    let met = judge("tables", "states", campaign.seed, || campaign.run(&Archive));
+    let met = check("tables", "states", campaign.seed, || {
+        campaign.run(&ProvedCalls)
+    });
     assert_eq!(met.of("states"), campaign.states);
 }
 

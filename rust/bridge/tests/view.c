@@ -18,15 +18,15 @@ static size_t read_file(const char *name)
     return length;
 }
 
-int main(int count, char **words)
+int main(int argc, char **argv)
 {
-    if (count != 2) {
+    if (argc != 2) {
         fprintf(stderr, "usage: view FILE\n");
         return 2;
     }
-    size_t file_length = read_file(words[1]), entry, offset, length;
+    size_t file_length = read_file(argv[1]), entry, offset, length;
     if (file_length == 0) {
-        fprintf(stderr, "%s: nothing to read\n", words[1]);
+        fprintf(stderr, "%s: nothing to read\n", argv[1]);
         return 1;
     }
     size_t number = cup_read(file, file_length, &entry);

@@ -16,16 +16,16 @@ const MARKS: [u8; 251] = {
 };
 
 /// A buffer for a call.
-pub struct Marked {
+pub struct MarkedBuffer {
     bytes: Vec<u8>,
     length: usize,
 }
 
-impl Marked {
+impl MarkedBuffer {
     /// A buffer of this length, filled.
-    pub fn new(length: usize) -> Marked {
+    pub fn new(length: usize) -> MarkedBuffer {
         let bytes = marks(length + 2 * MARGIN);
-        Marked { bytes, length }
+        MarkedBuffer { bytes, length }
     }
 
     /// The buffer as a call is handed it.
@@ -39,9 +39,9 @@ impl Marked {
         buffer.get(..written)
     }
 
-    /// The first byte behind so many, or around the buffer, that has another value than before,
-    /// counted from the buffer's start.
-    pub fn changed_beside(&self, written: usize) -> Option<i64> {
+    /// The first byte outside what was written, behind it or around the buffer, that has another value
+    /// than before, counted from the buffer's start.
+    pub fn changed_outside(&self, written: usize) -> Option<i64> {
         let before = marks(self.bytes.len());
         let kept = [0..MARGIN, MARGIN + written..self.bytes.len()];
         if kept
@@ -69,19 +69,19 @@ mod tests {
     #[test]
     fn every_byte_behind_what_is_written_and_around_is_looked_at() {
         for place in 0..MARGIN + 40 + MARGIN {
-            let mut buffer = Marked::new(40);
-            assert_eq!(buffer.changed_beside(24), None);
+            let mut buffer = MarkedBuffer::new(40);
+            assert_eq!(buffer.changed_outside(24), None);
             buffer.bytes[place] ^= 1;
             let from_start = place as i64 - MARGIN as i64;
             let written = (0..24).contains(&from_start);
             let found = (!written).then_some(from_start);
-            assert_eq!(buffer.changed_beside(24), found);
+            assert_eq!(buffer.changed_outside(24), found);
         }
     }
 
     #[test]
     fn the_first_bytes_are_those_that_a_call_is_handed() {
-        let mut buffer = Marked::new(5);
+        let mut buffer = MarkedBuffer::new(5);
         buffer.handed().copy_from_slice(&[1, 2, 3, 4, 5]);
         assert_eq!(buffer.first(3), Some(&[1, 2, 3][..]));
         assert_eq!(buffer.first(6), None);

@@ -3,7 +3,7 @@
 use crate::engine::Engine;
 use crate::limits::M;
 use crate::met::Met;
-use crate::plain::{Event, Plain, Taken};
+use crate::plain::{Event, Plain, TakenInstant};
 use crate::plan::Plan;
 use crate::status::Status;
 
@@ -45,7 +45,7 @@ fn count_range(met: &mut Met, integrator: usize, plain: &Plain) {
 }
 
 /// Counts an instant of a plan, of whose integrators a lazy engine moves `moved`.
-pub fn count_instant(met: &mut Met, taken: &Taken, moved: usize, plan: &Plan) {
+pub fn count_instant(met: &mut Met, taken: &TakenInstant, moved: usize, plan: &Plan) {
     let (due, commanded) = (taken.due.len(), taken.commanded.len());
     met.count("instants");
     met.count_if(taken.tick == u64::from(plan.horizon), "at the horizon");
@@ -79,6 +79,6 @@ pub fn count_events(met: &mut Met, events: &[Event]) {
 /// Counts a list that took this many instants in all.
 pub fn count_list(met: &mut Met, instants: u64) {
     met.count("lists");
-    met.raise("instants in the longest list", instants);
+    met.keep_highest("instants in the longest list", instants);
     met.count_if(instants > 1_000, "lists of more than 1,000 instants");
 }

@@ -1,13 +1,13 @@
 //! One list of run calls against one plain machine.
 
-use super::buffer::Marked;
+use super::buffer::MarkedBuffer;
 use super::counts::{count_accepted, count_events, count_instant, count_lazy, count_list};
 use super::state::{moment_of, same_as_plain};
-use super::{holds, same, same_events, Beside, Called, Found};
+use super::{holds, same, same_events, Called, Found, Hook};
 use crate::calls::{Ran, Simulator};
 use crate::engine::Engine;
 use crate::file::encode;
-use crate::file::layout::section_bytes;
+use crate::file::encoding::section_bytes;
 use crate::file::read::place_in;
 use crate::generate::Call;
 use crate::limits::{ACCEPTED, REFUSED_BUDGET, REFUSED_INTEGRATOR_NUMBER, REFUSED_RUN_BUFFER};
@@ -25,16 +25,16 @@ const WILD: [usize; 6] = [INTEGRATORS, 1 << 8, 1 << 16, 1 << 32, 1 << 63, usize:
 /// Loads an accepted plan's file, views its sections, runs the list from the loaded state and writes
 /// the plan again.
 pub fn loaded_list(simulator: &dyn Simulator, plan: &Plan, list: &[Call], met: &mut Met) -> Found {
-    loaded_list_beside(simulator, plan, list, met, &mut ())
+    loaded_list_with_hook(simulator, plan, list, met, &mut ())
 }
 
 /// The same, with what else is compared after each call.
-pub fn loaded_list_beside(
+pub fn loaded_list_with_hook(
     simulator: &dyn Simulator,
     plan: &Plan,
     list: &[Call],
     met: &mut Met,
-    beside: &mut dyn Beside,
+    hook: &mut dyn Hook,
 ) -> Found {
     let file = encode(plan);
     let loaded = simulator.load(&file);
@@ -42,7 +42,7 @@ pub fn loaded_list_beside(
     same("updates at the start", loaded.state.run.clocks.updates, 0)?;
     check_sections(simulator, plan, &file)?;
     let start = Plain::start(plan);
-    let last = compare_list(simulator, start, loaded.state, list, met, beside)?;
+    let last = compare_list(simulator, start, loaded.state, list, met, hook)?;
     check_written(simulator, &last, &file)
 }
 
@@ -54,20 +54,20 @@ pub fn continued_list(
     list: &[Call],
     met: &mut Met,
 ) -> Found {
-    continued_list_beside(simulator, plan, state, list, met, &mut ())
+    continued_list_with_hook(simulator, plan, state, list, met, &mut ())
 }
 
 /// The same, with what else is compared after each call.
-pub fn continued_list_beside(
+pub fn continued_list_with_hook(
     simulator: &dyn Simulator,
     plan: &Plan,
     state: &RawState,
     list: &[Call],
     met: &mut Met,
-    beside: &mut dyn Beside,
+    hook: &mut dyn Hook,
 ) -> Found {
     let start = Plain::continued(plan, moment_of(state));
-    let last = compare_list(simulator, start, state.clone(), list, met, beside)?;
+    let last = compare_list(simulator, start, state.clone(), list, met, hook)?;
     check_written(simulator, &last, &encode(plan))
 }
 
@@ -78,7 +78,7 @@ fn compare_list(
     state: RawState,
     list: &[Call],
     met: &mut Met,
-    beside: &mut dyn Beside,
+    hook: &mut dyn Hook,
 ) -> Result<RawState, String> {
     let mut comparison = Comparison {
         simulator,
@@ -92,7 +92,7 @@ fn compare_list(
     comparison.check_state()?;
     for (number, call) in list.iter().enumerate() {
         let at = |difference| format!("call {number} ({call:?}): {difference}");
-        comparison.check_call(call, beside).map_err(at)?;
+        comparison.check_call(call, hook).map_err(at)?;
     }
     comparison.check_whole_list(start)?;
     Ok(comparison.state)
@@ -112,7 +112,7 @@ fn check_sections(simulator: &dyn Simulator, plan: &Plan, file: &[u8]) -> Found 
 
 /// The writer gives the plan's file back from whatever state the runs have reached.
 fn check_written(simulator: &dyn Simulator, state: &RawState, file: &[u8]) -> Found {
-    let mut buffer = Marked::new(file.len() + 5);
+    let mut buffer = MarkedBuffer::new(file.len() + 5);
     let written = simulator.write(state, buffer.handed());
     same(
         "write",
@@ -120,7 +120,7 @@ fn check_written(simulator: &dyn Simulator, state: &RawState, file: &[u8]) -> Fo
         (ACCEPTED, file.len()),
     )?;
     same("written plan", buffer.first(file.len()), Some(file))?;
-    same("byte changed", buffer.changed_beside(file.len()), None)?;
+    same("byte changed", buffer.changed_outside(file.len()), None)?;
     holds("write changed the state", written.state == *state)
 }
 
@@ -135,8 +135,8 @@ struct Comparison<'a> {
 }
 
 impl Comparison<'_> {
-    fn check_call(&mut self, call: &Call, beside: &mut dyn Beside) -> Found {
-        let mut buffer = Marked::new(call.buffer);
+    fn check_call(&mut self, call: &Call, hook: &mut dyn Hook) -> Found {
+        let mut buffer = MarkedBuffer::new(call.buffer);
         let ran = self
             .simulator
             .run(call.engine, &self.state, call.budget, buffer.handed());
@@ -156,7 +156,7 @@ impl Comparison<'_> {
             written: buffer.first(ran.written).unwrap_or_default(),
             instants: self.plain.instants - instants_before,
         };
-        beside.after(&called, self.met)
+        hook.after_call(&called, self.met)
     }
 
     /// In a list "a call is declined by 11 or 12 only".
@@ -173,19 +173,19 @@ impl Comparison<'_> {
         ACCEPTED
     }
 
-    fn check_declined(&self, number: usize, ran: &Ran, buffer: &Marked) -> Found {
+    fn check_declined(&self, number: usize, ran: &Ran, buffer: &MarkedBuffer) -> Found {
         same("number", ran.number, number)?;
         let figures = (ran.status, ran.integrator, ran.written);
         same("figures of a declined call", figures, (0, 0, 0))?;
         holds("a declined call changed the state", ran.state == self.state)?;
         same(
             "byte changed by a declined call",
-            buffer.changed_beside(0),
+            buffer.changed_outside(0),
             None,
         )
     }
 
-    fn check_accepted(&mut self, call: &Call, ran: &Ran, buffer: &Marked) -> Found {
+    fn check_accepted(&mut self, call: &Call, ran: &Ran, buffer: &MarkedBuffer) -> Found {
         same("number", ran.number, ACCEPTED)?;
         let events_before = self.plain.events.len();
         let moves = self.run_plain(call);
@@ -221,7 +221,7 @@ impl Comparison<'_> {
     }
 
     /// The bytes written are the plain machine's new events, and "later bytes keep their value".
-    fn check_events(&mut self, ran: &Ran, buffer: &Marked, events_before: usize) -> Found {
+    fn check_events(&mut self, ran: &Ran, buffer: &MarkedBuffer, events_before: usize) -> Found {
         let new_events = &self.plain.events[events_before..];
         count_events(self.met, new_events);
         let expected: Vec<u8> = new_events.iter().flat_map(Event::bytes).collect();
@@ -229,7 +229,7 @@ impl Comparison<'_> {
         same_events(buffer.first(ran.written), &expected)?;
         same(
             "later byte changed",
-            buffer.changed_beside(ran.written),
+            buffer.changed_outside(ran.written),
             None,
         )?;
         self.joined
@@ -244,7 +244,7 @@ impl Comparison<'_> {
         &self,
         engine: Engine,
         ran: &Ran,
-        buffer: &Marked,
+        buffer: &MarkedBuffer,
         moves: &[BTreeSet<usize>],
     ) -> Found {
         let mut state = self.state.clone();

@@ -3,15 +3,15 @@
 //! Every function answers the first difference it finds as a text, so that a test can also ask
 //! whether a mutant is found.
 
-mod beside;
 mod buffer;
 pub mod counts;
+mod hook;
 mod list;
 mod state;
 
-pub use beside::{Beside, Called};
-pub use buffer::Marked;
-pub use list::{continued_list, continued_list_beside, loaded_list, loaded_list_beside};
+pub use buffer::MarkedBuffer;
+pub use hook::{Called, Hook};
+pub use list::{continued_list, continued_list_with_hook, loaded_list, loaded_list_with_hook};
 pub use state::{moment_of, same_as_plain};
 
 use crate::limits::EVENT_BYTES;

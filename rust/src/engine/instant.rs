@@ -100,7 +100,8 @@ fn touch_nodes(state: &State, instant: &mut Instant, rules: &Rules) {
     for (number, node) in state.plan.nodes.iter().enumerate() {
         let by_a = instant.touched[node.a];
         let by_b = (rules.follows_b)(node) && instant.touched[node.b];
-        instant.touched[state.plan.node_source(number)] = rules.node_hands_on && (by_a || by_b);
+        instant.touched[state.plan.node_source(number)] =
+            rules.nodes_are_followed && (by_a || by_b);
     }
 }
 
@@ -113,10 +114,10 @@ fn move_integrators(state: &mut State, engine: Engine, instant: &Instant, rules:
         if (rules.moves)(engine, instant.due[number], is_reached) {
             move_integrator(state, number, instant, rules);
             if rules.slopes_after_outputs {
-                state.settle(number, &values, rules);
+                state.set_slope_and_due(number, &values, rules);
             } else {
                 let early = values_when_set_one_by_one(state, number, instant, rules);
-                state.settle(number, &early, rules);
+                state.set_slope_and_due(number, &early, rules);
             }
             moved += 1;
         }

@@ -2,7 +2,7 @@
 
 use super::rules::{divided_rounding_up, node_value, ticks_to_level, Rules};
 use super::Engine;
-use crate::limits::{GRAINS, GRAIN_BITS, M};
+use crate::limits::{GRAINS_PER_ML, GRAIN_BITS, M};
 use crate::plan::{Node, DIFFERENCE, PRODUCT, THRESHOLD};
 
 /// One exchanged rule, or none.
@@ -76,7 +76,7 @@ impl Mutant {
         match self {
             Mutant::None => right,
             Mutant::TruncatedSlope => Rules {
-                slope: |sum| sum / i128::from(GRAINS),
+                slope: |sum| sum / i128::from(GRAINS_PER_ML),
                 ..right
             },
             Mutant::TruncatedProduct => Rules {
@@ -120,7 +120,7 @@ impl Mutant {
                 ..right
             },
             Mutant::NodesNotFollowed => Rules {
-                node_hands_on: false,
+                nodes_are_followed: false,
                 ..right
             },
             Mutant::RepeatedValueIgnored => Rules {
@@ -141,7 +141,7 @@ impl Mutant {
 
 fn truncated_product(node: &Node, a: i128, b: i128) -> i128 {
     match node.kind {
-        PRODUCT => (a * b / i128::from(GRAINS)).clamp(i128::from(-M), i128::from(M)),
+        PRODUCT => (a * b / i128::from(GRAINS_PER_ML)).clamp(i128::from(-M), i128::from(M)),
         _ => node_value(node, a, b),
     }
 }

@@ -18,8 +18,8 @@ pub struct Rules {
     pub node: fn(node: &Node, a: i128, b: i128) -> i128,
     /// Whether a node depends on its B.
     pub follows_b: fn(node: &Node) -> bool,
-    /// Whether a node hands on that one of its sources was set.
-    pub node_hands_on: bool,
+    /// Whether dependence is followed through nodes.
+    pub nodes_are_followed: bool,
     /// Whether a command reaches, given the input's value before and after it.
     pub command_reaches: fn(before: i64, after: i64) -> bool,
     /// Whether an integrator is moved, given that it is due or reached.
@@ -41,7 +41,7 @@ impl Rules {
         ticks_to_level,
         node: node_value,
         follows_b: |node| node.kind != LIMIT,
-        node_hands_on: true,
+        nodes_are_followed: true,
         command_reaches: |_, _| true,
         moves: |engine, due, reached| engine == Engine::Eager || due || reached,
         due_output: |position, _, _| position,

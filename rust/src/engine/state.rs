@@ -67,7 +67,7 @@ impl State {
         };
         let values = state.source_values(&state.outputs(), &Rules::DOCUMENT);
         for number in 0..state.integrators.len() {
-            state.settle(number, &values, &Rules::DOCUMENT);
+            state.set_slope_and_due(number, &values, &Rules::DOCUMENT);
         }
         state
     }
@@ -101,7 +101,9 @@ impl State {
     pub fn slope(&self, number: usize, values: &[i128], rules: &Rules) -> i128 {
         let links = &self.plan.links;
         let from = links.partition_point(|link| link.target < number);
-        let own = links[from..].iter().take_while(|l| l.target == number);
+        let own = links[from..]
+            .iter()
+            .take_while(|link| link.target == number);
         (rules.slope)(
             own.map(|link| i128::from(link.coefficient) * values[link.source])
                 .sum(),
@@ -119,7 +121,7 @@ impl State {
     }
 
     /// Gives an integrator that was moved "the new slope and due tick".
-    pub fn settle(&mut self, number: usize, values: &[i128], rules: &Rules) {
+    pub fn set_slope_and_due(&mut self, number: usize, values: &[i128], rules: &Rules) {
         let slope = self.slope(number, values, rules);
         let due = self.due_tick(number, slope, rules);
         let integrator = &mut self.integrators[number];

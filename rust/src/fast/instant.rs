@@ -1,4 +1,4 @@
-//! One instant, and what is ahead of it.
+//! The next tick, the status, and one instant.
 
 use super::tables::NODES_FROM;
 use super::{Fast, IntegratorState};
@@ -13,13 +13,13 @@ const FEW: usize = 8;
 impl Fast {
     /// The next tick, and the integrators that are due at it.
     #[inline]
-    pub(super) fn ahead(&self) -> (u32, u32) {
-        let command = match self.next < self.tables.commanded {
+    pub(super) fn next_tick_and_due(&self) -> (u32, u32) {
+        let command = match self.next < self.tables.command_count {
             true => self.tables.commands[self.next].tick,
             false => NEVER,
         };
         if self.tables.n <= FEW {
-            return ahead_of_few(&self.dues[..self.tables.n], command);
+            return next_tick_and_due_of_few(&self.dues[..self.tables.n], command);
         }
         let rows = self.dues[..self.tables.n.next_multiple_of(LANES)].chunks_exact(LANES);
         let mut least = [NEVER; LANES];
@@ -40,8 +40,8 @@ impl Fast {
         (tick, mask)
     }
 
-    /// The status, from what is ahead. A finished plan may have never as its tick, which is above
-    /// every horizon; then all integrators count as due.
+    /// The status, from the next tick and who is due at it. A finished plan may have never as its
+    /// tick, which is above every horizon; then all integrators count as due.
     #[inline]
     pub(super) fn status(&self, tick: u32, due: u32) -> Status {
         if tick > self.tables.horizon {
@@ -76,10 +76,10 @@ impl Fast {
             event[2 * WORD_BYTES..].copy_from_slice(&(self.values[source] as i32).to_le_bytes());
             end += EVENT_BYTES;
         }
-        self.work_nodes((reached >> NODES_FROM) as u32);
+        self.work_out_nodes((reached >> NODES_FROM) as u32);
         let moved = due | reached as u32;
         for i in members(moved) {
-            self.settle(i, tick);
+            self.move_integrator(i, tick);
         }
         self.clock = tick;
         self.instants += 1;
@@ -91,8 +91,8 @@ impl Fast {
     #[inline]
     fn obey_commands(&mut self, tick: u32) -> u64 {
         let mut set = 0;
-        let later = self.next.min(self.tables.commanded);
-        for command in &self.tables.commands[later..self.tables.commanded] {
+        let later = self.next.min(self.tables.command_count);
+        for command in &self.tables.commands[later..self.tables.command_count] {
             if command.tick != tick {
                 break;
             }
@@ -105,7 +105,7 @@ impl Fast {
 
     /// Works out the nodes of a mask, in node order.
     #[inline]
-    fn work_nodes(&mut self, nodes: u32) {
+    fn work_out_nodes(&mut self, nodes: u32) {
         for j in members(nodes) {
             let node = &self.tables.nodes[j];
             self.values[usize::from(node.source)] = node.value(&self.values);
@@ -114,7 +114,7 @@ impl Fast {
 
     /// Brings an integrator to a tick, with the slope and due tick that it has from there.
     #[inline]
-    fn settle(&mut self, i: usize, tick: u32) {
+    fn move_integrator(&mut self, i: usize, tick: u32) {
         let entry = &self.tables.integrators[i];
         let integrator = &mut self.integrators[i];
         integrator.x = integrator.position_at(tick);
@@ -150,7 +150,7 @@ impl IntegratorState {
 
 /// The least of some due ticks and a command's, and which of the due ticks are that.
 #[inline(never)]
-fn ahead_of_few(dues: &[u32], command: u32) -> (u32, u32) {
+fn next_tick_and_due_of_few(dues: &[u32], command: u32) -> (u32, u32) {
     let (mut tick, mut mask) = (command, 0);
     for (i, &due) in dues.iter().enumerate() {
         if due < tick {

@@ -86,7 +86,7 @@ impl Fast {
         let mut written = 0;
         let mut left = budget;
         loop {
-            let (tick, due) = self.ahead();
+            let (tick, due) = self.next_tick_and_due();
             let status = self.status(tick, due);
             if left == 0 || status != Status::Paused {
                 return Outcome { status, written };
@@ -97,7 +97,7 @@ impl Fast {
     }
 
     /// The running part of the state.
-    pub fn figures(&self) -> RawRunning {
+    pub fn running(&self) -> RawRunning {
         let (n, m) = (self.tables.n, self.tables.m);
         let mut run = RawRunning {
             x: self.integrators.map(|integrator| integrator.x),
@@ -132,13 +132,13 @@ pub fn run_lazy(mut state: RawState, budget: u64, buffer: &mut [u8]) -> Ran {
     if budget > LARGEST_BUDGET {
         return declined(REFUSED_BUDGET, state);
     }
-    let room = budget as usize * state.plan.counts.events_per_instant() * EVENT_BYTES;
-    if buffer.len() < room {
+    let needed = budget as usize * state.plan.counts.events_per_instant() * EVENT_BYTES;
+    if buffer.len() < needed {
         return declined(REFUSED_RUN_BUFFER, state);
     }
     let mut fast = Fast::prepared(&state);
     let outcome = fast.run(budget, buffer);
-    state.run = fast.figures();
+    state.run = fast.running();
     Ran {
         number: ACCEPTED,
         status: outcome.status.number(),

@@ -70,7 +70,7 @@ pub struct Tables {
     /// The last tick of an instant.
     pub horizon: u32,
     /// How many commands there are.
-    pub commanded: usize,
+    pub command_count: usize,
     /// By integrator.
     pub integrators: [Integrator; INTEGRATORS],
     /// By target.
@@ -91,7 +91,7 @@ impl Tables {
             m: plan.counts.m,
             k: plan.counts.k,
             horizon: plan.horizon,
-            commanded: plan.counts.commands,
+            command_count: plan.counts.commands,
             integrators: [Integrator::default(); INTEGRATORS],
             links: [[Link::default(); TERMS]; ROWS],
             nodes: [Node::default(); NODES_FROM],
@@ -101,11 +101,11 @@ impl Tables {
         tables.fill_links(plan);
         tables.fill_nodes(plan);
         let commands = &mut tables.commands[..plan.counts.commands];
-        for (e, command) in commands.iter_mut().enumerate() {
+        for (entry, command) in commands.iter_mut().enumerate() {
             *command = Command {
-                tick: plan.commands.ticks[e],
-                source: (plan.counts.n + plan.commands.inputs[e]) as u8,
-                value: plan.commands.values[e],
+                tick: plan.commands.ticks[entry],
+                source: (plan.counts.n + plan.commands.inputs[entry]) as u8,
+                value: plan.commands.values[entry],
             };
         }
         tables
@@ -113,20 +113,20 @@ impl Tables {
 
     /// The links, where each integrator's lie, and what they reach.
     fn fill_links(&mut self, plan: &RawPlan) {
-        let (mut row, mut e) = (0, 0);
+        let (mut row, mut entry) = (0, 0);
         for (i, integrator) in self.integrators[..plan.counts.n].iter_mut().enumerate() {
             integrator.quantum = plan.integrators.quanta[i];
             integrator.from = row;
-            let own = plan.links.targets[e..plan.counts.links].iter();
-            let last = e + own.take_while(|&&target| target == i).count();
-            while e < last {
-                for link in self.links[row].iter_mut().take(last - e) {
+            let own = plan.links.targets[entry..plan.counts.links].iter();
+            let last = entry + own.take_while(|&&target| target == i).count();
+            while entry < last {
+                for link in self.links[row].iter_mut().take(last - entry) {
                     *link = Link {
-                        coefficient: plan.links.coefficients[e] as i32,
-                        source: plan.links.sources[e] as u8,
+                        coefficient: plan.links.coefficients[entry] as i32,
+                        source: plan.links.sources[entry] as u8,
                     };
-                    self.reach[plan.links.sources[e]] |= 1 << i;
-                    e += 1;
+                    self.reach[plan.links.sources[entry]] |= 1 << i;
+                    entry += 1;
                 }
                 row += 1;
             }

@@ -1,7 +1,7 @@
 //! Mutants of the reader: each has one rule exchanged, to show that a comparison notices.
 
 use super::cause::Cause;
-use super::reading::Reading;
+use super::reader_rules::ReaderRules;
 use crate::limits::{Section, REFUSED_LINK, REFUSED_NODE};
 use crate::plan::{Plan, LIMIT, THRESHOLD};
 use std::cmp::Ordering;
@@ -71,67 +71,69 @@ impl Mutant {
     }
 
     /// Document 01 with this one rule exchanged.
-    pub fn reading(self) -> Reading {
-        let right = Reading::DOCUMENT;
+    pub fn rules(self) -> ReaderRules {
+        let right = ReaderRules::DOCUMENT;
         match self {
             Mutant::None => right,
-            Mutant::SumIn32Bits => Reading {
+            Mutant::SumIn32Bits => ReaderRules {
                 end: |offset, length| u64::from((offset + length) as u32),
                 ..right
             },
-            Mutant::EndIgnored => Reading {
+            Mutant::EndIgnored => ReaderRules {
                 ends_file: |end, file_length| end <= file_length,
                 ..right
             },
-            Mutant::OneEntryMore => Reading {
+            Mutant::OneEntryMore => ReaderRules {
                 most: |section: Section| section.most() + 1,
                 ..right
             },
-            Mutant::HorizonBeforeCounts => Reading {
+            Mutant::HorizonBeforeCounts => ReaderRules {
                 counts_first: false,
                 ..right
             },
-            Mutant::NodesAfterLinks => Reading {
-                order: nodes_after_links(right.order),
+            Mutant::NodesAfterLinks => ReaderRules {
+                numbers: nodes_after_links(right.numbers),
                 ..right
             },
-            Mutant::HighestEntry => Reading {
+            Mutant::HighestEntry => ReaderRules {
                 answered: |faults| faults.next_back(),
                 ..right
             },
-            Mutant::EarlierEntry => Reading {
+            Mutant::EarlierEntry => ReaderRules {
                 entry: earlier_entry,
                 ..right
             },
-            Mutant::OrderAfterLimits => Reading {
+            Mutant::OrderAfterLimits => ReaderRules {
                 order_with_limits: false,
                 ..right
             },
-            Mutant::RepeatAllowed => Reading {
+            Mutant::RepeatAllowed => ReaderRules {
                 may_follow: |before| before != Ordering::Greater,
                 ..right
             },
-            Mutant::BoundExcluded => Reading {
+            Mutant::BoundExcluded => ReaderRules {
                 beyond: |value, bound| value <= -bound || bound <= value,
                 ..right
             },
-            Mutant::NodeNamesItself => Reading {
-                node_names: |source| source + 1,
+            Mutant::NodeNamesItself => ReaderRules {
+                node_may_name: |source| source + 1,
                 ..right
             },
-            Mutant::UnusedBNames => Reading {
-                node_b: |node, places| (node.b >= places).then_some(Cause::BOutOfPlace),
+            Mutant::UnusedBNames => ReaderRules {
+                node_b: |node, sources_below| {
+                    (node.b >= sources_below).then_some(Cause::BOutOfPlace)
+                },
                 ..right
             },
-            Mutant::KindThreeOrdered => Reading {
+            Mutant::KindThreeOrdered => ReaderRules {
                 limits_ordered: |kind| kind == LIMIT || kind == THRESHOLD,
                 ..right
             },
-            Mutant::LinksNameNoNode => Reading {
-                link_names: |plan: &Plan| plan.node_source(0),
+            Mutant::LinksNameNoNode => ReaderRules {
+                link_may_name: |plan: &Plan| plan.node_source(0),
                 ..right
             },
-            Mutant::TickBelowHorizon => Reading {
+            Mutant::TickBelowHorizon => ReaderRules {
                 last_tick: |horizon| horizon - 1,
                 ..right
             },
@@ -140,8 +142,8 @@ impl Mutant {
 }
 
 /// The same numbers with those of nodes and links exchanged.
-fn nodes_after_links(order: [usize; 6]) -> [usize; 6] {
-    order.map(|number| match number {
+fn nodes_after_links(numbers: [usize; 6]) -> [usize; 6] {
+    numbers.map(|number| match number {
         REFUSED_NODE => REFUSED_LINK,
         REFUSED_LINK => REFUSED_NODE,
         _ => number,

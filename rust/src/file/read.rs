@@ -1,7 +1,7 @@
-//! Reading a plan file and viewing its sections.
+//! ReaderRules a plan file and viewing its sections.
 
 use super::cause::{Cause, Refusal};
-use super::reading::Reading;
+use super::reader_rules::ReaderRules;
 use super::rules;
 use crate::limits::{Section, HEADER_BYTES, SECTIONS, WORD_BYTES};
 use crate::plan::{Command, Integrator, Link, Node, Plan};
@@ -15,11 +15,11 @@ type Pairs = [(u64, u64); SECTIONS];
 
 /// The plan of a file, or the first of the refusals 1 to 9 that it meets.
 pub fn read(file: &[u8]) -> Result<Plan, Refusal> {
-    read_by(&Reading::DOCUMENT, file)
+    read_by(&ReaderRules::DOCUMENT, file)
 }
 
 /// The same by a table of rules.
-pub fn read_by(rules: &Reading, file: &[u8]) -> Result<Plan, Refusal> {
+pub fn read_by(rules: &ReaderRules, file: &[u8]) -> Result<Plan, Refusal> {
     let pairs = pairs(file)?;
     check_offsets(rules, &pairs, file.len() as u64)?;
     if !rules.counts_first {
@@ -34,11 +34,11 @@ pub fn read_by(rules: &Reading, file: &[u8]) -> Result<Plan, Refusal> {
 /// The section view: a part of the caller's own file, "or an empty part if the file would be
 /// refused or the number is above 4", which is taken from the file's start.
 pub fn section(file: &[u8], number: usize) -> &[u8] {
-    section_by(&Reading::DOCUMENT, file, number)
+    section_by(&ReaderRules::DOCUMENT, file, number)
 }
 
 /// The same by a table of rules.
-pub fn section_by<'f>(rules: &Reading, file: &'f [u8], number: usize) -> &'f [u8] {
+pub fn section_by<'f>(rules: &ReaderRules, file: &'f [u8], number: usize) -> &'f [u8] {
     match read_by(rules, file).and_then(|_| pairs(file)) {
         Ok(pairs) if number < pairs.len() => parts(file, &pairs)[number],
         _ => &file[..0],
@@ -48,7 +48,7 @@ pub fn section_by<'f>(rules: &Reading, file: &'f [u8], number: usize) -> &'f [u8
 /// The sections of a file that meets neither refusal 1 nor 2.
 pub fn split(file: &[u8]) -> Result<Parts<'_>, Refusal> {
     let pairs = pairs(file)?;
-    check_offsets(&Reading::DOCUMENT, &pairs, file.len() as u64)?;
+    check_offsets(&ReaderRules::DOCUMENT, &pairs, file.len() as u64)?;
     Ok(parts(file, &pairs))
 }
 
@@ -84,7 +84,7 @@ fn pairs(file: &[u8]) -> Result<Pairs, Refusal> {
 }
 
 /// Refusal 2.
-fn check_offsets(rules: &Reading, pairs: &Pairs, file_length: u64) -> Result<(), Refusal> {
+fn check_offsets(rules: &ReaderRules, pairs: &Pairs, file_length: u64) -> Result<(), Refusal> {
     let mut expected = HEADER_BYTES as u64;
     for (number, &(offset, length)) in pairs.iter().enumerate() {
         if offset != expected {
@@ -104,7 +104,7 @@ fn check_offsets(rules: &Reading, pairs: &Pairs, file_length: u64) -> Result<(),
 }
 
 /// Refusal 3, for all sections before the horizon is looked at.
-fn check_counts(rules: &Reading, pairs: &Pairs) -> Result<(), Refusal> {
+fn check_counts(rules: &ReaderRules, pairs: &Pairs) -> Result<(), Refusal> {
     for (section, &(_, length)) in Section::ALL.into_iter().zip(pairs) {
         let size = section.entry_bytes() as u64;
         let count = length / size;

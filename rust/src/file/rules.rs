@@ -1,7 +1,7 @@
 //! The rules 4 to 9 for a plan whose counts are within their limits.
 
 use super::cause::{Cause, Refusal};
-use super::reading::Reading;
+use super::reader_rules::ReaderRules;
 use crate::limits::{LARGEST_COEFFICIENT, LARGEST_HORIZON, M};
 use crate::limits::{
     REFUSED_HORIZON, REFUSED_INPUT, REFUSED_INTEGRATOR, REFUSED_LINK, REFUSED_NODE,
@@ -12,19 +12,19 @@ use std::cmp::Ordering;
 
 /// The first rule broken, tried in the order of the numbers 4 to 9.
 pub fn check(plan: &Plan) -> Result<(), Refusal> {
-    check_by(&Reading::DOCUMENT, plan)
+    check_by(&ReaderRules::DOCUMENT, plan)
 }
 
 /// The same by a table of rules.
-pub fn check_by(rules: &Reading, plan: &Plan) -> Result<(), Refusal> {
-    let mut numbers = rules.order.into_iter();
+pub fn check_by(rules: &ReaderRules, plan: &Plan) -> Result<(), Refusal> {
+    let mut numbers = rules.numbers.into_iter();
     numbers.try_for_each(|number| check_number(rules, plan, number))
 }
 
-fn check_number(rules: &Reading, plan: &Plan, number: usize) -> Result<(), Refusal> {
+fn check_number(rules: &ReaderRules, plan: &Plan, number: usize) -> Result<(), Refusal> {
     match number {
         REFUSED_HORIZON => {
-            horizon(plan.horizon).or_else(|refusal| match asked(rules, refusal.cause) {
+            horizon(plan.horizon).or_else(|refusal| match is_tried(rules, refusal.cause) {
                 true => Err(refusal),
                 false => Ok(()),
             })
@@ -41,32 +41,32 @@ fn check_number(rules: &Reading, plan: &Plan, number: usize) -> Result<(), Refus
     }
 }
 
-fn check_links(rules: &Reading, plan: &Plan) -> Result<(), Refusal> {
+fn check_links(rules: &ReaderRules, plan: &Plan) -> Result<(), Refusal> {
     let limits = |entry: &Link| link(rules, entry, plan);
     let key = |link: &Link| (link.target, link.source);
     let causes = [Cause::LinkRepeats, Cause::LinkDescends];
     check_ascending(rules, &plan.links, limits, key, causes)
 }
 
-fn check_commands(rules: &Reading, plan: &Plan) -> Result<(), Refusal> {
+fn check_commands(rules: &ReaderRules, plan: &Plan) -> Result<(), Refusal> {
     let limits = |entry: &Command| command(rules, entry, plan);
     let key = |command: &Command| (command.tick, command.input);
     let causes = [Cause::CommandRepeats, Cause::CommandDescends];
     check_ascending(rules, &plan.commands, limits, key, causes)
 }
 
-fn asked(rules: &Reading, cause: Cause) -> bool {
-    rules.unasked != Some(cause)
+fn is_tried(rules: &ReaderRules, cause: Cause) -> bool {
+    rules.skipped != Some(cause)
 }
 
 /// Tries the entries upwards, so that the entry answered is the lowest.
 fn check_entries<T>(
-    rules: &Reading,
+    rules: &ReaderRules,
     entries: &[T],
     fault: impl Fn(usize, &T) -> Option<Cause>,
 ) -> Result<(), Refusal> {
     let mut faults = entries.iter().enumerate().filter_map(|(number, item)| {
-        let cause = fault(number, item).filter(|cause| asked(rules, *cause))?;
+        let cause = fault(number, item).filter(|cause| is_tried(rules, *cause))?;
         let entry = (rules.entry)(cause, number);
         Some(Refusal { cause, entry })
     });
@@ -75,7 +75,7 @@ fn check_entries<T>(
 
 /// Tries the limits of an entry and its order before the next entry is looked at.
 fn check_ascending<T, K: Ord>(
-    rules: &Reading,
+    rules: &ReaderRules,
     entries: &[T],
     limits: impl Fn(&T) -> Option<Cause>,
     key: impl Fn(&T) -> K,
@@ -100,7 +100,7 @@ pub fn horizon(horizon: u32) -> Result<(), Refusal> {
     }
 }
 
-fn integrator(rules: &Reading, entry: &Integrator) -> Option<Cause> {
+fn integrator(rules: &ReaderRules, entry: &Integrator) -> Option<Cause> {
     if (rules.beyond)(entry.start, M) {
         Some(Cause::StartBeyond)
     } else if entry.quantum < 1 {
@@ -112,24 +112,24 @@ fn integrator(rules: &Reading, entry: &Integrator) -> Option<Cause> {
     }
 }
 
-fn input(rules: &Reading, first: i64) -> Option<Cause> {
+fn input(rules: &ReaderRules, first: i64) -> Option<Cause> {
     (rules.beyond)(first, M).then_some(Cause::FirstValueBeyond)
 }
 
 /// A node may name the sources below its own: integrators, inputs and lower-numbered nodes.
-fn node(rules: &Reading, entry: &Node, own_source: usize) -> Option<Cause> {
-    let places = (rules.node_names)(own_source);
+fn node(rules: &ReaderRules, entry: &Node, own_source: usize) -> Option<Cause> {
+    let sources_below = (rules.node_may_name)(own_source);
     if entry.kind > THRESHOLD {
         return Some(Cause::KindAbove);
     }
-    if entry.a >= places {
+    if entry.a >= sources_below {
         return Some(Cause::AOutOfPlace);
     }
-    (rules.node_b)(entry, places).or_else(|| node_limits(rules, entry))
+    (rules.node_b)(entry, sources_below).or_else(|| node_limits(rules, entry))
 }
 
 /// lo and hi are 0 for kinds 0 and 1 and within ±M for 2 and 3; only kind 2 asks lo ≤ hi.
-fn node_limits(rules: &Reading, entry: &Node) -> Option<Cause> {
+fn node_limits(rules: &ReaderRules, entry: &Node) -> Option<Cause> {
     match entry.kind {
         DIFFERENCE | PRODUCT if entry.low != 0 => Some(Cause::UnusedLowNotZero),
         DIFFERENCE | PRODUCT if entry.high != 0 => Some(Cause::UnusedHighNotZero),
@@ -141,10 +141,10 @@ fn node_limits(rules: &Reading, entry: &Node) -> Option<Cause> {
     }
 }
 
-fn link(rules: &Reading, entry: &Link, plan: &Plan) -> Option<Cause> {
+fn link(rules: &ReaderRules, entry: &Link, plan: &Plan) -> Option<Cause> {
     if entry.target >= plan.integrators.len() {
         Some(Cause::TargetOutOfPlace)
-    } else if entry.source >= (rules.link_names)(plan) {
+    } else if entry.source >= (rules.link_may_name)(plan) {
         Some(Cause::SourceOutOfPlace)
     } else if entry.coefficient == 0 {
         Some(Cause::CoefficientZero)
@@ -155,7 +155,7 @@ fn link(rules: &Reading, entry: &Link, plan: &Plan) -> Option<Cause> {
     }
 }
 
-fn command(rules: &Reading, entry: &Command, plan: &Plan) -> Option<Cause> {
+fn command(rules: &ReaderRules, entry: &Command, plan: &Plan) -> Option<Cause> {
     if entry.tick == 0 {
         Some(Cause::TickZero)
     } else if entry.tick > (rules.last_tick)(plan.horizon) {
@@ -171,7 +171,7 @@ fn command(rules: &Reading, entry: &Command, plan: &Plan) -> Option<Cause> {
 
 /// "an order fault is the later entry's": an entry is compared with the one before it.
 fn out_of_order<T, K: Ord>(
-    rules: &Reading,
+    rules: &ReaderRules,
     entries: &[T],
     number: usize,
     key: impl Fn(&T) -> K,

@@ -1,11 +1,11 @@
 //! States that break one clause of soundness and keep all others.
 
-use super::plant::in_plan;
+use super::plant::plant_in_plan;
 use super::rng::Rng;
-use super::states::{due_tick, first_later_command, moved_to_clock, settle};
+use super::states::{due_tick, first_later_command, moved_to_clock, set_slopes_and_dues};
 use crate::file::{Cause, Refusal};
 use crate::limits::{COMMANDS, INPUTS, INTEGRATORS, LINKS, NODES};
-use crate::limits::{GRAINS, M, NEVER, REFUSED_SIZES};
+use crate::limits::{GRAINS_PER_ML, M, NEVER, REFUSED_SIZES};
 use crate::plan::Plan;
 use crate::raw::{RawPlan, RawState};
 use crate::sound::Clause;
@@ -77,10 +77,10 @@ impl Breakage {
             Breakage::Counts => Some(break_count(rng, state)),
             Breakage::Plan => break_plan(rng, state, plan),
             Breakage::UnusedInPlan => {
-                spoil_plan(rng, &mut state.plan).then_some((state, Clause::UnusedInPlan))
+                set_unused_in_plan(rng, &mut state.plan).then_some((state, Clause::UnusedInPlan))
             }
             Breakage::UnusedInRun => {
-                spoil_run(rng, &mut state).then_some((state, Clause::UnusedInRun))
+                set_unused_in_run(rng, &mut state).then_some((state, Clause::UnusedInRun))
             }
             Breakage::ClockAboveHorizon => pass_horizon(state, &plan),
             Breakage::MovedAfterClock => Some(move_after_clock(state, cup)),
@@ -144,16 +144,16 @@ fn break_count(rng: &mut Rng, mut state: RawState) -> Broken {
 fn break_plan(rng: &mut Rng, mut state: RawState, mut plan: Plan) -> Option<Broken> {
     let of_entries: Vec<Cause> = Cause::ALL
         .into_iter()
-        .filter(|c| c.number() > REFUSED_SIZES)
+        .filter(|cause| cause.number() > REFUSED_SIZES)
         .collect();
     let cause = rng.pick(&of_entries);
-    let entry = in_plan(rng, &mut plan, cause)?;
+    let entry = plant_in_plan(rng, &mut plan, cause)?;
     state.plan = RawPlan::from(&plan);
     Some((state, Clause::Plan(Refusal { cause, entry })))
 }
 
 /// Sets an unused entry to 1; false if there is none.
-fn spoil<T: From<u8>>(rng: &mut Rng, entries: &mut [T], used: usize) -> bool {
+fn set_unused<T: From<u8>>(rng: &mut Rng, entries: &mut [T], used: usize) -> bool {
     let unused = &mut entries[used..];
     if unused.is_empty() {
         return false;
@@ -162,34 +162,34 @@ fn spoil<T: From<u8>>(rng: &mut Rng, entries: &mut [T], used: usize) -> bool {
     true
 }
 
-fn spoil_plan(rng: &mut Rng, plan: &mut RawPlan) -> bool {
+fn set_unused_in_plan(rng: &mut Rng, plan: &mut RawPlan) -> bool {
     match rng.below(14) {
-        0 => spoil(rng, &mut plan.integrators.starts, plan.counts.n),
-        1 => spoil(rng, &mut plan.integrators.quanta, plan.counts.n),
-        2 => spoil(rng, &mut plan.inputs.firsts, plan.counts.m),
-        3 => spoil(rng, &mut plan.nodes.kinds, plan.counts.k),
-        4 => spoil(rng, &mut plan.nodes.a, plan.counts.k),
-        5 => spoil(rng, &mut plan.nodes.b, plan.counts.k),
-        6 => spoil(rng, &mut plan.nodes.lows, plan.counts.k),
-        7 => spoil(rng, &mut plan.nodes.highs, plan.counts.k),
-        8 => spoil(rng, &mut plan.links.targets, plan.counts.links),
-        9 => spoil(rng, &mut plan.links.sources, plan.counts.links),
-        10 => spoil(rng, &mut plan.links.coefficients, plan.counts.links),
-        11 => spoil(rng, &mut plan.commands.ticks, plan.counts.commands),
-        12 => spoil(rng, &mut plan.commands.inputs, plan.counts.commands),
-        _ => spoil(rng, &mut plan.commands.values, plan.counts.commands),
+        0 => set_unused(rng, &mut plan.integrators.starts, plan.counts.n),
+        1 => set_unused(rng, &mut plan.integrators.quanta, plan.counts.n),
+        2 => set_unused(rng, &mut plan.inputs.firsts, plan.counts.m),
+        3 => set_unused(rng, &mut plan.nodes.kinds, plan.counts.k),
+        4 => set_unused(rng, &mut plan.nodes.a, plan.counts.k),
+        5 => set_unused(rng, &mut plan.nodes.b, plan.counts.k),
+        6 => set_unused(rng, &mut plan.nodes.lows, plan.counts.k),
+        7 => set_unused(rng, &mut plan.nodes.highs, plan.counts.k),
+        8 => set_unused(rng, &mut plan.links.targets, plan.counts.links),
+        9 => set_unused(rng, &mut plan.links.sources, plan.counts.links),
+        10 => set_unused(rng, &mut plan.links.coefficients, plan.counts.links),
+        11 => set_unused(rng, &mut plan.commands.ticks, plan.counts.commands),
+        12 => set_unused(rng, &mut plan.commands.inputs, plan.counts.commands),
+        _ => set_unused(rng, &mut plan.commands.values, plan.counts.commands),
     }
 }
 
-fn spoil_run(rng: &mut Rng, state: &mut RawState) -> bool {
+fn set_unused_in_run(rng: &mut Rng, state: &mut RawState) -> bool {
     let (run, n) = (&mut state.run, state.plan.counts.n);
     match rng.below(6) {
-        0 => spoil(rng, &mut run.x, n),
-        1 => spoil(rng, &mut run.q, n),
-        2 => spoil(rng, &mut run.s, n),
-        3 => spoil(rng, &mut run.l, n),
-        4 => spoil(rng, &mut run.d, n),
-        _ => spoil(rng, &mut run.inputs, state.plan.counts.m),
+        0 => set_unused(rng, &mut run.x, n),
+        1 => set_unused(rng, &mut run.q, n),
+        2 => set_unused(rng, &mut run.s, n),
+        3 => set_unused(rng, &mut run.l, n),
+        4 => set_unused(rng, &mut run.d, n),
+        _ => set_unused(rng, &mut run.inputs, state.plan.counts.m),
     }
 }
 
@@ -223,7 +223,7 @@ fn output_beyond(rng: &mut Rng, state: RawState, cup: usize) -> Broken {
     let mut state = moved_to_clock(&state);
     state.run.q[cup] = rng.pick(&[M + 1, -M - 1]);
     state.run.x[cup] = state.run.q[cup];
-    settle(&mut state);
+    set_slopes_and_dues(&mut state);
     (state, Clause::OutputBeyond(cup))
 }
 
@@ -237,7 +237,7 @@ fn position_outside(rng: &mut Rng, state: RawState, cup: usize) -> Broken {
 
 fn change_slope(rng: &mut Rng, state: RawState, cup: usize) -> Broken {
     let mut state = moved_to_clock(&state);
-    state.run.s[cup] += rng.pick(&[1, -1, GRAINS]);
+    state.run.s[cup] += rng.pick(&[1, -1, GRAINS_PER_ML]);
     state.run.d[cup] = due_tick(&state.plan, &state.run, cup);
     (state, Clause::Slope(cup))
 }
@@ -258,7 +258,7 @@ fn input_beyond(rng: &mut Rng, state: RawState) -> Option<Broken> {
     let input = rng.below(state.plan.counts.m);
     let mut state = moved_to_clock(&state);
     state.run.inputs[input] = rng.pick(&[M + 1, -M - 1]);
-    settle(&mut state);
+    set_slopes_and_dues(&mut state);
     Some((state, Clause::InputBeyond(input)))
 }
 

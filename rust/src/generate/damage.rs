@@ -3,10 +3,10 @@
 
 use super::plant::offset_place;
 use super::rng::Rng;
-use crate::file::layout::assemble;
+use crate::file::encoding::assemble;
 use crate::file::read::split;
 use crate::limits::{
-    Section, COMMANDS, GRAINS, HEADER_BYTES, INPUTS, INTEGRATORS, LARGEST_COEFFICIENT,
+    Section, COMMANDS, GRAINS_PER_ML, HEADER_BYTES, INPUTS, INTEGRATORS, LARGEST_COEFFICIENT,
     LARGEST_HORIZON, LINKS, M, NODES, SECTIONS, WORD_BYTES,
 };
 use crate::words::{set_word, word_at};
@@ -50,7 +50,7 @@ pub enum Damage {
     /// A horizon outside its limits, or a low one below the commands' ticks.
     Horizon,
     /// Random bytes.
-    Noise,
+    RandomBytes,
 }
 
 impl Damage {
@@ -73,7 +73,7 @@ impl Damage {
         Damage::CountAboveLimit,
         Damage::EmptySection,
         Damage::Horizon,
-        Damage::Noise,
+        Damage::RandomBytes,
     ];
 
     /// The damaged file. A file may be damaged again; where its header no longer leads to
@@ -91,7 +91,7 @@ impl Damage {
             Damage::MoveBorder => move_border(rng, file),
             Damage::WrapSums => wrap_sums(rng, file),
             Damage::Horizon => change_horizon(rng, file),
-            Damage::Noise => noise(rng, file.len()),
+            Damage::RandomBytes => random_bytes(rng, file.len()),
             _ => self.rebuild(rng, file),
         }
     }
@@ -109,7 +109,7 @@ impl Damage {
             Damage::SwapEntries => swap_entries(rng, bytes, size),
             Damage::DuplicateEntry => duplicate_entry(rng, bytes, size),
             Damage::DropEntry => drop_entry(rng, bytes, size),
-            Damage::OddLength => bytes.extend(noise(rng, size - 1)),
+            Damage::OddLength => bytes.extend(random_bytes(rng, size - 1)),
             Damage::CountAboveLimit => bytes.resize((section.most() + 1) * size, 0),
             _ => bytes.clear(),
         }
@@ -150,7 +150,7 @@ const BOUNDS: [i64; 15] = [
     HEADER_BYTES as i64,
     COMMANDS as i64,
     LINKS as i64,
-    GRAINS,
+    GRAINS_PER_ML,
     LARGEST_COEFFICIENT,
     M,
     M,
@@ -161,12 +161,12 @@ const BOUNDS: [i64; 15] = [
 
 /// Every bound and its neighbours, with either sign.
 pub(super) fn boundary_words() -> Vec<u32> {
-    let near = |bound: i64| [bound - 1, bound, bound + 1].map(|number| [number, -number]);
+    let neighbours = |bound: i64| [bound - 1, bound, bound + 1].map(|number| [number, -number]);
     let mut words: Vec<u32> = BOUNDS
         .into_iter()
-        .flat_map(near)
+        .flat_map(neighbours)
         .flatten()
-        .map(|w| w as u32)
+        .map(|word| word as u32)
         .collect();
     words.sort();
     words.dedup();
@@ -196,11 +196,11 @@ fn flip_bits(rng: &mut Rng, file: &[u8]) -> Vec<u8> {
 
 fn lengthen(rng: &mut Rng, file: &[u8]) -> Vec<u8> {
     let more = rng.below(40) + 1;
-    [file, &noise(rng, more)].concat()
+    [file, &random_bytes(rng, more)].concat()
 }
 
 /// Random bytes, at most so many.
-pub(super) fn noise(rng: &mut Rng, most: usize) -> Vec<u8> {
+pub(super) fn random_bytes(rng: &mut Rng, most: usize) -> Vec<u8> {
     let length = rng.below(most + 1);
     (0..length).map(|_| rng.bits() as u8).collect()
 }
@@ -256,9 +256,9 @@ fn wrap_sums(rng: &mut Rng, file: &[u8]) -> Vec<u8> {
     if file.len() < HEADER_BYTES {
         return damaged;
     }
-    let near = rng.pick(&[4_u32, 8, 12, 20, 1 << 24, 1 << 31]);
+    let step = rng.pick(&[4_u32, 8, 12, 20, 1 << 24, 1 << 31]);
     let any = rng.bits() as u32;
-    let change = rng.pick(&[near, near.wrapping_neg(), any]);
+    let change = rng.pick(&[step, step.wrapping_neg(), any]);
     let first = rng.below(SECTIONS - 1);
     let last = first + 1 + rng.below(SECTIONS - 1 - first);
     let mut add = |place, change| {

@@ -1,12 +1,12 @@
-//! Files for comparing two readers, of every sort: accepted, with planted faults, damaged, loose and
+//! Files for comparing two readers, of every sort: accepted, with planted faults, damaged, random and
 //! large.
 
-use super::damage::{boundary_word, boundary_words, damaged, noise};
+use super::damage::{boundary_word, boundary_words, damaged, random_bytes};
 use super::plans;
-use super::plant::{in_file, in_plan, planted, twice_in_one_entry};
+use super::plant::{plant_in_file, plant_in_plan, plant_twice_in_one_entry, planted};
 use super::rng::Rng;
 use super::Damage;
-use crate::file::layout::{assemble, section_bytes};
+use crate::file::encoding::{assemble, section_bytes};
 use crate::file::{encode, Cause};
 use crate::limits::{Section, LARGEST_HORIZON, WORD_BYTES};
 use crate::limits::{REFUSED_COMMAND, REFUSED_HORIZON, REFUSED_SHORT, REFUSED_SIZES};
@@ -32,9 +32,9 @@ pub enum Origin {
     /// Pairs that keep the offset rule only if sums wrap at 32 bits.
     WrappedSums,
     /// Pairs in order over sections of any length, filled with small and boundary words.
-    Loose,
+    RandomSections,
     /// Random bytes, often fewer than a header.
-    Noise,
+    RandomBytes,
     /// Up to [`LARGE_BYTES`] more than a plan needs.
     Large,
     /// One step away from a sample, every such step in turn.
@@ -51,8 +51,8 @@ impl Origin {
         Origin::FaultyFileAndEntry,
         Origin::Damaged,
         Origin::WrappedSums,
-        Origin::Loose,
-        Origin::Noise,
+        Origin::RandomSections,
+        Origin::RandomBytes,
         Origin::Large,
         Origin::NextToSample,
     ];
@@ -70,8 +70,8 @@ const SHARES: [(Origin, usize); 10] = [
     (Origin::FaultyFileAndEntry, 4),
     (Origin::Damaged, 20),
     (Origin::WrappedSums, 5),
-    (Origin::Loose, 5),
-    (Origin::Noise, 4),
+    (Origin::RandomSections, 5),
+    (Origin::RandomBytes, 4),
     (Origin::Large, 1),
 ];
 
@@ -94,21 +94,21 @@ fn file(rng: &mut Rng, origin: Origin) -> Vec<u8> {
         Origin::TwoFaults => two_faults(rng, &mut plan),
         Origin::TwiceInOneEntry => {
             // A plan that has no entry for the fault makes way for another.
-            while twice_in_one_entry(rng, &mut plan).is_none() {
+            while plant_twice_in_one_entry(rng, &mut plan).is_none() {
                 plan = plans::any(rng);
             }
         }
         Origin::FaultyFileAndEntry => {
             let (entry_cause, cause) = (cause_of(rng, OF_ENTRIES), cause_of(rng, OF_THE_FILE));
-            in_plan(rng, &mut plan, entry_cause);
-            return in_file(rng, &plan, cause);
+            plant_in_plan(rng, &mut plan, entry_cause);
+            return plant_in_file(rng, &plan, cause);
         }
         Origin::Damaged => return damaged(rng, &encode(&plan)),
         Origin::WrappedSums => return Damage::WrapSums.apply(rng, &encode(&plan)),
-        Origin::Loose => return loose(rng),
-        Origin::Noise => {
+        Origin::RandomSections => return random_sections(rng),
+        Origin::RandomBytes => {
             let most = rng.pick(&[0, 50, 50, 5_000]);
-            return noise(rng, most);
+            return random_bytes(rng, most);
         }
         Origin::Large => return large(rng, &plan),
         Origin::Accepted | Origin::NextToSample => (),
@@ -123,7 +123,9 @@ const OF_ENTRIES: RangeInclusive<usize> = REFUSED_HORIZON..=REFUSED_COMMAND;
 
 fn cause_of(rng: &mut Rng, numbers: RangeInclusive<usize>) -> Cause {
     let all = Cause::ALL.into_iter();
-    let fitting: Vec<Cause> = all.filter(|c| numbers.contains(&c.number())).collect();
+    let fitting: Vec<Cause> = all
+        .filter(|cause| numbers.contains(&cause.number()))
+        .collect();
     rng.pick(&fitting)
 }
 
@@ -144,27 +146,29 @@ fn two_faults(rng: &mut Rng, plan: &mut Plan) {
         true => cause_of(rng, first.number()..=first.number()),
         false => cause_of(rng, OF_ENTRIES),
     };
-    in_plan(rng, plan, first);
-    in_plan(rng, plan, second);
+    plant_in_plan(rng, plan, first);
+    plant_in_plan(rng, plan, second);
 }
 
-fn loose(rng: &mut Rng) -> Vec<u8> {
+fn random_sections(rng: &mut Rng) -> Vec<u8> {
     let horizon = rng.pick(&[0, 1, 100, 100, 100, LARGEST_HORIZON, LARGEST_HORIZON + 1]);
     let sections = Section::ALL.map(|section| {
         // Often few entries, so that the sections after it are reached too.
         let most = rng.pick(&[1, 2, section.most() + 1]);
         let entries = rng.within(section.least() as i64, most as i64) as usize;
         let words = entries * section.entry_bytes() / WORD_BYTES;
-        let mut bytes: Vec<u8> = (0..words).flat_map(|_| loose_word(rng)).collect();
+        let mut bytes: Vec<u8> = (0..words)
+            .flat_map(|_| small_or_boundary_word(rng))
+            .collect();
         if rng.once_in(20) {
-            bytes.extend(noise(rng, section.entry_bytes()));
+            bytes.extend(random_bytes(rng, section.entry_bytes()));
         }
         bytes
     });
     assemble(horizon, &sections)
 }
 
-fn loose_word(rng: &mut Rng) -> [u8; WORD_BYTES] {
+fn small_or_boundary_word(rng: &mut Rng) -> [u8; WORD_BYTES] {
     let word = match rng.once_in(4) {
         true => boundary_word(rng, 0),
         false => rng.below(4) as u32,
@@ -173,7 +177,7 @@ fn loose_word(rng: &mut Rng) -> [u8; WORD_BYTES] {
 }
 
 fn large(rng: &mut Rng, plan: &Plan) -> Vec<u8> {
-    let more = noise(rng, LARGE_BYTES);
+    let more = random_bytes(rng, LARGE_BYTES);
     let mut sections = section_bytes(plan);
     let section = rng.pick(&Section::ALL);
     let size = section.entry_bytes();

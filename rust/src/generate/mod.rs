@@ -3,21 +3,21 @@
 //! Everything follows from a seed, so that a difference found once can be found again.
 
 pub mod breakage;
+pub mod changes;
 pub mod damage;
 pub mod files;
+pub mod fill;
 pub mod lists;
-pub mod near;
 pub mod plans;
 pub mod plant;
 pub mod recipe;
 pub mod rng;
 pub mod states;
-pub mod unreached;
 
 pub use breakage::Breakage;
 pub use damage::Damage;
 pub use files::Origin;
+pub use fill::Fill;
 pub use lists::{long_list, run_list, Call};
 pub use plans::Family;
 pub use rng::Rng;
-pub use unreached::Fill;

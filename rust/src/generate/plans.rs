@@ -3,7 +3,7 @@
 use super::recipe::{Recipe, Spread};
 use super::rng::Rng;
 use crate::limits::{COMMANDS, INPUTS, INTEGRATORS, LINKS, NODES, SECTIONS};
-use crate::limits::{GRAINS, LARGEST_COEFFICIENT, LARGEST_HORIZON, M};
+use crate::limits::{GRAINS_PER_ML, LARGEST_COEFFICIENT, LARGEST_HORIZON, M};
 use crate::plan::{Plan, DIFFERENCE, LIMIT, THRESHOLD};
 
 /// What a plan is made for.
@@ -100,7 +100,7 @@ const ORDINARY: Recipe = Recipe {
     quantum: Spread::Within(3, 900),
     value: Spread::Within(-60, 60),
     limit: Spread::Within(-80, 80),
-    coefficient: Spread::Within(-GRAINS / 12, GRAINS / 12),
+    coefficient: Spread::Within(-GRAINS_PER_ML / 12, GRAINS_PER_ML / 12),
     command_ticks: 12,
 };
 
@@ -122,7 +122,7 @@ const FULL: Recipe = Recipe {
     quantum: Spread::Within(200, 9_000),
     value: Spread::Within(-9_000, 9_000),
     limit: Spread::Within(-9_000, 9_000),
-    coefficient: Spread::Within(-GRAINS / 300, GRAINS / 300),
+    coefficient: Spread::Within(-GRAINS_PER_ML / 300, GRAINS_PER_ML / 300),
     command_ticks: 40,
 };
 
@@ -135,10 +135,10 @@ const EXTREME: Recipe = Recipe {
     limit: Spread::OneOf(&[-M, -1, 0, 1, M]),
     coefficient: Spread::OneOf(&[
         -LARGEST_COEFFICIENT,
-        -GRAINS,
+        -GRAINS_PER_ML,
         -1,
         1,
-        GRAINS,
+        GRAINS_PER_ML,
         LARGEST_COEFFICIENT,
     ]),
     command_ticks: 20,
@@ -174,18 +174,26 @@ const TINY: Recipe = Recipe {
     quantum: Spread::Within(1, 6),
     value: Spread::Within(-4, 4),
     limit: Spread::Within(-3, 3),
-    coefficient: Spread::OneOf(&[-2 * GRAINS, -GRAINS, -1, 1, GRAINS - 1, GRAINS, 2 * GRAINS]),
+    coefficient: Spread::OneOf(&[
+        -2 * GRAINS_PER_ML,
+        -GRAINS_PER_ML,
+        -1,
+        1,
+        GRAINS_PER_ML - 1,
+        GRAINS_PER_ML,
+        2 * GRAINS_PER_ML,
+    ]),
     command_ticks: 3,
 };
 
 const CHAIN: Recipe = Recipe {
     horizon: Spread::Within(200, 50_000),
     counts: [(2, 6), (1, 3), (NODES, NODES), (4, 20), (0, 8)],
-    start: Spread::Within(-3 * GRAINS, 3 * GRAINS),
-    quantum: Spread::Within(GRAINS / 8, 2 * GRAINS),
-    value: Spread::Within(-3 * GRAINS, 3 * GRAINS),
-    limit: Spread::Within(-2 * GRAINS, 2 * GRAINS),
-    coefficient: Spread::Within(-GRAINS / 24, GRAINS / 24),
+    start: Spread::Within(-3 * GRAINS_PER_ML, 3 * GRAINS_PER_ML),
+    quantum: Spread::Within(GRAINS_PER_ML / 8, 2 * GRAINS_PER_ML),
+    value: Spread::Within(-3 * GRAINS_PER_ML, 3 * GRAINS_PER_ML),
+    limit: Spread::Within(-2 * GRAINS_PER_ML, 2 * GRAINS_PER_ML),
+    coefficient: Spread::Within(-GRAINS_PER_ML / 24, GRAINS_PER_ML / 24),
     command_ticks: 8,
 };
 
@@ -196,7 +204,7 @@ const COMMANDED: Recipe = Recipe {
     quantum: Spread::Within(2, 40),
     value: Spread::OneOf(&[-3, 0, 3]),
     limit: Spread::Within(-5, 5),
-    coefficient: Spread::OneOf(&[-GRAINS, GRAINS, GRAINS / 2]),
+    coefficient: Spread::OneOf(&[-GRAINS_PER_ML, GRAINS_PER_ML, GRAINS_PER_ML / 2]),
     command_ticks: 9,
 };
 
@@ -220,7 +228,7 @@ const BARE: Recipe = Recipe {
     quantum: Spread::Within(20, 300),
     value: Spread::Within(-40, 40),
     limit: Spread::Within(-40, 40),
-    coefficient: Spread::Within(-GRAINS / 40, GRAINS / 40),
+    coefficient: Spread::Within(-GRAINS_PER_ML / 40, GRAINS_PER_ML / 40),
     command_ticks: 6,
 };
 
@@ -245,14 +253,14 @@ fn swinging(rng: &mut Rng) -> Plan {
         plan = plan.threshold(2 * pairs + cup, level, filling, emptying);
     }
     for pair in 0..pairs {
-        let speed = rng.within(GRAINS / 4_096, GRAINS / 64);
+        let speed = rng.within(GRAINS_PER_ML / 4_096, GRAINS_PER_ML / 64);
         plan = plan
             .link(2 * pair, 2 * pair + 1, -speed)
             .link(2 * pair + 1, 2 * pair, speed);
     }
     for cup in 0..emptied {
         let node = plan.node_source(cup);
-        plan = plan.link(2 * pairs + cup, node, GRAINS);
+        plan = plan.link(2 * pairs + cup, node, GRAINS_PER_ML);
     }
     if rng.once_in(2) {
         plan = plan.command(rng.within(1, 50_000) as u32, 0, rng.within(-100, 100));
@@ -272,7 +280,7 @@ fn slow(rng: &mut Rng) -> Plan {
     for target in 0..plan.integrators.len() {
         for &source in &sources {
             if !rng.once_in(3) {
-                plan = plan.link(target, source, rng.pick(&[-GRAINS, GRAINS]));
+                plan = plan.link(target, source, rng.pick(&[-GRAINS_PER_ML, GRAINS_PER_ML]));
             }
         }
     }
@@ -290,7 +298,9 @@ fn bound(rng: &mut Rng) -> Plan {
         let distance = quantum * rng.within(1, 6) + rng.pick(&[0, 0, 1, -1]);
         let sign = rng.pick(&[1, -1]);
         plan = plan.integrator(sign * (M - distance), quantum);
-        plan = plan.input(sign * rate).link(cup, count + cup, GRAINS);
+        plan = plan
+            .input(sign * rate)
+            .link(cup, count + cup, GRAINS_PER_ML);
     }
     let mut turned: Vec<(u32, usize)> = (0..count)
         .map(|cup| (rng.within(1, 40) as u32, cup))
@@ -314,13 +324,13 @@ fn together(rng: &mut Rng) -> Plan {
     }
     plan = plan.input(rng.within(1, 9)).input(rng.within(-9, -1));
     plan = plan.difference(0, count - 1).threshold(0, count, -3, 4);
-    let drive = rng.within(1, 3) * GRAINS;
-    let coupling = rng.within(-GRAINS / 64, GRAINS / 64) | 1;
+    let drive = rng.within(1, 3) * GRAINS_PER_ML;
+    let coupling = rng.within(-GRAINS_PER_ML / 64, GRAINS_PER_ML / 64) | 1;
     for cup in 0..count {
         let neighbour = (cup + 1) % count;
         plan = plan.link(cup, neighbour, coupling);
         plan = plan.link(cup, count + cup % 2, drive);
-        plan = plan.link(cup, count + 2 + cup % 2, GRAINS / 2);
+        plan = plan.link(cup, count + 2 + cup % 2, GRAINS_PER_ML / 2);
     }
     for tick in [10, 20, 30] {
         plan = plan.command(tick, rng.below(2), rng.within(-9, 9));
@@ -334,9 +344,13 @@ fn ladder(rng: &mut Rng) -> Plan {
     let mut plan = LADDER.plan(rng);
     let lowest = rng.below(plan.node_source(0));
     for number in 0..NODES {
-        let places = plan.node_source(number);
-        let below = if number == 0 { lowest } else { places - 1 };
-        let other = rng.below(places);
+        let sources_below = plan.node_source(number);
+        let below = if number == 0 {
+            lowest
+        } else {
+            sources_below - 1
+        };
+        let other = rng.below(sources_below);
         let (low, high) = (rng.within(-900, 0), rng.within(1, 900));
         plan = match rng.pick(&[DIFFERENCE, LIMIT, LIMIT, THRESHOLD]) {
             DIFFERENCE => plan.difference(below, other),
@@ -346,9 +360,9 @@ fn ladder(rng: &mut Rng) -> Plan {
     }
     let topmost = plan.node_source(NODES - 1);
     for cup in 0..plan.integrators.len() {
-        let drive = rng.within(GRAINS / 90, GRAINS / 30) * rng.pick(&[1, -1]);
+        let drive = rng.within(GRAINS_PER_ML / 90, GRAINS_PER_ML / 30) * rng.pick(&[1, -1]);
         if rng.once_in(2) {
-            plan = plan.link(cup, rng.below(topmost), GRAINS / 20);
+            plan = plan.link(cup, rng.below(topmost), GRAINS_PER_ML / 20);
         }
         plan = plan.link(cup, topmost, drive);
     }

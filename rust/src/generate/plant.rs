@@ -1,7 +1,7 @@
 //! Faults planted in accepted plans, so that the right refusal is known beforehand.
 
 use super::rng::Rng;
-use crate::file::layout::{assemble, section_bytes};
+use crate::file::encoding::{assemble, section_bytes};
 use crate::file::{encode, Cause, Refusal};
 use crate::limits::{
     Section, HEADER_BYTES, LARGEST_COEFFICIENT, LARGEST_HORIZON, M, SECTIONS, WORD_BYTES,
@@ -30,18 +30,18 @@ pub struct Planted {
 pub fn planted(rng: &mut Rng, plan: &Plan, cause: Cause) -> Option<Planted> {
     if cause.number() <= REFUSED_SIZES {
         let refusal = Refusal::whole(cause);
-        let file = in_file(rng, plan, cause);
+        let file = plant_in_file(rng, plan, cause);
         return Some(Planted { file, refusal });
     }
     let mut faulty = plan.clone();
-    let entry = in_plan(rng, &mut faulty, cause)?;
+    let entry = plant_in_plan(rng, &mut faulty, cause)?;
     let refusal = Refusal { cause, entry };
     let file = encode(&faulty);
     Some(Planted { file, refusal })
 }
 
 /// Plants one of the causes of refusals 4 to 9 and answers its entry.
-pub fn in_plan(rng: &mut Rng, plan: &mut Plan, cause: Cause) -> Option<usize> {
+pub fn plant_in_plan(rng: &mut Rng, plan: &mut Plan, cause: Cause) -> Option<usize> {
     match cause.number() {
         REFUSED_HORIZON => Some(plant_horizon(rng, plan, cause)),
         REFUSED_INTEGRATOR => Some(plant_integrator(rng, plan, cause)),
@@ -53,14 +53,14 @@ pub fn in_plan(rng: &mut Rng, plan: &mut Plan, cause: Cause) -> Option<usize> {
 }
 
 /// Plants an order fault, and at the same entry a number beyond its limit, and answers the entry.
-pub fn twice_in_one_entry(rng: &mut Rng, plan: &mut Plan) -> Option<usize> {
+pub fn plant_twice_in_one_entry(rng: &mut Rng, plan: &mut Plan) -> Option<usize> {
     let cause = rng.pick(&[
         Cause::LinkRepeats,
         Cause::LinkDescends,
         Cause::CommandRepeats,
         Cause::CommandDescends,
     ]);
-    let entry = in_plan(rng, plan, cause)?;
+    let entry = plant_in_plan(rng, plan, cause)?;
     match cause.number() {
         REFUSED_LINK => plan.links[entry].coefficient = rng.pick(&[0, LARGEST_COEFFICIENT + 1]),
         _ => plan.commands[entry].value = rng.pick(&BEYOND_M),
@@ -102,15 +102,19 @@ fn plant_node(rng: &mut Rng, plan: &mut Plan, cause: Cause) -> Option<usize> {
         _ => &[LIMIT],
     };
     let entry = entry_where(rng, &plan.nodes, |node| kinds.contains(&node.kind))?;
-    let places = plan.node_source(entry);
+    let sources_below = plan.node_source(entry);
     let node = &mut plan.nodes[entry];
     match cause {
         Cause::KindAbove => {
             node.kind = rng.pick(&[THRESHOLD + 1, THRESHOLD + 2, 256, u32::MAX as usize]);
         }
-        Cause::AOutOfPlace => node.a = rng.pick(&[places, places + 1, u32::MAX as usize]),
-        Cause::BOutOfPlace => node.b = rng.pick(&[places, places + 1, u32::MAX as usize]),
-        Cause::UnusedBNotZero => node.b = rng.pick(&[1, places, u32::MAX as usize]),
+        Cause::AOutOfPlace => {
+            node.a = rng.pick(&[sources_below, sources_below + 1, u32::MAX as usize])
+        }
+        Cause::BOutOfPlace => {
+            node.b = rng.pick(&[sources_below, sources_below + 1, u32::MAX as usize])
+        }
+        Cause::UnusedBNotZero => node.b = rng.pick(&[1, sources_below, u32::MAX as usize]),
         Cause::UnusedLowNotZero => node.low = rng.pick(&[1, -1, M]),
         Cause::UnusedHighNotZero => node.high = rng.pick(&[1, -1, M]),
         Cause::LowBeyond => node.low = rng.pick(&BEYOND_M),
@@ -172,7 +176,9 @@ fn plant_command(rng: &mut Rng, plan: &mut Plan, cause: Cause) -> Option<usize> 
 }
 
 fn entry_where<T>(rng: &mut Rng, list: &[T], fits: impl Fn(&T) -> bool) -> Option<usize> {
-    let fitting: Vec<usize> = (0..list.len()).filter(|&e| fits(&list[e])).collect();
+    let fitting: Vec<usize> = (0..list.len())
+        .filter(|&entry| fits(&list[entry]))
+        .collect();
     (!fitting.is_empty()).then(|| rng.pick(&fitting))
 }
 
@@ -182,7 +188,7 @@ fn entry_from(rng: &mut Rng, count: usize, first: usize) -> Option<usize> {
 }
 
 /// Plants one of the causes of refusals 1 to 3.
-pub fn in_file(rng: &mut Rng, plan: &Plan, cause: Cause) -> Vec<u8> {
+pub fn plant_in_file(rng: &mut Rng, plan: &Plan, cause: Cause) -> Vec<u8> {
     let mut file = encode(plan);
     match cause {
         Cause::ShortFile => file.truncate(rng.below(HEADER_BYTES)),

@@ -60,8 +60,8 @@ impl Recipe {
             plan.inputs.push(self.value.draw(rng));
         }
         for number in 0..self.count(rng, Section::Nodes) {
-            let places = plan.node_source(number);
-            plan.nodes.push(self.node(rng, places));
+            let sources_below = plan.node_source(number);
+            plan.nodes.push(self.node(rng, sources_below));
         }
         let links = self.count(rng, Section::Links);
         self.add_links(rng, &mut plan, links);
@@ -76,11 +76,11 @@ impl Recipe {
     }
 
     /// Half of the time a node names the source just below it, which makes long chains.
-    fn node(&self, rng: &mut Rng, places: usize) -> Node {
+    fn node(&self, rng: &mut Rng, sources_below: usize) -> Node {
         let kind = rng.below(THRESHOLD + 1);
         let source = |rng: &mut Rng| match rng.once_in(2) {
-            true => places - 1,
-            false => rng.below(places),
+            true => sources_below - 1,
+            false => rng.below(sources_below),
         };
         let (a, b) = (source(rng), source(rng));
         let (one, other) = (self.limit.draw(rng), self.limit.draw(rng));

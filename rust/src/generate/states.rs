@@ -28,7 +28,7 @@ pub fn sound_state(rng: &mut Rng, plan: &Plan) -> RawState {
     for i in 0..plan.integrators.len() {
         run.l[i] = rng.within(0, i64::from(run.clocks.clock)) as u32;
     }
-    settle(&mut state);
+    set_slopes_and_dues(&mut state);
     move_the_overdue(&mut state);
     state
 }
@@ -61,14 +61,14 @@ pub fn moved_to_clock(state: &RawState) -> RawState {
 
 /// Works slopes and due ticks out anew from the plan, outputs, positions, inputs and l. The plan
 /// must be an accepted one; the rest may be anything that the plain rules can work with.
-pub fn settle(state: &mut RawState) {
+pub fn set_slopes_and_dues(state: &mut RawState) {
     let plan = state.plan.to_plan().expect("counts within their limits");
     let run = &mut state.run;
     let RawCounts { n, m, .. } = state.plan.counts;
     let (outputs, inputs) = (&run.q[..n], &run.inputs[..m]);
-    let sources = values::of_all_sources(&plan, outputs, inputs);
+    let values = values::of_all_sources(&plan, outputs, inputs);
     for i in 0..state.plan.counts.n {
-        run.s[i] = values::slope(&plan, i, &sources);
+        run.s[i] = values::slope(&plan, i, &values);
         run.d[i] = due_tick(&state.plan, run, i);
     }
 }
@@ -81,7 +81,10 @@ pub fn due_tick(plan: &RawPlan, run: &RawRunning, i: usize) -> u32 {
 
 /// The first command with a tick above the clock, or the command count.
 pub fn first_later_command(plan: &Plan, clock: u32) -> usize {
-    let later = plan.commands.iter().position(|c| c.tick > clock);
+    let later = plan
+        .commands
+        .iter()
+        .position(|command| command.tick > clock);
     later.unwrap_or(plan.commands.len())
 }
 

@@ -44,7 +44,7 @@ pub struct Plain<'p> {
 
 /// What happened in one instant, for observers.
 #[derive(Clone, Debug, PartialEq, Eq)]
-pub struct Taken {
+pub struct TakenInstant {
     /// t.
     pub tick: u64,
     /// The due integrators.
@@ -101,7 +101,7 @@ impl<'p> Plain<'p> {
             instants: moment.instants,
             events: Vec::new(),
         };
-        machine.settle();
+        machine.recompute();
         machine
     }
 
@@ -111,7 +111,7 @@ impl<'p> Plain<'p> {
     }
 
     /// The same, telling an observer about each instant.
-    pub fn run_observed(&mut self, budget: u128, mut observe: impl FnMut(&Taken)) {
+    pub fn run_observed(&mut self, budget: u128, mut observe: impl FnMut(&TakenInstant)) {
         let mut left = budget;
         while left > 0 && self.status() == Status::Paused {
             observe(&self.take_instant());
@@ -164,7 +164,7 @@ impl<'p> Plain<'p> {
         self.positions[integrator] + self.slopes[integrator] * elapsed
     }
 
-    fn take_instant(&mut self) -> Taken {
+    fn take_instant(&mut self) -> TakenInstant {
         let tick = self.next_instant().expect("a paused machine has one");
         let due = self.due_at(tick);
         // The positions of step 5 go by the old slopes, so they can be taken first; step 1 then
@@ -180,8 +180,8 @@ impl<'p> Plain<'p> {
         self.instants += 1;
         self.record_events(&due, &commanded);
         // Steps 3 and 5, after all outputs and inputs are set.
-        let clipped = self.settle();
-        Taken {
+        let clipped = self.recompute();
+        TakenInstant {
             tick,
             due,
             commanded,
@@ -232,14 +232,14 @@ impl<'p> Plain<'p> {
 
     /// Everything that follows from positions, outputs, inputs and clock: the next command, and
     /// node values, slopes and dues of all integrators. Answers how many nodes were clipped.
-    fn settle(&mut self) -> usize {
+    fn recompute(&mut self) -> usize {
         let plan = self.plan;
         let later = |command: &Command| u64::from(command.tick) > self.clock;
         let first_later = plan.commands.iter().position(later);
         self.next_command = first_later.unwrap_or(plan.commands.len());
-        let sources = values::of_all_sources(plan, &self.outputs, &self.inputs);
+        let values = values::of_all_sources(plan, &self.outputs, &self.inputs);
         for (i, integrator) in plan.integrators.iter().enumerate() {
-            self.slopes[i] = values::slope(plan, i, &sources);
+            self.slopes[i] = values::slope(plan, i, &values);
             let ticks = due::ticks_to_level(
                 self.positions[i],
                 self.outputs[i],
@@ -248,6 +248,6 @@ impl<'p> Plain<'p> {
             );
             self.dues[i] = ticks.map(|ticks| self.clock + ticks as u64);
         }
-        values::clipped_nodes(plan, &sources)
+        values::clipped_nodes(plan, &values)
     }
 }

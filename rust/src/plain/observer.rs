@@ -1,6 +1,6 @@
 //! Watches the plain machine and tells which integrators an engine has to move.
 
-use super::Taken;
+use super::TakenInstant;
 use crate::engine::Engine;
 use crate::plan::{Plan, LIMIT};
 use std::collections::BTreeSet;
@@ -37,14 +37,14 @@ impl Observer {
     }
 
     /// The integrators that step 5 moves: "those due or reached, the eager engine all".
-    pub fn moved(&self, engine: Engine, taken: &Taken) -> BTreeSet<usize> {
+    pub fn moved(&self, engine: Engine, taken: &TakenInstant) -> BTreeSet<usize> {
         match engine {
             Engine::Lazy => self.due_or_reached(taken),
             Engine::Eager => (0..self.integrators).collect(),
         }
     }
 
-    fn due_or_reached(&self, taken: &Taken) -> BTreeSet<usize> {
+    fn due_or_reached(&self, taken: &TakenInstant) -> BTreeSet<usize> {
         let mut moved: BTreeSet<usize> = taken.due.iter().copied().collect();
         for source in self.touched_sources(taken) {
             moved.extend(&self.reading_integrators[source]);
@@ -53,7 +53,7 @@ impl Observer {
     }
 
     /// The sources set at an instant and every node above them, whether or not its value changes.
-    fn touched_sources(&self, taken: &Taken) -> BTreeSet<usize> {
+    fn touched_sources(&self, taken: &TakenInstant) -> BTreeSet<usize> {
         // Inputs are the sources after the integrators.
         let inputs = taken.commanded.iter().map(|input| self.integrators + input);
         let mut waiting: Vec<usize> = taken.due.iter().copied().chain(inputs).collect();

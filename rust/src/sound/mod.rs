@@ -55,9 +55,9 @@ pub enum Clause {
 }
 
 /// The engines' state for a sound raw state; `None` if it is not sound.
-pub fn accept(raw: &RawState) -> Option<State> {
+pub fn sound_engine_state(raw: &RawState) -> Option<State> {
     let table = &Soundness::DOCUMENT;
-    let (counted, state) = within_counts(table, raw)?;
+    let (counted, state) = counted_state(table, raw)?;
     broken_in(table, &counted, &state)
         .is_empty()
         .then_some(state)
@@ -65,7 +65,7 @@ pub fn accept(raw: &RawState) -> Option<State> {
 
 /// Whether every clause is kept.
 pub fn is_sound(raw: &RawState) -> bool {
-    accept(raw).is_some()
+    sound_engine_state(raw).is_some()
 }
 
 /// All clauses that a state breaks. With counts outside their limits, or with a plan that breaks
@@ -76,7 +76,7 @@ pub fn broken_clauses(raw: &RawState) -> Vec<Clause> {
 
 /// The same by a table of tests.
 pub fn broken_by(table: &Soundness, raw: &RawState) -> Vec<Clause> {
-    match within_counts(table, raw) {
+    match counted_state(table, raw) {
         Some((counted, state)) => broken_in(table, &counted, &state),
         None => vec![Clause::Counts],
     }
@@ -84,13 +84,13 @@ pub fn broken_by(table: &Soundness, raw: &RawState) -> Vec<Clause> {
 
 /// The state as the engines keep it, if all counts are within their limits; its numbers may still
 /// be any.
-pub fn as_kept(raw: &RawState) -> Option<State> {
-    Some(within_counts(&Soundness::DOCUMENT, raw)?.1)
+pub fn engine_state(raw: &RawState) -> Option<State> {
+    Some(counted_state(&Soundness::DOCUMENT, raw)?.1)
 }
 
-/// The state by the counts that are worked with, and as the engines keep it.
-fn within_counts<'r>(table: &Soundness, raw: &'r RawState) -> Option<(Cow<'r, RawState>, State)> {
-    let counted = with_counts(table, raw)?;
+/// The state with the counts that the table works with, and the same as the engines keep it.
+fn counted_state<'r>(table: &Soundness, raw: &'r RawState) -> Option<(Cow<'r, RawState>, State)> {
+    let counted = with_used_counts(table, raw)?;
     let plan = counted.plan.to_plan()?;
     let run = &counted.run;
     let integrator = |i| IntegratorState {
@@ -112,7 +112,7 @@ fn within_counts<'r>(table: &Soundness, raw: &'r RawState) -> Option<(Cow<'r, Ra
     Some((counted, state))
 }
 
-fn with_counts<'r>(table: &Soundness, raw: &'r RawState) -> Option<Cow<'r, RawState>> {
+fn with_used_counts<'r>(table: &Soundness, raw: &'r RawState) -> Option<Cow<'r, RawState>> {
     let mut used = raw.plan.counts.by_section();
     for (section, count) in Section::ALL.into_iter().zip(&mut used) {
         *count = (table.count)(section, *count)?;
@@ -128,12 +128,17 @@ fn with_counts<'r>(table: &Soundness, raw: &'r RawState) -> Option<Cow<'r, RawSt
 
 fn broken_in(table: &Soundness, raw: &RawState, state: &State) -> Vec<Clause> {
     let mut broken = Vec::new();
-    let left_over = |array: &Array| table.unseen != Some(*array) && array.left_over(raw);
+    let not_zero =
+        |array: &Array| table.skipped_array != Some(*array) && array.unused_not_zero(raw);
     let in_plan = |array: &&Array| array.in_plan();
-    if Array::ALL.iter().filter(in_plan).any(left_over) {
+    if Array::ALL.iter().filter(in_plan).any(not_zero) {
         broken.push(Clause::UnusedInPlan);
     }
-    if Array::ALL.iter().filter(|a| !in_plan(a)).any(left_over) {
+    if Array::ALL
+        .iter()
+        .filter(|array| !in_plan(array))
+        .any(not_zero)
+    {
         broken.push(Clause::UnusedInRun);
     }
     if let Err(refusal) = rules::check_by(&table.plan, &state.plan) {
@@ -194,11 +199,14 @@ fn check_integrators(table: &Soundness, state: &State, broken: &mut Vec<Clause>)
             Clause::MovedAfterClock,
         );
         unless(
-            (table.ahead)(clock, integrator.d.into()),
+            (table.due_ahead)(clock, integrator.d.into()),
             Clause::DueNotAhead,
         );
         unless((table.output)(q), Clause::OutputBeyond);
-        unless((table.near)(x, q, quantum), Clause::PositionOutsideLevels);
+        unless(
+            (table.between_levels)(x, q, quantum),
+            Clause::PositionOutsideLevels,
+        );
         let right = state.slope(number, &values, &table.machine);
         unless((table.slope)(integrator.s.into(), right), Clause::Slope);
         // Due is asked of the slope that the state holds; whether that slope is right is Rate's
@@ -212,9 +220,9 @@ fn check_integrators(table: &Soundness, state: &State, broken: &mut Vec<Clause>)
 /// plan that keeps the rules.
 pub fn has_values(plan: &Plan) -> bool {
     let valued = |(number, node): (usize, &Node)| {
-        let places = plan.node_source(number);
+        let sources_below = plan.node_source(number);
         let limited = node.kind != LIMIT || node.low <= node.high;
-        node.kind <= THRESHOLD && node.a < places && node.b < places && limited
+        node.kind <= THRESHOLD && node.a < sources_below && node.b < sources_below && limited
     };
     // 256 products of 32 and 64 bits fit 128.
     let summed =

@@ -2,7 +2,7 @@
 
 use super::table::{first_command_after, Soundness};
 use super::unused::Array;
-use crate::file::{Cause, Reading};
+use crate::file::{Cause, ReaderRules};
 use crate::limits::{M, REFUSED_HORIZON, REFUSED_INTEGRATOR};
 use crate::{engine, file};
 
@@ -103,7 +103,7 @@ pub enum Mutant {
 }
 
 /// Those without a number, reader, engine or array of their own.
-const PLAIN: [Mutant; 37] = [
+const SIMPLE: [Mutant; 37] = [
     Mutant::CountsCut,
     Mutant::CountsIn32Bits,
     Mutant::NoIntegrator,
@@ -193,9 +193,9 @@ const ENGINES: [engine::Mutant; 6] = [
 impl Mutant {
     /// Every mutant.
     pub fn all() -> Vec<Mutant> {
-        let plain = PLAIN.into_iter();
-        plain
-            .chain(Reading::DOCUMENT.order.map(Mutant::PlanRule))
+        let simple = SIMPLE.into_iter();
+        simple
+            .chain(ReaderRules::DOCUMENT.numbers.map(Mutant::PlanRule))
             .chain(CAUSES.map(Mutant::PlanCause))
             .chain(READERS.map(Mutant::PlanReader))
             .chain(ENGINES.map(Mutant::Machine))
@@ -225,31 +225,35 @@ impl Mutant {
                 table.count = |section, count| (count <= section.most()).then_some(count);
             }
             Mutant::PlanRule(number) => table.plan = without_rule(number),
-            Mutant::PlanCause(cause) => table.plan.unasked = Some(cause),
-            Mutant::PlanReader(mutant) => table.plan = mutant.reading(),
+            Mutant::PlanCause(cause) => table.plan.skipped = Some(cause),
+            Mutant::PlanReader(mutant) => table.plan = mutant.rules(),
             Mutant::ClockAnywhere => table.clock = |_, _| true,
             Mutant::ClockOneAbove => table.clock = |clock, horizon| clock <= horizon + 1,
             Mutant::ClockBelowHorizon => table.clock = |clock, horizon| clock < horizon,
             Mutant::MovedAnywhere => table.moved = |_, _| true,
             Mutant::MovedOneAfter => table.moved = |l, clock| l <= clock + 1,
             Mutant::MovedBefore => table.moved = |l, clock| l < clock || l == 0,
-            Mutant::DueAnywhere => table.ahead = |_, _| true,
-            Mutant::DueAtClock => table.ahead = |clock, d| clock <= d,
-            Mutant::DueTwoAhead => table.ahead = |clock, d| clock + 1 < d,
+            Mutant::DueAnywhere => table.due_ahead = |_, _| true,
+            Mutant::DueAtClock => table.due_ahead = |clock, d| clock <= d,
+            Mutant::DueTwoAhead => table.due_ahead = |clock, d| clock + 1 < d,
             Mutant::OutputAnywhere => table.output = |_| true,
             Mutant::OutputOneBeyond => table.output = |q| q.abs() <= BOUND + 1,
             Mutant::OutputInside => table.output = |q| q.abs() < BOUND,
             Mutant::OutputFromAbove => table.output = |q| q <= BOUND,
-            Mutant::PositionAnywhere => table.near = |_, _, _| true,
-            Mutant::PositionAtLevel => table.near = |x, q, quantum| (x - q).abs() <= quantum,
-            Mutant::PositionInside => table.near = |x, q, quantum| (x - q).abs() < quantum - 1,
-            Mutant::PositionWraps => table.near = near_in_64_bits,
+            Mutant::PositionAnywhere => table.between_levels = |_, _, _| true,
+            Mutant::PositionAtLevel => {
+                table.between_levels = |x, q, quantum| (x - q).abs() <= quantum
+            }
+            Mutant::PositionInside => {
+                table.between_levels = |x, q, quantum| (x - q).abs() < quantum - 1
+            }
+            Mutant::PositionWraps => table.between_levels = between_levels_in_64_bits,
             Mutant::SlopeAnywhere => table.slope = |_, _| true,
             Mutant::SlopeOneOff => table.slope = |held, right| (held - right).abs() <= 1,
             Mutant::DueUnasked => table.due = |_, _| true,
             Mutant::DueOneLate => table.due = due_or_one_late,
             Mutant::NeverUnasked => {
-                table.due = |held, right| right.is_none_or(|t| t == held.into())
+                table.due = |held, right| right.is_none_or(|tick| tick == held.into())
             }
             Mutant::Machine(mutant) => table.machine = mutant.rules(),
             Mutant::InputAnywhere => table.input = |_| true,
@@ -277,26 +281,28 @@ impl Mutant {
             Mutant::UpdatesBelow => {
                 table.updates = |updates, moves| updates < moves || updates == 0;
             }
-            Mutant::Unused(array) => table.unseen = Some(array),
+            Mutant::Unused(array) => table.skipped_array = Some(array),
         }
         table
     }
 }
 
 /// The numbers 4 to 9 but one; trying another twice does no harm.
-fn without_rule(number: usize) -> Reading {
-    let right = Reading::DOCUMENT;
+fn without_rule(number: usize) -> ReaderRules {
+    let right = ReaderRules::DOCUMENT;
     let other = match number {
         REFUSED_HORIZON => REFUSED_INTEGRATOR,
         _ => REFUSED_HORIZON,
     };
-    Reading {
-        order: right.order.map(|n| if n == number { other } else { n }),
+    ReaderRules {
+        numbers: right
+            .numbers
+            .map(|tried| if tried == number { other } else { tried }),
         ..right
     }
 }
 
-fn near_in_64_bits(x: i128, q: i128, quantum: i128) -> bool {
+fn between_levels_in_64_bits(x: i128, q: i128, quantum: i128) -> bool {
     let distance = (x as i64).wrapping_sub(q as i64).wrapping_abs();
     i128::from(distance) < quantum
 }

@@ -3,7 +3,7 @@
 use super::unused::Array;
 use crate::engine::rules::beyond;
 use crate::engine::Rules;
-use crate::file::Reading;
+use crate::file::ReaderRules;
 use crate::limits::{Section, M, NEVER};
 use crate::plan::Plan;
 
@@ -14,21 +14,21 @@ pub struct Soundness {
     /// The count of a section that is worked with; `None` if it is outside its limits.
     pub count: fn(section: Section, count: usize) -> Option<usize>,
     /// The rules of the plan.
-    pub plan: Reading,
+    pub plan: ReaderRules,
     /// The rules by which slopes and due ticks are worked out.
     pub machine: Rules,
     /// The array whose unused entries are not looked at.
-    pub unseen: Option<Array>,
+    pub skipped_array: Option<Array>,
     /// "c ≤ horizon".
     pub clock: fn(clock: i128, horizon: i128) -> bool,
     /// "l ≤ c".
     pub moved: fn(l: i128, clock: i128) -> bool,
     /// "c < d".
-    pub ahead: fn(clock: i128, d: i128) -> bool,
+    pub due_ahead: fn(clock: i128, d: i128) -> bool,
     /// "|q| ≤ M".
     pub output: fn(q: i128) -> bool,
     /// "|x−q| < D".
-    pub near: fn(x: i128, q: i128, quantum: i128) -> bool,
+    pub between_levels: fn(x: i128, q: i128, quantum: i128) -> bool,
     /// Whether a slope keeps Rate, from the slope held and the right one.
     pub slope: fn(held: i128, right: i128) -> bool,
     /// Whether a due tick keeps Due, from the tick held and the right one; `None` is never.
@@ -51,14 +51,14 @@ impl Soundness {
                 .contains(&count)
                 .then_some(count)
         },
-        plan: Reading::DOCUMENT,
+        plan: ReaderRules::DOCUMENT,
         machine: Rules::DOCUMENT,
-        unseen: None,
+        skipped_array: None,
         clock: |clock, horizon| clock <= horizon,
         moved: |l, clock| l <= clock,
-        ahead: |clock, d| clock < d,
+        due_ahead: |clock, d| clock < d,
         output: |q| !beyond(q, M as i128),
-        near: |x, q, quantum| (x - q).abs() < quantum,
+        between_levels: |x, q, quantum| (x - q).abs() < quantum,
         slope: |held, right| held == right,
         due: keeps_due,
         input: |value| !beyond(value, M as i128),

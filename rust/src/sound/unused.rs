@@ -59,35 +59,35 @@ impl Array {
     }
 
     /// Whether an unused entry of it is not 0. With a count above its limit all are used.
-    pub fn left_over(self, state: &RawState) -> bool {
+    pub fn unused_not_zero(self, state: &RawState) -> bool {
         let (plan, run) = (&state.plan, &state.run);
         match self {
-            Array::Starts => left_over(&plan.integrators.starts, plan.counts.n),
-            Array::Quanta => left_over(&plan.integrators.quanta, plan.counts.n),
-            Array::Firsts => left_over(&plan.inputs.firsts, plan.counts.m),
-            Array::Kinds => left_over(&plan.nodes.kinds, plan.counts.k),
-            Array::A => left_over(&plan.nodes.a, plan.counts.k),
-            Array::B => left_over(&plan.nodes.b, plan.counts.k),
-            Array::Lows => left_over(&plan.nodes.lows, plan.counts.k),
-            Array::Highs => left_over(&plan.nodes.highs, plan.counts.k),
-            Array::Targets => left_over(&plan.links.targets, plan.counts.links),
-            Array::Sources => left_over(&plan.links.sources, plan.counts.links),
-            Array::Coefficients => left_over(&plan.links.coefficients, plan.counts.links),
-            Array::Ticks => left_over(&plan.commands.ticks, plan.counts.commands),
-            Array::CommandInputs => left_over(&plan.commands.inputs, plan.counts.commands),
-            Array::Values => left_over(&plan.commands.values, plan.counts.commands),
-            Array::X => left_over(&run.x, plan.counts.n),
-            Array::Q => left_over(&run.q, plan.counts.n),
-            Array::S => left_over(&run.s, plan.counts.n),
-            Array::L => left_over(&run.l, plan.counts.n),
-            Array::D => left_over(&run.d, plan.counts.n),
-            Array::Inputs => left_over(&run.inputs, plan.counts.m),
+            Array::Starts => unused_not_zero(&plan.integrators.starts, plan.counts.n),
+            Array::Quanta => unused_not_zero(&plan.integrators.quanta, plan.counts.n),
+            Array::Firsts => unused_not_zero(&plan.inputs.firsts, plan.counts.m),
+            Array::Kinds => unused_not_zero(&plan.nodes.kinds, plan.counts.k),
+            Array::A => unused_not_zero(&plan.nodes.a, plan.counts.k),
+            Array::B => unused_not_zero(&plan.nodes.b, plan.counts.k),
+            Array::Lows => unused_not_zero(&plan.nodes.lows, plan.counts.k),
+            Array::Highs => unused_not_zero(&plan.nodes.highs, plan.counts.k),
+            Array::Targets => unused_not_zero(&plan.links.targets, plan.counts.links),
+            Array::Sources => unused_not_zero(&plan.links.sources, plan.counts.links),
+            Array::Coefficients => unused_not_zero(&plan.links.coefficients, plan.counts.links),
+            Array::Ticks => unused_not_zero(&plan.commands.ticks, plan.counts.commands),
+            Array::CommandInputs => unused_not_zero(&plan.commands.inputs, plan.counts.commands),
+            Array::Values => unused_not_zero(&plan.commands.values, plan.counts.commands),
+            Array::X => unused_not_zero(&run.x, plan.counts.n),
+            Array::Q => unused_not_zero(&run.q, plan.counts.n),
+            Array::S => unused_not_zero(&run.s, plan.counts.n),
+            Array::L => unused_not_zero(&run.l, plan.counts.n),
+            Array::D => unused_not_zero(&run.d, plan.counts.n),
+            Array::Inputs => unused_not_zero(&run.inputs, plan.counts.m),
         }
     }
 }
 
 /// Whether any entry from `used` on is not 0.
-fn left_over<T: PartialEq + Default>(entries: &[T], used: usize) -> bool {
+fn unused_not_zero<T: PartialEq + Default>(entries: &[T], used: usize) -> bool {
     let unused = entries.get(used..).unwrap_or_default();
     unused.iter().any(|entry| *entry != T::default())
 }

@@ -1,7 +1,7 @@
 //! The load of faulty files.
 
 use super::{times, SEEDS, SMALL};
-use crate::common::{every_section, refusal, rng_of, CHECKER};
+use crate::common::{every_section, refusal, rng_of, SIMULATOR};
 use crate::prover::antt::{bytes, case, nat_case, state, STATE};
 use crate::prover::Declaration;
 use cup_check::calls::Simulator;
@@ -65,7 +65,7 @@ fn damaged(rng: &mut Rng, mut file: Vec<u8>) -> Vec<u8> {
 /// What load answers for a file: number, entry and, if it is refused, the idle state.
 fn theorem(name: String, file: &[u8], met: &mut Met) -> Declaration {
     count(met, file);
-    let answer = CHECKER.load(file);
+    let answer = SIMULATOR.load(file);
     let load = format!("loadOf {}", bytes(file));
     let mut cases = vec![
         nat_case(&format!("{load} .number"), answer.number as u64),

@@ -1,7 +1,7 @@
 //! Lists of run calls, chosen so that they take instants by both engines and end in every way.
 
-use super::listed::Listed;
-use super::played::{short_list, Played};
+use super::called_list::{short_list, CalledList};
+use super::list_theorems::ListTheorems;
 use super::{times, SEEDS};
 use crate::common::{loaded, rng_of};
 use crate::prover::Declaration;
@@ -11,7 +11,7 @@ use cup_check::file::encode;
 use cup_check::generate::Family;
 use cup_check::limits::{FINISHED, PAUSED, RANGE, REFUSED_BUDGET, REFUSED_RUN_BUFFER};
 use cup_check::met::Met;
-use cup_check::plain::{Observer, Plain, Taken};
+use cup_check::plain::{Observer, Plain, TakenInstant};
 use cup_check::plan::Plan;
 
 /// The lists to look for: a family of plans, and the status at the end.
@@ -48,17 +48,17 @@ pub fn required() -> Met {
     met
 }
 
-fn count_list(met: &mut Met, plan: &Plan, played: &Played) {
+fn count_list(met: &mut Met, plan: &Plan, called: &CalledList) {
     let observer = Observer::of(plan);
     let mut machine = Plain::start(plan);
     let before = met.clone();
-    for (call, fed) in played.list.iter().zip(played.fed()) {
+    for (call, fed) in called.list.iter().zip(called.fed()) {
         machine.run_observed(u128::from(fed), |taken| {
             let lazily_moved = observer.moved(Engine::Lazy, taken).len();
             count_instant(met, call.engine, taken, lazily_moved, plan);
         });
     }
-    for (ran, _) in &played.answers {
+    for (ran, _) in &called.answers {
         met.count_if(ran.number == REFUSED_BUDGET, "decline 11");
         met.count_if(ran.number == REFUSED_RUN_BUFFER, "decline 12");
     }
@@ -78,7 +78,7 @@ fn instants_of(engine: Engine) -> &'static str {
 }
 
 /// Counts an instant, of whose integrators the lazy engine moves `moved`.
-fn count_instant(met: &mut Met, engine: Engine, taken: &Taken, moved: usize, plan: &Plan) {
+fn count_instant(met: &mut Met, engine: Engine, taken: &TakenInstant, moved: usize, plan: &Plan) {
     let (due, all) = (taken.due.len(), plan.integrators.len());
     met.count("instants");
     met.count_if(due > 0 && !taken.commanded.is_empty(), "due and commanded");
@@ -93,9 +93,9 @@ fn count_instant(met: &mut Met, engine: Engine, taken: &Taken, moved: usize, pla
 pub fn declarations(met: &mut Met) -> Vec<Declaration> {
     let mut all = Vec::new();
     for wanted in WANTED {
-        for (name, plan, played) in lists_of(wanted).take(LISTS * times()) {
-            count_list(met, &plan, &played);
-            all.extend(Listed::new(name, &plan, &played).declarations());
+        for (name, plan, called) in lists_of(wanted).take(LISTS * times()) {
+            count_list(met, &plan, &called);
+            all.extend(ListTheorems::new(name, &plan, &called).declarations());
         }
     }
     all
@@ -104,29 +104,29 @@ pub fn declarations(met: &mut Met) -> Vec<Declaration> {
 /// The declarations of one list, and after them a wrong theorem about it.
 pub fn declarations_with_a_wrong_one(wrong: &str) -> Vec<Declaration> {
     let mut lists = lists_of(WANTED[0]);
-    let (name, plan, played) = lists.next().expect("a list that is wanted");
-    let listed = Listed::new(name, &plan, &played);
-    [listed.declarations(), vec![listed.wrong(wrong)]].concat()
+    let (name, plan, called) = lists.next().expect("a list that is wanted");
+    let theorems = ListTheorems::new(name, &plan, &called);
+    [theorems.declarations(), vec![theorems.wrong(wrong)]].concat()
 }
 
 /// The lists of a wanted sort, with names and plans.
-fn lists_of((family, status): (Family, usize)) -> impl Iterator<Item = (String, Plan, Played)> {
+fn lists_of((family, status): (Family, usize)) -> impl Iterator<Item = (String, Plan, CalledList)> {
     SEEDS.filter_map(move |seed| {
-        let (plan, played) = list_by(seed, family, status)?;
-        Some((format!("{family:?}-{seed}"), plan, played))
+        let (plan, called) = list_by(seed, family, status)?;
+        Some((format!("{family:?}-{seed}"), plan, called))
     })
 }
 
 /// The plan and the list of a seed, if they are wanted.
-fn list_by(seed: u64, family: Family, status: usize) -> Option<(Plan, Played)> {
+fn list_by(seed: u64, family: Family, status: usize) -> Option<(Plan, CalledList)> {
     let mut rng = rng_of(family, seed);
     let plan = family.plan(&mut rng);
     if encode(&plan).len() > LONGEST_LISTED_FILE {
         return None;
     }
     let list = short_list(&mut rng, &plan);
-    let played = Played::of(&loaded(&plan), list);
-    let (last, _) = played.answers.last()?;
-    let enough = played.end().run.clocks.instants >= LEAST_INSTANTS && last.status == status;
-    enough.then_some((plan, played))
+    let called = CalledList::of(&loaded(&plan), list);
+    let (last, _) = called.answers.last()?;
+    let enough = called.end().run.clocks.instants >= LEAST_INSTANTS && last.status == status;
+    enough.then_some((plan, called))
 }

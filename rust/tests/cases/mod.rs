@@ -1,10 +1,10 @@
 //! Random material, and what this simulator says of it, as theorems about the definitions. Each sort
-//! counts what it has met, so that it can fail by being thin.
+//! counts what it has met, so that it fails if it met something too seldom.
 
+mod called_list;
 pub mod files;
-mod listed;
+mod list_theorems;
 pub mod lists;
-mod played;
 pub mod states;
 
 use cup_check::generate::Family;

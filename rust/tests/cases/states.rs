@@ -1,7 +1,7 @@
 //! The soundness of states filled by hand.
 
 use super::{times, SEEDS, SMALL};
-use crate::common::{loaded, rng_of, spoiled_cups, CHECKER};
+use crate::common::{cups_with_an_unused_entry_set, loaded, rng_of, SIMULATOR};
 use crate::prover::antt::{nat_case, state, truth_case};
 use crate::prover::Declaration;
 use cup_check::calls::Simulator;
@@ -45,10 +45,10 @@ type Named = (String, RawState);
 
 /// Sound states, states with one clause broken, and states with a wild number.
 pub fn declarations(met: &mut Met) -> Vec<Declaration> {
-    let states = [sound(), broken(), spoiled(), wild()].concat();
-    let theorem = |(name, entry): Named| {
-        count(met, &entry);
-        let cases = cases(&entry).to_vec();
+    let states = [sound(), broken(), unused_entry_set(), wild()].concat();
+    let theorem = |(name, raw): Named| {
+        count(met, &raw);
+        let cases = cases(&raw).to_vec();
         Declaration::Theorem { name, cases }
     };
     states.into_iter().map(theorem).collect()
@@ -56,15 +56,15 @@ pub fn declarations(met: &mut Met) -> Vec<Declaration> {
 
 /// Whether a state is sound, and the numbers of calls with which there is something else wrong: a
 /// state that is not sound goes before it.
-fn cases(entry: &RawState) -> [String; 4] {
-    let (term, budget) = (state(entry), LARGEST_BUDGET + 1);
+fn cases(raw: &RawState) -> [String; 4] {
+    let (term, budget) = (state(raw), LARGEST_BUDGET + 1);
     let call = format!("record {{ engine = Eager; budget = {budget}; buffer = [] }}");
-    let ran = CHECKER.run(Engine::Eager, entry, budget, &mut []);
-    let positioned = CHECKER.position(entry, INTEGRATORS);
-    let written = CHECKER.write(entry, &mut []);
+    let ran = SIMULATOR.run(Engine::Eager, raw, budget, &mut []);
+    let positioned = SIMULATOR.position(raw, INTEGRATORS);
+    let written = SIMULATOR.write(raw, &mut []);
     let number = |call: String, number: usize| nat_case(&format!("{call} .number"), number as u64);
     [
-        truth_case(&format!("isSound {term}"), is_sound(entry)),
+        truth_case(&format!("isSound {term}"), is_sound(raw)),
         number(format!("answerOf {term} ({call})"), ran.number),
         number(
             format!("positionedOf {term} {INTEGRATORS}"),
@@ -114,10 +114,10 @@ fn broken() -> Vec<Named> {
 }
 
 /// Each of the arrays with an unused entry that is not 0.
-fn spoiled() -> Vec<Named> {
-    let states = spoiled_cups().into_iter().enumerate();
+fn unused_entry_set() -> Vec<Named> {
+    let states = cups_with_an_unused_entry_set().into_iter().enumerate();
     states
-        .map(|(array, (state, _))| (format!("spoiled-{array}"), state))
+        .map(|(array, (state, _))| (format!("unused-{array}"), state))
         .collect()
 }
 

@@ -29,7 +29,7 @@ pub fn every_section() -> Plan {
 }
 
 /// An unused entry of each array of the plan set, for a plan as small as document 01's cup.
-const SPOIL_PLAN: [fn(&mut RawPlan); 14] = [
+const SET_UNUSED_IN_PLAN: [fn(&mut RawPlan); 14] = [
     |plan| plan.integrators.starts[31] = 1,
     |plan| plan.integrators.quanta[2] = 1,
     |plan| plan.inputs.firsts[1] = -1,
@@ -47,7 +47,7 @@ const SPOIL_PLAN: [fn(&mut RawPlan); 14] = [
 ];
 
 /// The same for the running part.
-const SPOIL_RUN: [fn(&mut RawRunning); 6] = [
+const SET_UNUSED_IN_RUN: [fn(&mut RawRunning); 6] = [
     |run| run.x[2] = 1,
     |run| run.q[31] = 1,
     |run| run.s[2] = -1,
@@ -58,16 +58,16 @@ const SPOIL_RUN: [fn(&mut RawRunning); 6] = [
 
 /// Document 01's cup as it is loaded, once for each of the 20 arrays with an unused entry of that
 /// array set, and the clause that this breaks.
-pub fn spoiled_cups() -> Vec<(RawState, Clause)> {
+pub fn cups_with_an_unused_entry_set() -> Vec<(RawState, Clause)> {
     let cup = loaded(&document_cup());
-    let in_plan = SPOIL_PLAN.map(|spoil| {
+    let in_plan = SET_UNUSED_IN_PLAN.map(|set_unused| {
         let mut state = cup.clone();
-        spoil(&mut state.plan);
+        set_unused(&mut state.plan);
         (state, Clause::UnusedInPlan)
     });
-    let in_run = SPOIL_RUN.map(|spoil| {
+    let in_run = SET_UNUSED_IN_RUN.map(|set_unused| {
         let mut state = cup.clone();
-        spoil(&mut state.run);
+        set_unused(&mut state.run);
         (state, Clause::UnusedInRun)
     });
     in_plan.into_iter().chain(in_run).collect()

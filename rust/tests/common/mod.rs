@@ -5,9 +5,9 @@
 
 mod fixtures;
 
-pub use fixtures::{every_section, spoiled_cups};
+pub use fixtures::{cups_with_an_unused_entry_set, every_section};
 
-use cup_check::calls::{Checker, Ran, Simulator};
+use cup_check::calls::{Ran, SecondSimulator, Simulator};
 use cup_check::compare::{loaded_list, Found};
 use cup_check::engine::Engine;
 use cup_check::file::encode;
@@ -20,7 +20,7 @@ use cup_check::raw::RawState;
 use cup_check::words::{signed_at, word_at};
 
 /// The simulator of this package.
-pub const CHECKER: Checker = Checker {
+pub const SIMULATOR: SecondSimulator = SecondSimulator {
     mutant: cup_check::engine::Mutant::None,
 };
 
@@ -29,7 +29,7 @@ pub const MARK: u8 = 0xa5;
 
 /// Refusal number and entry of a file; (0, 0) if it is accepted.
 pub fn refusal(file: &[u8]) -> (usize, usize) {
-    let loaded = CHECKER.load(file);
+    let loaded = SIMULATOR.load(file);
     (loaded.number, loaded.entry)
 }
 
@@ -40,7 +40,7 @@ pub fn refusal_of_plan(plan: &Plan) -> (usize, usize) {
 
 /// The start state of an accepted plan.
 pub fn loaded(plan: &Plan) -> RawState {
-    let loaded = CHECKER.load(&encode(plan));
+    let loaded = SIMULATOR.load(&encode(plan));
     assert_eq!((loaded.number, loaded.entry), (ACCEPTED, 0), "{plan:?}");
     loaded.state
 }
@@ -49,7 +49,7 @@ pub fn loaded(plan: &Plan) -> RawState {
 pub fn run(engine: Engine, state: &RawState, budget: u64) -> (Ran, Vec<u8>) {
     let events = budget as usize * state.plan.counts.events_per_instant();
     let mut buffer = vec![MARK; events * EVENT_BYTES];
-    let ran = CHECKER.run(engine, state, budget, &mut buffer);
+    let ran = SIMULATOR.run(engine, state, budget, &mut buffer);
     assert_eq!(ran.number, ACCEPTED);
     buffer.truncate(ran.written);
     (ran, buffer)

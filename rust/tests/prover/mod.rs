@@ -9,10 +9,10 @@ use std::path::{Path, PathBuf};
 use std::process::Command;
 
 /// The crate with the definitions of what the calls answer: the cases see it, and what it sees.
-const OWNER: &str = "calls";
+const CALLS_CRATE: &str = "calls";
 /// Where the table of the calls' worked examples stands. The cases use what it uses and open what
 /// it opens.
-const TABLE: &str = "crates/workedexamples/specs/Calls.antt";
+const EXAMPLES_FILE: &str = "crates/workedexamples/specs/Calls.antt";
 
 /// A declaration of the module of cases.
 #[derive(Clone, Debug)]
@@ -77,7 +77,7 @@ impl Repository {
     /// and proofs. The cases need no other, and one that is not proved as it stands would be proved here.
     pub fn beside_the_crates() -> Repository {
         let root = Path::new(env!("CARGO_MANIFEST_DIR")).join("..");
-        let table = fs::read_to_string(root.join(TABLE)).expect(TABLE);
+        let table = fs::read_to_string(root.join(EXAMPLES_FILE)).expect(EXAMPLES_FILE);
         let name = format!("cup-check-definitions-{}", std::process::id());
         // The value stands before there is a folder, so that a failure on the way removes it too.
         let repository = Repository {
@@ -86,7 +86,7 @@ impl Repository {
             opened: opened_by(&table),
         };
         let listed = fs::read_to_string(root.join("crates.txt")).expect("crates.txt");
-        let crates = with_those_it_sees(OWNER, &listed);
+        let crates = with_those_it_sees(CALLS_CRATE, &listed);
         repository.clear();
         for name in &crates {
             repository.copy_crate(&root, name);

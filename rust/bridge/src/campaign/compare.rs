@@ -1,7 +1,7 @@
 //! One file: every call of a reader compared with the second simulator's.
 
 use super::counts::{count_rewritten, count_section};
-use super::{Reader, Second};
+use super::{Reader, SecondReader};
 use crate::Answer;
 use cup_check::file::read::place_in;
 use cup_check::file::Refusal;
@@ -19,7 +19,7 @@ type Read = Result<Plan, Refusal>;
 /// `Err` describes the first difference.
 pub fn compare(
     reader: &dyn Reader,
-    second: &Second,
+    second: &SecondReader,
     expected: &Read,
     file: &[u8],
     rng: &mut Rng,
@@ -27,7 +27,7 @@ pub fn compare(
 ) -> Result<(), String> {
     // Other bytes around it show a call that looks beyond the file, or counts on its place.
     let before = rng.below(MARGIN);
-    let surrounded = [&random(rng, before), file, &random(rng, MARGIN)].concat();
+    let surrounded = [&random_bytes(rng, before), file, &random_bytes(rng, MARGIN)].concat();
     let file = &surrounded[before..before + file.len()];
     compare_answers(reader, expected, file)?;
     compare_sections(reader, second, file, rng, met)?;
@@ -55,7 +55,7 @@ fn compare_answers(reader: &dyn Reader, expected: &Read, file: &[u8]) -> Result<
 /// Every section, an empty one too, and numbers above 4 that end in those of sections at some width.
 fn compare_sections(
     reader: &dyn Reader,
-    second: &Second,
+    second: &SecondReader,
     file: &[u8],
     rng: &mut Rng,
     met: &mut Met,
@@ -90,7 +90,7 @@ fn compare_sections(
 /// Buffers of the file's length, longer, one byte short, of any shorter length and empty.
 fn compare_rewriting(
     reader: &dyn Reader,
-    second: &Second,
+    second: &SecondReader,
     expected: &Read,
     file: &[u8],
     rng: &mut Rng,
@@ -101,7 +101,7 @@ fn compare_rewriting(
     let lengths = [file.len(), longer, file.len().saturating_sub(1), shorter, 0];
     for length in lengths {
         // The bytes around the buffer are compared as well.
-        let mut written = random(rng, length + 2 * MARGIN);
+        let mut written = random_bytes(rng, length + 2 * MARGIN);
         let mut right = written.clone();
         let buffer = MARGIN..MARGIN + length;
         let answer = reader.rewrite(file, &mut written[buffer.clone()]);
@@ -123,7 +123,7 @@ fn compare_rewriting(
 }
 
 /// Random bytes, eight of them at a time.
-pub fn random(rng: &mut Rng, length: usize) -> Vec<u8> {
+pub fn random_bytes(rng: &mut Rng, length: usize) -> Vec<u8> {
     let words = (0..length.div_ceil(8)).flat_map(|_| rng.bits().to_le_bytes());
     words.take(length).collect()
 }

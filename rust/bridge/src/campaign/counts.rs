@@ -11,13 +11,13 @@ use cup_check::plan::Plan;
 const ENOUGH: u64 = 100;
 
 /// The longest file has to have so many bytes.
-const LONG: u64 = 100_000;
+const LONGEST_AT_LEAST: u64 = 100_000;
 
 /// What has to be met. The numbers are the second simulator's, with which the reader has to agree.
 pub fn required() -> Met {
     let mut met = Met::default();
     met.require("files", FILES);
-    met.require("bytes of the longest", LONG);
+    met.require("bytes of the longest", LONGEST_AT_LEAST);
     for number in ACCEPTED..=REFUSED_COMMAND {
         met.require(format!("number {number}"), ENOUGH);
         let causes = Cause::ALL.into_iter();
@@ -55,7 +55,7 @@ fn empty_section_of(number: usize) -> String {
 /// Counts a file by what the second simulator says of it.
 pub fn count_file(met: &mut Met, origin: Origin, file: &[u8], read: &Result<Plan, Refusal>) {
     met.count("files");
-    met.raise("bytes of the longest", file.len() as u64);
+    met.keep_highest("bytes of the longest", file.len() as u64);
     met.count(origin_of(origin));
     match read {
         Ok(_) => met.count(format!("number {ACCEPTED}")),

@@ -9,15 +9,15 @@ mod counts;
 pub mod instants;
 pub mod listings;
 pub mod lists;
-mod parties;
+mod sides;
 mod signs;
 pub mod soundness;
 pub mod starts;
-mod switches;
 pub mod tables;
+mod variables;
 pub mod writes;
 
-pub use parties::{Archive, Machine, Reader, Second};
+pub use sides::{Machine, ProvedCalls, Reader, SecondReader};
 pub use signs::{count_signs, SIGNS};
 
 use compare::compare;
@@ -27,16 +27,16 @@ use cup_check::generate::files::{any, next_to};
 use cup_check::generate::{Origin, Rng};
 use cup_check::met::Met;
 use cup_check::samples;
-use switches::{mutant, number};
+use variables::{mutant, number};
 
 /// Files that the gate compares at least.
 pub const FILES: u64 = 200_000;
 
 /// Samples up to this length are followed by every file one step away from them.
-const STEPPED_BYTES: usize = 300;
+const SHORT_SAMPLE_BYTES: usize = 300;
 
 /// How many differences are described before a campaign ends.
-const DESCRIBED: usize = 5;
+const MOST_DIFFERENCES: usize = 5;
 
 /// What to compare on.
 #[derive(Clone, Copy, Debug)]
@@ -67,16 +67,16 @@ impl Outcome {
         }
     }
 
-    /// Keeps a difference if there is one; whether enough are described.
-    fn found(&mut self, difference: Option<String>) -> bool {
+    /// Adds a difference if there is one; answers whether enough are described.
+    fn add_difference(&mut self, difference: Option<String>) -> bool {
         self.differences.extend(difference);
-        self.differences.len() >= DESCRIBED
+        self.differences.len() >= MOST_DIFFERENCES
     }
 }
 
 impl Campaign {
     /// A campaign by the variables CUP_FILES, CUP_SEED and CUP_MUTANT, or the gate's without them.
-    pub fn asked_for() -> Campaign {
+    pub fn by_variables() -> Campaign {
         Campaign {
             files: number("CUP_FILES", FILES),
             seed: number("CUP_SEED", 0),
@@ -86,11 +86,11 @@ impl Campaign {
 
     /// Compares a reader's calls with the second simulator's, until a few differences are found.
     pub fn run(&self, reader: &dyn Reader) -> Outcome {
-        let second = Second::new(self.mutant);
+        let second = SecondReader::new(self.mutant);
         let mut outcome = Outcome::new(required());
         let first = Rng::new(self.seed).bits();
-        let random = (0..).map(|number| random(first.wrapping_add(number)));
-        let files = stepped().chain(random);
+        let random = (0..).map(|number| random_file(first.wrapping_add(number)));
+        let files = next_to_samples().chain(random);
         for (number, (origin, mut rng, file)) in (0..self.files).zip(files) {
             let expected = second.read(&file);
             count_file(&mut outcome.met, origin, &file, &expected);
@@ -109,7 +109,7 @@ impl Campaign {
                     shown(&file)
                 )
             };
-            if outcome.found(found.err().map(described)) {
+            if outcome.add_difference(found.err().map(described)) {
                 break;
             }
         }
@@ -121,9 +121,9 @@ impl Campaign {
 type Drawn = (Origin, Rng, Vec<u8>);
 
 /// The samples, and every file one step away from the short ones. They follow from no seed.
-fn stepped() -> impl Iterator<Item = Drawn> {
+fn next_to_samples() -> impl Iterator<Item = Drawn> {
     let files = samples::all().into_iter().flat_map(|sample| {
-        let mut files = match sample.file.len() <= STEPPED_BYTES {
+        let mut files = match sample.file.len() <= SHORT_SAMPLE_BYTES {
             true => next_to(&sample.file),
             false => Vec::new(),
         };
@@ -134,7 +134,7 @@ fn stepped() -> impl Iterator<Item = Drawn> {
     numbered.map(|(number, file)| (Origin::NextToSample, Rng::new(number), file))
 }
 
-fn random(seed: u64) -> Drawn {
+fn random_file(seed: u64) -> Drawn {
     let mut rng = Rng::new(seed);
     let (origin, file) = any(&mut rng);
     (origin, rng, file)

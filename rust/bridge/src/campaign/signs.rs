@@ -25,6 +25,6 @@ pub fn count_signs(met: &mut Met, state: &RawState) {
 fn is_commanded(state: &RawState, input: usize) -> bool {
     let commands = &state.plan.commands;
     let numbers = 0..state.plan.counts.commands;
-    let mut past = numbers.filter(|&e| commands.ticks[e] <= state.run.clocks.clock);
-    past.any(|e| commands.inputs[e] == input)
+    let mut past = numbers.filter(|&number| commands.ticks[number] <= state.run.clocks.clock);
+    past.any(|number| commands.inputs[number] == input)
 }

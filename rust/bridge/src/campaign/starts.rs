@@ -1,9 +1,9 @@
 //! Load on files of every sort: number, entry, and the start state or the idle state field by field.
 
-use super::switches::number;
+use super::variables::number;
 use super::{Machine, Outcome};
 use crate::state::State;
-use cup_check::calls::{Checker, Loaded, Simulator};
+use cup_check::calls::{Loaded, SecondSimulator, Simulator};
 use cup_check::file::encode;
 use cup_check::generate::{files, Family, Rng};
 use cup_check::limits::{ACCEPTED, NEVER, REFUSED_COMMAND};
@@ -30,7 +30,7 @@ pub struct Campaign {
 
 impl Campaign {
     /// A campaign by the variables CUP_STARTS and CUP_SEED, or the gate's without them.
-    pub fn asked_for() -> Campaign {
+    pub fn by_variables() -> Campaign {
         Campaign {
             files: number("CUP_STARTS", FILES),
             seed: number("CUP_SEED", 0),
@@ -46,12 +46,12 @@ impl Campaign {
         let random = (0..).map(|number| any(number, &mut Rng::new(first.wrapping_add(number))));
         let files = samples.chain(random);
         for (number, (origin, file)) in (0..self.files).zip(files) {
-            let expected = Checker::default().load(&file);
+            let expected = SecondSimulator::default().load(&file);
             count(&mut outcome.met, &origin, &expected);
             let found = compare(machine, &file, &expected);
             let seed = self.seed;
             let described = |what| format!("file {number} of seed {seed} ({origin}): {what}");
-            if outcome.found(found.err().map(described)) {
+            if outcome.add_difference(found.err().map(described)) {
                 break;
             }
         }

@@ -1,9 +1,9 @@
 //! The tables that a run works out once, against document 01's words followed one by one.
 
-use super::switches::number;
+use super::variables::number;
 use super::{Machine, Outcome};
 use crate::state::{State, Tables};
-use cup_check::generate::near::change;
+use cup_check::generate::changes::change_fields;
 use cup_check::generate::{Family, Fill, Rng};
 use cup_check::met::Met;
 use cup_check::plain::values::of_all_sources;
@@ -31,7 +31,7 @@ pub struct Campaign {
 
 impl Campaign {
     /// A campaign by the variables CUP_TABLES and CUP_SEED, or the gate's without them.
-    pub fn asked_for() -> Campaign {
+    pub fn by_variables() -> Campaign {
         Campaign {
             states: number("CUP_TABLES", STATES),
             seed: number("CUP_SEED", 0),
@@ -49,7 +49,7 @@ impl Campaign {
             let found = compare(machine, &mut rng, &plan, &mut outcome.met);
             let seed = self.seed;
             let described = |what| format!("state {number} of seed {seed}: {what}");
-            if outcome.found(found.err().map(described)) {
+            if outcome.add_difference(found.err().map(described)) {
                 break;
             }
         }
@@ -64,7 +64,7 @@ fn compare(machine: &dyn Machine, rng: &mut Rng, plan: &Plan, met: &mut Met) -> 
     same(&machine.tables(&State::from(&state)), &right)?;
     count(met, plan, &right);
     while is_sound(&state) {
-        change(rng, &mut state);
+        change_fields(rng, &mut state);
     }
     met.count(UNSOUND);
     same(&machine.tables(&State::from(&state)), &Tables::NONE)
@@ -77,8 +77,18 @@ fn same(found: &Tables, right: &Tables) -> Result<(), String> {
         let (found, right) = (found[place] as i64, right[place] as i64);
         Some(format!("{what}[{place}] {found:#x}, not {right:#x}"))
     };
-    let words = |entries: &[usize]| entries.iter().map(|&e| e as u64).collect::<Vec<u64>>();
-    let bits = |entries: &[i64]| entries.iter().map(|&e| e as u64).collect::<Vec<u64>>();
+    let words = |entries: &[usize]| {
+        entries
+            .iter()
+            .map(|&entry| entry as u64)
+            .collect::<Vec<u64>>()
+    };
+    let bits = |entries: &[i64]| {
+        entries
+            .iter()
+            .map(|&entry| entry as u64)
+            .collect::<Vec<u64>>()
+    };
     let ranges = wrong("ranges", &words(&found.ranges), &words(&right.ranges));
     let reach = || wrong("reach", &found.reach, &right.reach);
     let values = || wrong("values", &bits(&found.values), &bits(&right.values));

@@ -1,12 +1,12 @@
 //! The plan writer on sound states and on others, into buffers of every length.
 
-use super::compare::random;
-use super::switches::number;
+use super::compare::random_bytes;
+use super::variables::number;
 use super::{Machine, Outcome};
 use crate::state::State;
-use cup_check::calls::{Checker, Simulator};
+use cup_check::calls::{SecondSimulator, Simulator};
 use cup_check::file::encode;
-use cup_check::generate::near::change;
+use cup_check::generate::changes::change_fields;
 use cup_check::generate::{plans, Fill, Rng};
 use cup_check::limits::{ACCEPTED, REFUSED_UNSOUND};
 use cup_check::met::Met;
@@ -32,7 +32,7 @@ pub struct Campaign {
 
 impl Campaign {
     /// A campaign by the variables CUP_WRITES and CUP_SEED, or the gate's without them.
-    pub fn asked_for() -> Campaign {
+    pub fn by_variables() -> Campaign {
         Campaign {
             states: number("CUP_WRITES", STATES),
             seed: number("CUP_SEED", 0),
@@ -48,7 +48,7 @@ impl Campaign {
             let found = compare(machine, &mut rng, &mut outcome.met);
             let seed = self.seed;
             let described = |what| format!("state {number} of seed {seed}: {what}");
-            if outcome.found(found.err().map(described)) {
+            if outcome.add_difference(found.err().map(described)) {
                 break;
             }
         }
@@ -61,7 +61,7 @@ fn compare(machine: &dyn Machine, rng: &mut Rng, met: &mut Met) -> Result<(), St
     let plan = plans::any(rng);
     let mut state = rng.pick(&Fill::ALL).state(rng, &plan);
     if rng.once_in(3) {
-        change(rng, &mut state);
+        change_fields(rng, &mut state);
     }
     let file = encode(&plan).len();
     let longer = file + 1 + rng.below(60);
@@ -81,18 +81,18 @@ fn check_call(
     length: usize,
     met: &mut Met,
 ) -> Result<(), String> {
-    let mut bytes = random(rng, length + 2 * MARGIN);
-    let mut right = bytes.clone();
+    let mut bytes = random_bytes(rng, length + 2 * MARGIN);
+    let mut right_bytes = bytes.clone();
     let buffer = MARGIN..MARGIN + length;
     let handed = State::from(state);
     let written = machine.write(&handed, &mut bytes[buffer.clone()]);
-    let expected = Checker::default().write(state, &mut right[buffer.clone()]);
+    let expected = SecondSimulator::default().write(state, &mut right_bytes[buffer.clone()]);
     let answered = (written.number, written.length);
-    let due = (expected.number, expected.length);
-    if answered != due {
-        return Err(format!("{answered:?} into {length} bytes, not {due:?}"));
+    let right = (expected.number, expected.length);
+    if answered != right {
+        return Err(format!("{answered:?} into {length} bytes, not {right:?}"));
     }
-    if let Some(place) = (0..right.len()).find(|&place| bytes[place] != right[place]) {
+    if let Some(place) = (0..bytes.len()).find(|&place| bytes[place] != right_bytes[place]) {
         let place = place as i64 - MARGIN as i64;
         return Err(format!("byte {place} of {length} is wrong"));
     }

@@ -122,16 +122,16 @@ macro_rules! named {
 
 macro_rules! as_words {
     ($state:expr, $part:ident $(. $name:ident)+) => {
-        &mut $state.$part $(. $name)+ as &mut dyn Fill
+        &mut $state.$part $(. $name)+ as &mut dyn FillField
     };
 }
 
 /// [`Words::fill`] alone, for a list of fields of several types.
-trait Fill {
+trait FillField {
     fn fill_from(&mut self, word: &mut dyn FnMut() -> u64);
 }
 
-impl<T: Words> Fill for T {
+impl<T: Words> FillField for T {
     fn fill_from(&mut self, word: &mut dyn FnMut() -> u64) {
         self.fill(word);
     }

@@ -25,7 +25,7 @@ pub struct Report {
 impl Report {
     /// Runs a campaign and prints what it has met. Fails if it found a difference or met something too
     /// seldom.
-    pub fn judge(&self, run: impl FnOnce() -> Outcome) -> Met {
+    pub fn check(&self, run: impl FnOnce() -> Outcome) -> Met {
         let started = Instant::now();
         let Outcome { met, differences } = run();
         let seconds = started.elapsed().as_secs_f64();

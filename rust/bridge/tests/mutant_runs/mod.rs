@@ -1,8 +1,8 @@
 //! Mutants of the proved runs and of the proved position call: each is wrong in one way, among them those
 //! that document 01 lists as breaking the agreement.
 
-use cup_bridge::campaign::Archive;
-use cup_check::calls::{Checker, Loaded, Positioned, Ran, Simulator, Written};
+use cup_bridge::campaign::ProvedCalls;
+use cup_check::calls::{Loaded, Positioned, Ran, SecondSimulator, Simulator, Written};
 use cup_check::engine::{self, Engine};
 use cup_check::generate::states::moved_to_clock;
 use cup_check::limits::{
@@ -20,7 +20,7 @@ pub enum Mutant {
     FinishedBeforehand,
     RangeBeforehand,
     StateUntouched,
-    StatusOfEntry,
+    StatusBeforeRun,
     RangeWithoutIntegrator,
     IntegratorOfFinished,
     EagerUnderLazy,
@@ -37,14 +37,14 @@ pub enum Mutant {
     InstantsOfBudget,
     ClockRunsOn,
     PositionsMovedToClock,
-    UnmovedStatedLater,
+    UnmovedStoredForTickBefore,
     EventsFromStartEachInstant,
     EventsOfLastInstantLost,
-    WrittenIsRoom,
+    WrittenIsBufferLength,
     LaterBytesCleared,
     OneByteBehindWritten,
-    OneAboveAccepted,
-    MostDeclined,
+    BudgetOneAboveAccepted,
+    LargestBudgetDeclined,
     BudgetIn32Bits,
     OneByteShortAccepted,
     ExactBufferDeclined,
@@ -65,7 +65,7 @@ pub enum Mutant {
     PositionIn32Bits,
     PositionDeclinesLast,
     PositionOfUnsound,
-    NoSuchBeforeUnsound,
+    IntegratorNumberBeforeUnsound,
     PositionLeavesValue,
     PositionMovesState,
 }
@@ -75,7 +75,7 @@ pub const RUNS: [Mutant; 40] = [
     Mutant::FinishedBeforehand,
     Mutant::RangeBeforehand,
     Mutant::StateUntouched,
-    Mutant::StatusOfEntry,
+    Mutant::StatusBeforeRun,
     Mutant::RangeWithoutIntegrator,
     Mutant::IntegratorOfFinished,
     Mutant::EagerUnderLazy,
@@ -92,14 +92,14 @@ pub const RUNS: [Mutant; 40] = [
     Mutant::InstantsOfBudget,
     Mutant::ClockRunsOn,
     Mutant::PositionsMovedToClock,
-    Mutant::UnmovedStatedLater,
+    Mutant::UnmovedStoredForTickBefore,
     Mutant::EventsFromStartEachInstant,
     Mutant::EventsOfLastInstantLost,
-    Mutant::WrittenIsRoom,
+    Mutant::WrittenIsBufferLength,
     Mutant::LaterBytesCleared,
     Mutant::OneByteBehindWritten,
-    Mutant::OneAboveAccepted,
-    Mutant::MostDeclined,
+    Mutant::BudgetOneAboveAccepted,
+    Mutant::LargestBudgetDeclined,
     Mutant::BudgetIn32Bits,
     Mutant::OneByteShortAccepted,
     Mutant::ExactBufferDeclined,
@@ -124,7 +124,7 @@ pub const POSITIONS: [Mutant; 11] = [
     Mutant::PositionIn32Bits,
     Mutant::PositionDeclinesLast,
     Mutant::PositionOfUnsound,
-    Mutant::NoSuchBeforeUnsound,
+    Mutant::IntegratorNumberBeforeUnsound,
     Mutant::PositionLeavesValue,
     Mutant::PositionMovesState,
 ];
@@ -155,7 +155,7 @@ impl MutantCalls {
             Mutant::OneInstantTooMany if budget < fitting.min(LARGEST_BUDGET) => budget + 1,
             Mutant::ZeroBudgetTakesOne if fitting > 0 => budget.max(1),
             Mutant::BudgetIn32Bits => u64::from(budget as u32),
-            Mutant::OneAboveAccepted if budget == LARGEST_BUDGET + 1 && fitting >= budget => {
+            Mutant::BudgetOneAboveAccepted if budget == LARGEST_BUDGET + 1 && fitting >= budget => {
                 LARGEST_BUDGET
             }
             _ => budget,
@@ -169,7 +169,7 @@ impl MutantCalls {
 
     /// The answer of an accepted run as the mutant has it.
     fn mutate_accepted(&self, asked: &Asked, ran: &mut Ran, buffer: &mut [u8]) {
-        let (before, room) = (asked.state, buffer.len());
+        let (before, buffer_length) = (asked.state, buffer.len());
         let n = before.plan.counts.n;
         let taken = ran.state.run.clocks.instants - before.run.clocks.instants;
         let asks = (asked.budget as usize).saturating_mul(asked.instant_bytes());
@@ -177,27 +177,27 @@ impl MutantCalls {
             Mutant::FinishedBeforehand => *ran = beforehand(before, FINISHED),
             Mutant::RangeBeforehand => *ran = beforehand(before, RANGE),
             Mutant::StateUntouched => ran.state = before.clone(),
-            Mutant::StatusOfEntry => {
-                let entry = Archive.run(asked.engine, before, 0, &mut []);
-                (ran.status, ran.integrator) = (entry.status, entry.integrator);
+            Mutant::StatusBeforeRun => {
+                let at_start = ProvedCalls.run(asked.engine, before, 0, &mut []);
+                (ran.status, ran.integrator) = (at_start.status, at_start.integrator);
             }
             Mutant::RangeWithoutIntegrator => ran.integrator = 0,
             Mutant::IntegratorOfFinished if ran.status == FINISHED => ran.integrator = n - 1,
             Mutant::ZeroBudgetIsPaused if asked.budget == 0 => {
                 (ran.status, ran.integrator) = (PAUSED, 0)
             }
-            Mutant::WrittenIsRoom => ran.written = room,
+            Mutant::WrittenIsBufferLength => ran.written = buffer_length,
             Mutant::LaterBytesCleared => buffer[ran.written..].fill(0),
-            Mutant::OneByteBehindWritten if ran.written < room => buffer[ran.written] ^= 1,
+            Mutant::OneByteBehindWritten if ran.written < buffer_length => buffer[ran.written] ^= 1,
             Mutant::EventsOfLastInstantLost if taken > 1 => ran.written -= EVENT_BYTES,
             Mutant::EventsFromStartEachInstant if ran.written > EVENT_BYTES => {
                 let last = ran.written - EVENT_BYTES..ran.written;
                 buffer.copy_within(last, 0);
             }
-            Mutant::MostDeclined if asked.budget == LARGEST_BUDGET => {
+            Mutant::LargestBudgetDeclined if asked.budget == LARGEST_BUDGET => {
                 *ran = decline(before, REFUSED_BUDGET)
             }
-            Mutant::ExactBufferDeclined if asks > 0 && room == asks => {
+            Mutant::ExactBufferDeclined if asks > 0 && buffer_length == asks => {
                 *ran = decline(before, REFUSED_RUN_BUFFER)
             }
             _ => self.mutate_state(asked, &mut ran.state),
@@ -220,8 +220,8 @@ impl MutantCalls {
             Mutant::InstantsOfBudget => clocks.instants = former.instants + asked.budget,
             Mutant::ClockRunsOn if taken < asked.budget => clocks.clock = state.plan.horizon,
             Mutant::PositionsMovedToClock => *state = moved_to_clock(state),
-            // The same lines, stated at the tick before the clock: neither positions nor l = c tell it.
-            Mutant::UnmovedStatedLater if taken > 0 => {
+            // x and l for the tick before the clock: neither positions nor l = c tell it.
+            Mutant::UnmovedStoredForTickBefore if taken > 0 => {
                 let (last, after_l) = (clocks.clock - 1, run.l);
                 for i in (0..n).filter(|&i| after_l[i] <= last) {
                     run.x[i] += run.s[i] * i64::from(last - run.l[i]);
@@ -239,13 +239,13 @@ impl MutantCalls {
         match self.mutant {
             Mutant::OneByteShortAccepted if number == REFUSED_RUN_BUFFER => {
                 let mut longer = [buffer, &[0][..]].concat();
-                *ran = Archive.run(asked.engine, before, asked.budget, &mut longer);
+                *ran = ProvedCalls.run(asked.engine, before, asked.budget, &mut longer);
             }
             Mutant::BufferOfIntegratorsAlone if number == REFUSED_RUN_BUFFER => {
                 let needed = asked.budget as usize * before.plan.counts.n * EVENT_BYTES;
                 if buffer.len() >= needed {
                     let mut longer = vec![0; asked.budget as usize * asked.instant_bytes()];
-                    *ran = Archive.run(asked.engine, before, asked.budget, &mut longer);
+                    *ran = ProvedCalls.run(asked.engine, before, asked.budget, &mut longer);
                 }
             }
             Mutant::ShortBeforeBudget if number == REFUSED_BUDGET => {
@@ -302,25 +302,25 @@ fn decline(state: &RawState, number: usize) -> Ran {
 
 /// The first instant as it should be, the others by an engine that moves only the due.
 fn reached_once(asked: &Asked, buffer: &mut [u8]) -> Ran {
-    let first = Archive.run(asked.engine, asked.state, 1, buffer);
+    let first = ProvedCalls.run(asked.engine, asked.state, 1, buffer);
     let mutant = engine::Mutant::OnlyDueMoved;
     let rest = &mut buffer[first.written..];
-    let ran = Checker { mutant }.run(asked.engine, &first.state, asked.budget - 1, rest);
+    let ran = SecondSimulator { mutant }.run(asked.engine, &first.state, asked.budget - 1, rest);
     let written = first.written + ran.written;
     Ran { written, ..ran }
 }
 
 impl Simulator for MutantCalls {
     fn load(&self, file: &[u8]) -> Loaded {
-        Simulator::load(&Archive, file)
+        Simulator::load(&ProvedCalls, file)
     }
 
     fn section<'f>(&self, file: &'f [u8], number: usize) -> &'f [u8] {
-        Simulator::section(&Archive, file, number)
+        Simulator::section(&ProvedCalls, file, number)
     }
 
     fn write(&self, state: &RawState, buffer: &mut [u8]) -> Written {
-        Simulator::write(&Archive, state, buffer)
+        Simulator::write(&ProvedCalls, state, buffer)
     }
 
     fn run(&self, engine: Engine, state: &RawState, budget: u64, buffer: &mut [u8]) -> Ran {
@@ -331,7 +331,7 @@ impl Simulator for MutantCalls {
         };
         let fitting = (buffer.len() / asked.instant_bytes()) as u64;
         let (engine, budget) = self.instead(engine, budget, fitting);
-        let mut ran = Archive.run(engine, state, budget, buffer);
+        let mut ran = ProvedCalls.run(engine, state, budget, buffer);
         if self.mutant == Mutant::ReachedInFirstInstantOnly && ran.number == ACCEPTED && budget > 1
         {
             return reached_once(&asked, buffer);
@@ -352,21 +352,23 @@ impl Simulator for MutantCalls {
             Mutant::PositionIn32Bits => integrator as u32 as usize,
             _ => integrator,
         };
-        let mut answer = Archive.position(state, asked);
+        let mut answer = ProvedCalls.position(state, asked);
         let (run, n, i) = (&state.run, state.plan.counts.n, integrator);
         match (self.mutant, answer.number) {
             (Mutant::StoredPosition, ACCEPTED) => answer.value = run.x[i],
             (Mutant::PositionAtNextTick, ACCEPTED) => answer.value += run.s[i],
             (Mutant::PositionIsOutput, ACCEPTED) => answer.value = run.q[i],
             (Mutant::PositionOfNeighbour, ACCEPTED) => {
-                answer.value = Archive.position(state, (i + 1) % n).value;
+                answer.value = ProvedCalls.position(state, (i + 1) % n).value;
             }
-            (Mutant::PositionDeclinesLast, ACCEPTED) if i + 1 == n => answer = none_such(state),
+            (Mutant::PositionDeclinesLast, ACCEPTED) if i + 1 == n => {
+                answer = no_such_integrator(state)
+            }
             (Mutant::PositionMovesState, ACCEPTED) => answer.state = moved_to_clock(state),
             (Mutant::PositionOfN, REFUSED_INTEGRATOR_NUMBER) if i == n => answer.number = ACCEPTED,
             (Mutant::PositionLeavesValue, REFUSED_INTEGRATOR_NUMBER) => answer.value = run.x[0],
             (Mutant::PositionOfUnsound, REFUSED_UNSOUND) => answer.number = ACCEPTED,
-            (Mutant::NoSuchBeforeUnsound, REFUSED_UNSOUND) if i >= n => {
+            (Mutant::IntegratorNumberBeforeUnsound, REFUSED_UNSOUND) if i >= n => {
                 answer.number = REFUSED_INTEGRATOR_NUMBER
             }
             _ => (),
@@ -375,7 +377,7 @@ impl Simulator for MutantCalls {
     }
 }
 
-fn none_such(state: &RawState) -> Positioned {
+fn no_such_integrator(state: &RawState) -> Positioned {
     Positioned {
         number: REFUSED_INTEGRATOR_NUMBER,
         value: 0,

@@ -3,13 +3,13 @@
 mod plans;
 mod sides;
 
-use cup_bridge::machine::{echo, sound};
+use cup_bridge::machine;
 use cup_bridge::measure::{repeated, times, warn_of_checks, Repeated};
 use cup_check::engine::Engine;
 use cup_check::file::rules;
 use cup_check::limits::{FINISHED, LARGEST_BUDGET, LISTING_BUDGET, PAUSED};
 use cup_check::plan::Plan;
-use sides::{Course, Start};
+use sides::{Calls, Start};
 use std::hint::black_box;
 
 const NOTES: &str = "\
@@ -51,14 +51,14 @@ fn print_speeds(plans: &[(String, Plan)]) {
     for budget in [LISTING_BUDGET, LARGEST_BUDGET] {
         for (name, plan) in plans {
             let start = start_of(plan);
-            let course = Course {
+            let calls = Calls {
                 budget,
-                calls: (INSTANTS / budget) as usize,
+                count: (INSTANTS / budget) as usize,
             };
-            let end = start.agreed(course);
+            let end = start.agreed_end(calls);
             let clocks = &end.state.run.clocks;
             assert_eq!((end.status, clocks.instants), (PAUSED, INSTANTS));
-            let taken = timed(&start, course);
+            let taken = timed(&start, calls);
             let each = |sum: f64| sum / INSTANTS as f64;
             let (moved, events) = (each(clocks.updates as f64), each(end.events_count() as f64));
             let what = format!(
@@ -77,16 +77,16 @@ fn print_calls(plans: &[(String, Plan)]) {
     print_head("plan, budget; soundness; a state handed over and back");
     for (name, plan) in [&plans[0], &plans[2], &plans[4]] {
         let start = start_of(plan);
-        let [judged, echoed] = times(&[
-            repeated(|| sound(black_box(start.state()))),
-            repeated(|| echo(black_box(start.state()))),
+        let [soundness, echo] = times(&[
+            repeated(|| machine::sound(black_box(start.state()))),
+            repeated(|| machine::echo(black_box(start.state()))),
         ])
         .map(|times| times.best / 1e3);
         for budget in [0, 1, LARGEST_BUDGET] {
-            let course = Course { budget, calls: 1 };
-            start.agreed(course);
-            let taken = timed(&start, course);
-            let what = format!("{name}, {budget}; {judged:.2}; {echoed:.2}");
+            let calls = Calls { budget, count: 1 };
+            start.agreed_end(calls);
+            let taken = timed(&start, calls);
+            let what = format!("{name}, {budget}; {soundness:.2}; {echo:.2}");
             print_line(taken, taken.map(|ns| ns / 1e3), 2, &what);
         }
     }
@@ -99,16 +99,16 @@ fn print_chains() {
     for cups in [1, 8, 32] {
         let start = start_of(&plans::chain(cups));
         let budget = LARGEST_BUDGET;
-        let course = Course { budget, calls: 10 };
-        let end = start.agreed(course);
+        let calls = Calls { budget, count: 10 };
+        let end = start.agreed_end(calls);
         let clocks = &end.state.run.clocks;
         assert_eq!(end.status, FINISHED);
-        let taken = timed(&start, course);
-        let calls = clocks.instants / budget + 1;
+        let taken = timed(&start, calls);
+        let count = clocks.instants / budget + 1;
         let each = |sum: f64| sum / clocks.instants as f64;
         let (moved, events) = (each(clocks.updates as f64), each(end.events_count() as f64));
         let what = format!(
-            "{cups}; {}; {calls}; {moved:.2}, {events:.2}",
+            "{cups}; {}; {count}; {moved:.2}, {events:.2}",
             clocks.instants
         );
         print_line(taken, taken.map(|ns| ns / 1e3), 1, &what);
@@ -120,14 +120,14 @@ fn start_of(plan: &Plan) -> Start {
     Start::of(plan)
 }
 
-/// The best times of a course in ns, by side.
-fn timed(start: &Start, course: Course) -> [f64; 5] {
+/// The best times of these calls in ns, by side.
+fn timed(start: &Start, calls: Calls) -> [f64; 5] {
     let sides: [Repeated; 5] = [
-        repeated(|| start.proved(Engine::Lazy, course, &mut |_| ())),
-        repeated(|| start.proved(Engine::Eager, course, &mut |_| ())),
-        repeated(|| start.called(course, &mut |_| ())),
-        repeated(|| start.kept(course, &mut |_| ())),
-        repeated(|| start.readable(course, &mut |_| ())),
+        repeated(|| start.proved(Engine::Lazy, calls, &mut |_| ())),
+        repeated(|| start.proved(Engine::Eager, calls, &mut |_| ())),
+        repeated(|| start.called(calls, &mut |_| ())),
+        repeated(|| start.kept(calls, &mut |_| ())),
+        repeated(|| start.readable(calls, &mut |_| ())),
     ];
     times(&sides).map(|times| times.best)
 }
@@ -139,9 +139,12 @@ fn print_head(what: &str) {
 }
 
 /// Both ratios of the times, then the figures that are shown of them.
-fn print_line(taken: [f64; 5], shown: [f64; 5], places: usize, what: &str) {
-    let ratios = [taken[0] / taken[2], taken[0] / taken[3]];
+fn print_line(taken: [f64; 5], shown: [f64; 5], decimals: usize, what: &str) {
+    let [lazy, _, called, kept, _] = taken;
+    let ratios = [lazy / called, lazy / kept];
     let ratios = ratios.map(|ratio| format!("{ratio:>8.2}")).concat();
-    let shown = shown.map(|figure| format!("{figure:>10.places$}")).concat();
+    let shown = shown
+        .map(|figure| format!("{figure:>10.decimals$}"))
+        .concat();
     println!("{ratios}{shown}    {what}");
 }

@@ -1,6 +1,8 @@
 //! The plans that are timed. All of them keep going for thousands of instants, but for the chains.
 
-use cup_check::limits::{COMMANDS, GRAINS, INPUTS, INTEGRATORS, LARGEST_HORIZON, LINKS, NODES};
+use cup_check::limits::{
+    COMMANDS, GRAINS_PER_ML, INPUTS, INTEGRATORS, LARGEST_HORIZON, LINKS, NODES,
+};
 use cup_check::plan::Plan;
 
 /// Links of each integrator, which make 256 for 32.
@@ -66,9 +68,9 @@ pub fn pairs() -> Plan {
 pub fn chain(cups: usize) -> Plan {
     let mut plan = Plan::new(3_000);
     for _ in 0..cups {
-        plan = plan.integrator(0, GRAINS);
+        plan = plan.integrator(0, GRAINS_PER_ML);
     }
-    plan = plan.input(100 * GRAINS);
+    plan = plan.input(100 * GRAINS_PER_ML);
     plan = plan.link(0, 0, -900).link(0, cups, 900);
     for cup in 1..cups {
         plan = plan.link(cup, cup - 1, 900).link(cup, cup, -900);
@@ -86,7 +88,7 @@ fn with_cups(mut plan: Plan, n: usize) -> Plan {
 
 fn with_inputs(mut plan: Plan) -> Plan {
     for input in 0..INPUTS as i64 {
-        plan = plan.input(GRAINS / 2 + 900_000 * input);
+        plan = plan.input(GRAINS_PER_ML / 2 + 900_000 * input);
     }
     plan
 }

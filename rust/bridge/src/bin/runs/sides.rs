@@ -2,7 +2,7 @@
 
 use cup_bridge::machine;
 use cup_bridge::state::{Ran, State};
-use cup_check::calls;
+use cup_check::calls as second;
 use cup_check::engine::run::run;
 use cup_check::engine::{Engine, Rules, State as Readable};
 use cup_check::fast::{run_lazy, Fast};
@@ -22,14 +22,14 @@ pub struct Start {
     buffer: RefCell<Vec<u8>>,
 }
 
-/// What is run: calls with this budget, so many of them or fewer if the status is first 1 or 2.
+/// The run calls of a side: so many with this budget, or fewer if the status is first 1 or 2.
 #[derive(Clone, Copy, Debug)]
-pub struct Course {
+pub struct Calls {
     pub budget: u64,
-    pub calls: usize,
+    pub count: usize,
 }
 
-/// Where a course ends.
+/// Where they end.
 #[derive(Clone, Debug, PartialEq, Eq)]
 pub struct End {
     pub status: usize,
@@ -49,54 +49,54 @@ impl End {
 impl Start {
     pub fn of(plan: &Plan) -> Start {
         let raw = RawState::start(plan);
-        let room = LARGEST_BUDGET as usize * plan.events_per_instant() * EVENT_BYTES;
+        let longest = LARGEST_BUDGET as usize * plan.events_per_instant() * EVENT_BYTES;
         Start {
             proved: State::from(&raw),
             kept: Fast::prepared(&raw),
             readable: Readable::start(plan.clone()),
-            buffer: RefCell::new(vec![0; room]),
+            buffer: RefCell::new(vec![0; longest]),
             raw,
         }
     }
 
     /// The proved calls; every one is given a copy of a state and answers one.
-    pub fn proved(&self, engine: Engine, course: Course, events: Events) -> Box<Ran> {
+    pub fn proved(&self, engine: Engine, calls: Calls, events: Events) -> Box<Ran> {
         let buffer = &mut *self.buffer.borrow_mut();
-        let mut ran = machine::run(engine, black_box(&self.proved), course.budget, buffer);
+        let mut ran = machine::run(engine, black_box(&self.proved), calls.budget, buffer);
         events(&buffer[..ran.written]);
-        for _ in 1..course.calls {
+        for _ in 1..calls.count {
             if ran.status != PAUSED {
                 break;
             }
-            ran = machine::run(engine, &ran.state, course.budget, buffer);
+            ran = machine::run(engine, &ran.state, calls.budget, buffer);
             events(&buffer[..ran.written]);
         }
         ran
     }
 
     /// The hand-written engine in the form of a call.
-    pub fn called(&self, course: Course, events: Events) -> Box<calls::Ran> {
+    pub fn called(&self, calls: Calls, events: Events) -> Box<second::Ran> {
         let buffer = &mut *self.buffer.borrow_mut();
         let state = black_box(&self.raw).clone();
-        let mut ran = Box::new(run_lazy(state, course.budget, buffer));
+        let mut ran = Box::new(run_lazy(state, calls.budget, buffer));
         events(&buffer[..ran.written]);
-        for _ in 1..course.calls {
+        for _ in 1..calls.count {
             if ran.status != PAUSED {
                 break;
             }
-            ran = Box::new(run_lazy(ran.state.clone(), course.budget, buffer));
+            ran = Box::new(run_lazy(ran.state.clone(), calls.budget, buffer));
             events(&buffer[..ran.written]);
         }
         ran
     }
 
     /// The hand-written engine with its tables kept.
-    pub fn kept(&self, course: Course, events: Events) -> (Status, Fast) {
+    pub fn kept(&self, calls: Calls, events: Events) -> (Status, Fast) {
         let buffer = &mut *self.buffer.borrow_mut();
         let mut fast = black_box(&self.kept).clone();
         let mut status = Status::Paused;
-        for _ in 0..course.calls {
-            let outcome = fast.run(course.budget, buffer);
+        for _ in 0..calls.count {
+            let outcome = fast.run(calls.budget, buffer);
             events(&buffer[..outcome.written]);
             status = outcome.status;
             if status != Status::Paused {
@@ -107,12 +107,12 @@ impl Start {
     }
 
     /// The lazy engine that is written to be read, with its state kept.
-    pub fn readable(&self, course: Course, events: Events) -> (Status, Readable) {
+    pub fn readable(&self, calls: Calls, events: Events) -> (Status, Readable) {
         let buffer = &mut *self.buffer.borrow_mut();
         let mut state = black_box(&self.readable).clone();
         let mut status = Status::Paused;
-        for _ in 0..course.calls {
-            let (budget, rules) = (course.budget, &Rules::DOCUMENT);
+        for _ in 0..calls.count {
+            let (budget, rules) = (calls.budget, &Rules::DOCUMENT);
             let outcome = run(&mut state, Engine::Lazy, budget, buffer, rules);
             events(&buffer[..outcome.written]);
             status = outcome.status;
@@ -125,31 +125,37 @@ impl Start {
 
     /// Where all sides end; panics if they do not agree. The eager end has an l, an x and updates
     /// of its own.
-    pub fn agreed(&self, course: Course) -> End {
+    pub fn agreed_end(&self, calls: Calls) -> End {
         let lazy = collected(|events| {
-            let ran = self.proved(Engine::Lazy, course, events);
+            let ran = self.proved(Engine::Lazy, calls, events);
             assert_eq!(ran.number, ACCEPTED);
             (ran.status, RawState::from(&ran.state))
         });
         let eager = collected(|events| {
-            let ran = self.proved(Engine::Eager, course, events);
+            let ran = self.proved(Engine::Eager, calls, events);
             (ran.status, as_lazy(&ran.state, &lazy.state))
         });
         let called = collected(|events| {
-            let ran = self.called(course, events);
+            let ran = self.called(calls, events);
             (ran.status, ran.state)
         });
         let kept = collected(|events| {
-            let (status, fast) = self.kept(course, events);
-            let (plan, run) = (self.raw.plan.clone(), fast.figures());
+            let (status, fast) = self.kept(calls, events);
+            let (plan, run) = (self.raw.plan.clone(), fast.running());
             (status.number(), RawState { plan, run })
         });
         let readable = collected(|events| {
-            let (status, state) = self.readable(course, events);
+            let (status, state) = self.readable(calls, events);
             (status.number(), RawState::from(&state))
         });
-        for (side, end) in [eager, called, kept, readable].iter().enumerate() {
-            assert!(*end == lazy, "side {side} ends elsewhere");
+        let others = [
+            ("eager", eager),
+            ("called", called),
+            ("kept", kept),
+            ("readable", readable),
+        ];
+        for (side, end) in others {
+            assert!(end == lazy, "side {side} ends elsewhere");
         }
         lazy
     }
@@ -160,7 +166,7 @@ impl Start {
     }
 }
 
-/// A course with the events of all its calls.
+/// Where a side ends, with the events of all its calls.
 fn collected(side: impl FnOnce(Events) -> (usize, RawState)) -> End {
     let mut joined = Vec::new();
     let (status, state) = side(&mut |events| joined.extend_from_slice(events));

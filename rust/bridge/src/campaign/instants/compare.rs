@@ -1,18 +1,18 @@
 //! One state: its next instant by both engines, and what is declined.
 
-use super::super::compare::random;
+use super::super::compare::random_bytes;
 use super::super::Machine;
 use super::counts::{count_answer, count_instant};
 use crate::state::{Ran, State};
-use cup_check::calls::{Checker, Simulator};
+use cup_check::calls::{SecondSimulator, Simulator};
 use cup_check::compare::{holds, moment_of, same, same_as_plain, Found};
 use cup_check::engine::{Engine, Mutant};
-use cup_check::generate::near::change;
+use cup_check::generate::changes::change_fields;
 use cup_check::generate::states::moved_to_clock;
 use cup_check::generate::Rng;
 use cup_check::limits::{ACCEPTED, EVENT_BYTES, REFUSED_RUN_BUFFER, REFUSED_UNSOUND};
 use cup_check::met::Met;
-use cup_check::plain::{Observer, Plain, Taken};
+use cup_check::plain::{Observer, Plain, TakenInstant};
 use cup_check::plan::Plan;
 use cup_check::raw::{RawRunning, RawState};
 use cup_check::sound::is_sound;
@@ -21,10 +21,10 @@ use cup_check::sound::is_sound;
 const MARGIN: usize = 16;
 
 /// Once in so many states, the state is also made unsound.
-const SPOILED: usize = 8;
+const UNSOUND_ONCE_IN: usize = 8;
 
 /// Once in so many states, a buffer of any shorter length is tried as well.
-const ANY_SHORTER: usize = 4;
+const ANY_SHORTER_ONCE_IN: usize = 4;
 
 /// Who is compared on what.
 pub struct Comparison<'a> {
@@ -37,7 +37,7 @@ pub struct Comparison<'a> {
 /// The plain machine after its next instant, and that instant if there was one.
 struct Next<'a> {
     plain: Plain<'a>,
-    taken: Option<Taken>,
+    taken: Option<TakenInstant>,
 }
 
 impl<'a> Comparison<'a> {
@@ -50,7 +50,7 @@ impl<'a> Comparison<'a> {
             self.check_accepted(rng, met, engine, &next).map_err(at)?;
             self.check_short(rng, met, engine, needed).map_err(at)?;
         }
-        if rng.once_in(SPOILED) {
+        if rng.once_in(UNSOUND_ONCE_IN) {
             self.check_unsound(rng, met, needed)?;
         }
         Ok(())
@@ -77,7 +77,7 @@ impl<'a> Comparison<'a> {
 
     /// Buffers one byte shorter than is asked, and sometimes of any shorter length.
     fn check_short(&self, rng: &mut Rng, met: &mut Met, engine: Engine, needed: usize) -> Found {
-        let any = rng.once_in(ANY_SHORTER).then(|| rng.below(needed));
+        let any = rng.once_in(ANY_SHORTER_ONCE_IN).then(|| rng.below(needed));
         for length in any.into_iter().chain([needed - 1]) {
             let (ran, _) = self.check_call(rng, engine, self.state, length)?;
             same("number of a short buffer", ran.number, REFUSED_RUN_BUFFER)?;
@@ -90,7 +90,7 @@ impl<'a> Comparison<'a> {
     fn check_unsound(&self, rng: &mut Rng, met: &mut Met, needed: usize) -> Found {
         let mut state = self.state.clone();
         while is_sound(&state) {
-            change(rng, &mut state);
+            change_fields(rng, &mut state);
         }
         for (engine, length) in [(Engine::Lazy, needed), (Engine::Eager, 0)] {
             let (ran, _) = self.check_call(rng, engine, &state, length)?;
@@ -109,14 +109,14 @@ impl<'a> Comparison<'a> {
         state: &RawState,
         length: usize,
     ) -> Result<(Box<Ran>, Vec<u8>), String> {
-        let mut bytes = random(rng, length + 2 * MARGIN);
+        let mut bytes = random_bytes(rng, length + 2 * MARGIN);
         let mut right = bytes.clone();
         let buffer = MARGIN..MARGIN + length;
         let handed = State::from(state);
         let ran = self
             .machine
             .instant(engine, &handed, &mut bytes[buffer.clone()]);
-        let second = Checker {
+        let second = SecondSimulator {
             mutant: self.mutant,
         };
         let expected = second.run(engine, state, 1, &mut right[buffer]);
@@ -167,7 +167,13 @@ impl<'a> Comparison<'a> {
 
     /// Who is moved has l = c, and its stored position is the one at the clock; who is not keeps
     /// all figures.
-    fn check_moved(&self, met: &mut Met, engine: Engine, taken: &Taken, after: &RawState) -> Found {
+    fn check_moved(
+        &self,
+        met: &mut Met,
+        engine: Engine,
+        taken: &TakenInstant,
+        after: &RawState,
+    ) -> Found {
         let moved = Observer::of(self.plan).moved(engine, taken);
         let (before, after) = (&self.state.run, &after.run);
         let grown = after.clocks.updates.wrapping_sub(before.clocks.updates);

@@ -7,7 +7,7 @@ use cup_check::engine::Engine;
 use cup_check::generate::Fill;
 use cup_check::limits::INTEGRATORS;
 use cup_check::met::Met;
-use cup_check::plain::{Plain, Taken};
+use cup_check::plain::{Plain, TakenInstant};
 use cup_check::plan::Plan;
 use cup_check::raw::RawState;
 use cup_check::status::Status;
@@ -91,7 +91,13 @@ pub fn count_answer(met: &mut Met, engine: Engine, before: &RawState, plain: &Pl
 }
 
 /// Counts an instant that moves so many integrators.
-pub fn count_instant(met: &mut Met, taken: &Taken, moved: usize, engine: Engine, plan: &Plan) {
+pub fn count_instant(
+    met: &mut Met,
+    taken: &TakenInstant,
+    moved: usize,
+    engine: Engine,
+    plan: &Plan,
+) {
     met.count(taken_by(engine));
     met.count(COMMANDS_MET[taken.commanded.len().min(2)]);
     if engine == Engine::Eager {

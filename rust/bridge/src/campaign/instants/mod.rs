@@ -6,7 +6,7 @@
 mod compare;
 mod counts;
 
-use super::switches::{mutant, number};
+use super::variables::{mutant, number};
 use super::{Machine, Outcome};
 use compare::Comparison;
 use counts::{count_state, required};
@@ -32,7 +32,7 @@ pub struct Campaign {
 
 impl Campaign {
     /// A campaign by the variables CUP_INSTANTS, CUP_SEED and CUP_MUTANT, or the gate's without them.
-    pub fn asked_for() -> Campaign {
+    pub fn by_variables() -> Campaign {
         Campaign {
             states: number("CUP_INSTANTS", STATES),
             seed: number("CUP_SEED", 0),
@@ -65,7 +65,7 @@ impl Campaign {
                     let state = format!("state {place} of plan {number} of seed {}", self.seed);
                     format!("{state} ({family:?}, {fill:?}), {difference}")
                 };
-                if outcome.found(found.err().map(described)) {
+                if outcome.add_difference(found.err().map(described)) {
                     return outcome;
                 }
             }

@@ -1,6 +1,6 @@
 //! What the campaign over listings counts, and how often it has to be met.
 
-use super::{Input, Sort, INPUTS_COMPARED};
+use super::{Input, Origin, INPUTS_COMPARED};
 use cup_check::limits::{
     FINISHED, HEADER_BYTES, LISTING_BUDGET, LISTING_INPUT, LONGEST_FILE, RANGE, REFUSED_COMMAND,
     REFUSED_SHORT,
@@ -31,7 +31,7 @@ pub fn required() -> Met {
     let mut met = Met::default();
     met.require("inputs", INPUTS_COMPARED);
     met.require_each(["lines", "bytes of the longest listing"], 1);
-    met.require_each(Sort::ALL.map(|sort| format!("{sort:?}")), ENOUGH);
+    met.require_each(Origin::ALL.map(|origin| format!("{origin:?}")), ENOUGH);
     let refused = (REFUSED_SHORT..=REFUSED_COMMAND).map(|number| format!("refused {number}"));
     met.require_each(refused, ENOUGH);
     let ended = (FINISHED..=RANGE).map(|status| format!("end {status}"));
@@ -43,9 +43,9 @@ pub fn required() -> Met {
 /// Counts an input by what the second simulator lists.
 pub fn count_input(met: &mut Met, input: &Input, listing: &str) {
     met.count("inputs");
-    met.count(format!("{:?}", input.sort));
+    met.count(format!("{:?}", input.origin));
     met.add("lines", listing.lines().count() as u64);
-    met.raise("bytes of the longest listing", listing.len() as u64);
+    met.keep_highest("bytes of the longest listing", listing.len() as u64);
     // "end" or "refused", and a number behind it.
     let last: Vec<&str> = listing.lines().last().unwrap_or("").split(' ').collect();
     met.count(last[..2].join(" "));

@@ -1,9 +1,9 @@
 //! Inputs of the listing program.
 
-use super::super::compare::random;
-use cup_check::calls::{Checker, Simulator};
+use super::super::compare::random_bytes;
+use cup_check::calls::{SecondSimulator, Simulator};
 use cup_check::engine::Engine;
-use cup_check::file::layout::{assemble, section_bytes};
+use cup_check::file::encoding::{assemble, section_bytes};
 use cup_check::file::{encode, read};
 use cup_check::generate::{files, Family, Rng};
 use cup_check::limits::{
@@ -15,7 +15,7 @@ use cup_check::raw::RawState;
 
 /// How an input comes about.
 #[derive(Clone, Copy, Debug, PartialEq, Eq, PartialOrd, Ord)]
-pub enum Sort {
+pub enum Origin {
     /// An accepted plan of each family in turn.
     Plan,
     /// A file of any sort of [`cup_check::generate::files`].
@@ -25,17 +25,17 @@ pub enum Sort {
     /// A plan with bytes behind it.
     WithMore,
     /// Pairs that describe more bytes than are read: 5,004 of them.
-    BeyondReading,
+    LongerThanRead,
 }
 
-impl Sort {
-    /// Every sort.
-    pub const ALL: [Sort; 5] = [
-        Sort::Plan,
-        Sort::File,
-        Sort::Beginning,
-        Sort::WithMore,
-        Sort::BeyondReading,
+impl Origin {
+    /// Every origin.
+    pub const ALL: [Origin; 5] = [
+        Origin::Plan,
+        Origin::File,
+        Origin::Beginning,
+        Origin::WithMore,
+        Origin::LongerThanRead,
     ];
 }
 
@@ -43,7 +43,7 @@ impl Sort {
 #[derive(Clone, Debug)]
 pub struct Input {
     /// How it came about.
-    pub sort: Sort,
+    pub origin: Origin,
     /// The bytes.
     pub bytes: Vec<u8>,
     /// How often something is written.
@@ -65,33 +65,33 @@ const LENGTHS: [u64; 9] = [
 ];
 
 /// Once in so many, an input comes in pieces.
-const IN_PIECES: usize = 20;
+const PIECES_ONCE_IN: usize = 20;
 
 impl Input {
     /// Half of them accepted plans, and of the other half most files of any sort.
     pub fn drawn(rng: &mut Rng, number: u64) -> Input {
-        let sort = match number % 10 {
-            0 | 2 | 4 | 6 | 8 => Sort::Plan,
-            1 => Sort::Beginning,
-            3 => Sort::WithMore,
-            5 if rng.once_in(3) => Sort::BeyondReading,
-            _ => Sort::File,
+        let origin = match number % 10 {
+            0 | 2 | 4 | 6 | 8 => Origin::Plan,
+            1 => Origin::Beginning,
+            3 => Origin::WithMore,
+            5 if rng.once_in(3) => Origin::LongerThanRead,
+            _ => Origin::File,
         };
         let family = Family::ALL[number as usize / 2 % Family::ALL.len()];
-        let bytes = match sort {
-            Sort::Plan => plan_file(rng, family),
-            Sort::File => any_file(rng),
-            Sort::Beginning => beginning(rng, family),
-            Sort::WithMore => with_more(rng, family),
-            Sort::BeyondReading => beyond_reading(rng),
+        let bytes = match origin {
+            Origin::Plan => plan_file(rng, family),
+            Origin::File => any_file(rng),
+            Origin::Beginning => beginning(rng, family),
+            Origin::WithMore => with_more(rng, family),
+            Origin::LongerThanRead => longer_than_read(rng),
         };
-        let pieces = if rng.once_in(IN_PIECES) {
+        let pieces = if rng.once_in(PIECES_ONCE_IN) {
             2 + rng.below(4)
         } else {
             1
         };
         Input {
-            sort,
+            origin,
             bytes,
             pieces,
         }
@@ -109,7 +109,7 @@ fn bounded(rng: &mut Rng, plan: Plan) -> Plan {
     let most = rng.pick(&LENGTHS);
     let mut buffer = vec![0; most as usize * plan.events_per_instant() * EVENT_BYTES];
     let start = RawState::start(&plan);
-    let ran = Checker::default().run(Engine::Lazy, &start, most, &mut buffer);
+    let ran = SecondSimulator::default().run(Engine::Lazy, &start, most, &mut buffer);
     if ran.status != PAUSED {
         return plan;
     }
@@ -148,11 +148,11 @@ fn with_more(rng: &mut Rng, family: Family) -> Vec<u8> {
     let file = plan_file(rng, family);
     let room = LISTING_INPUT.saturating_sub(file.len());
     let more = rng.pick(&[1, 2, room, room + 1, 5_000, 100_000]);
-    [file, random(rng, more)].concat()
+    [file, random_bytes(rng, more)].concat()
 }
 
 /// Read whole, these would be refused by 3 and not by 2.
-fn beyond_reading(rng: &mut Rng) -> Vec<u8> {
+fn longer_than_read(rng: &mut Rng) -> Vec<u8> {
     let plan = Family::Full.plan(rng);
     let mut sections = section_bytes(&plan);
     sections[Section::Commands as usize].resize(COMMANDS * COMMAND_BYTES + 512, 0);

@@ -4,10 +4,10 @@ mod counts;
 mod inputs;
 mod program;
 
-pub use inputs::{Input, Sort};
+pub use inputs::{Input, Origin};
 pub use program::{Lister, Program};
 
-use super::switches::number;
+use super::variables::number;
 use super::{shown, Outcome};
 use counts::{count_input, required};
 use cup_check::generate::Rng;
@@ -27,7 +27,7 @@ pub struct Campaign {
 
 impl Campaign {
     /// A campaign by the variables CUP_LISTINGS and CUP_SEED, or the gate's without them.
-    pub fn asked_for() -> Campaign {
+    pub fn by_variables() -> Campaign {
         Campaign {
             inputs: number("CUP_LISTINGS", INPUTS_COMPARED),
             seed: number("CUP_SEED", 0),
@@ -44,10 +44,10 @@ impl Campaign {
             count_input(&mut outcome.met, &input, &expected);
             let found = compare(lister, &input, expected.as_bytes());
             let described = |what| {
-                let origin = format!("input {number} of seed {} ({:?}", self.seed, input.sort);
+                let origin = format!("input {number} of seed {} ({:?}", self.seed, input.origin);
                 format!("{origin}, {}): {what}", shown(&input.bytes))
             };
-            if outcome.found(found.err().map(described)) {
+            if outcome.add_difference(found.err().map(described)) {
                 break;
             }
         }

@@ -8,9 +8,9 @@ use std::thread;
 use std::time::Duration;
 
 /// What a program prints that has not ended by then is not read further.
-const MOST: u64 = 1 << 24;
+const MOST_BYTES: u64 = 1 << 24;
 /// A program that has not ended by then is stopped.
-const LONGEST: Duration = Duration::from_secs(60);
+const TIME_LIMIT: Duration = Duration::from_secs(60);
 
 /// Anything that lists, so that the comparison serves the program and mutants of the listing alike.
 pub trait Lister {
@@ -40,7 +40,7 @@ impl Lister for Program {
             scope.spawn(|| feed(given, input, pieces));
             // Nobody waits for it any more once the program is stopped.
             scope.spawn(move || sender.send(read_all(output)).unwrap_or_default());
-            finish(&mut child, receiver.recv_timeout(LONGEST).ok().flatten())
+            finish(&mut child, receiver.recv_timeout(TIME_LIMIT).ok().flatten())
         })
     }
 }
@@ -63,8 +63,8 @@ fn feed(mut given: ChildStdin, input: &[u8], pieces: usize) {
 /// All that is printed, unless it is too much.
 fn read_all(output: ChildStdout) -> Option<Vec<u8>> {
     let mut printed = Vec::new();
-    let read = output.take(MOST).read_to_end(&mut printed);
-    (read.is_ok() && (printed.len() as u64) < MOST).then_some(printed)
+    let read = output.take(MOST_BYTES).read_to_end(&mut printed);
+    (read.is_ok() && (printed.len() as u64) < MOST_BYTES).then_some(printed)
 }
 
 /// Waits for the end of a program that has closed its output; stops any other.

@@ -18,7 +18,7 @@ const ENOUGH: u64 = 300;
 
 /// How many instants there have to be in all, and in the longest list.
 const ENOUGH_INSTANTS: u64 = 1_000_000;
-const LONG: u64 = 10_000;
+const LONGEST_LIST_AT_LEAST: u64 = 10_000;
 
 /// What the comparison counts over lists, of which each has to be met often enough.
 const COMPARED: [&str; 15] = [
@@ -44,7 +44,7 @@ pub fn required() -> Met {
     let mut met = Met::default();
     met.require_each(["lists", "run calls"], LISTS);
     met.require("instants", ENOUGH_INSTANTS);
-    met.require("instants in the longest list", LONG);
+    met.require("instants in the longest list", LONGEST_LIST_AT_LEAST);
     met.require_each(Family::ALL.map(family_of), ENOUGH);
     met.require_each(Fill::ALL.map(|fill| start_of(Some(fill))), ENOUGH);
     met.require(start_of(None), ENOUGH);
@@ -166,7 +166,7 @@ const BUDGETS: [&str; 9] = [
     "budget 2^64 − 1",
 ];
 
-fn class_of(budget: u64) -> usize {
+fn budget_class(budget: u64) -> usize {
     const ONE_ABOVE: u64 = LARGEST_BUDGET + 1;
     match budget {
         0 => 0,
@@ -193,9 +193,9 @@ const BUFFERS: [&str; 7] = [
 ];
 
 /// The class of a call's buffer; none for a budget above 1,024 whose buffer would not do for it.
-fn buffer_of(call: &Call, state: &RawState) -> Option<usize> {
-    let room = state.plan.counts.events_per_instant() * EVENT_BYTES;
-    let asked = u128::from(call.budget) * room as u128;
+fn buffer_class(call: &Call, state: &RawState) -> Option<usize> {
+    let instant_bytes = state.plan.counts.events_per_instant() * EVENT_BYTES;
+    let asked = u128::from(call.budget) * instant_bytes as u128;
     let length = call.buffer as u128;
     if call.budget > LARGEST_BUDGET {
         return (length >= asked).then_some(6);
@@ -214,8 +214,8 @@ fn buffer_of(call: &Call, state: &RawState) -> Option<usize> {
 pub fn count_call(met: &mut Met, called: &Called) {
     let call = called.call;
     met.count("run calls");
-    met.count(BUDGETS[class_of(call.budget)]);
-    if let Some(class) = buffer_of(call, called.before) {
+    met.count(BUDGETS[budget_class(call.budget)]);
+    if let Some(class) = buffer_class(call, called.before) {
         met.count(BUFFERS[class]);
     }
     let at_start = called.before.run.clocks.clock == 0 && called.instants == 0;

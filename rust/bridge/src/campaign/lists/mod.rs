@@ -4,16 +4,16 @@
 //! Each list is compared with the plain machine by [`cup_check::compare`], and each of its calls with
 //! the second simulator's engines. Between its calls other states are handed in.
 
-mod beside;
+mod between;
 mod counts;
 
 use super::signs::count_signs;
-use super::switches::{mutant, number};
+use super::variables::{mutant, number};
 use super::Outcome;
-use beside::Between;
+use between::BetweenCalls;
 use counts::{count_engines, count_plan, required};
-use cup_check::calls::{Checker, Simulator};
-use cup_check::compare::{continued_list_beside, loaded_list_beside, Found};
+use cup_check::calls::{SecondSimulator, Simulator};
+use cup_check::compare::{continued_list_with_hook, loaded_list_with_hook, Found};
 use cup_check::engine::Mutant;
 use cup_check::generate::{long_list, run_list, Family, Fill, Rng};
 use cup_check::met::Met;
@@ -22,10 +22,10 @@ use cup_check::met::Met;
 pub const LISTS: u64 = 20_000;
 
 /// One list in so many goes on from a state that is filled by hand.
-const CONTINUED: usize = 4;
+const CONTINUED_ONCE_IN: usize = 4;
 
 /// One list in so many of the family that runs longest is a long one.
-const LONG: usize = 140;
+const LONG_ONCE_IN: usize = 140;
 
 /// What to compare on.
 #[derive(Clone, Copy, Debug)]
@@ -40,7 +40,7 @@ pub struct Campaign {
 
 impl Campaign {
     /// A campaign by the variables CUP_LISTS, CUP_SEED and CUP_MUTANT, or the gate's without them.
-    pub fn asked_for() -> Campaign {
+    pub fn by_variables() -> Campaign {
         Campaign {
             lists: number("CUP_LISTS", LISTS),
             seed: number("CUP_SEED", 0),
@@ -62,7 +62,7 @@ impl Campaign {
                     drawn.family, drawn.fill
                 )
             };
-            if outcome.found(found.err().map(described)) {
+            if outcome.add_difference(found.err().map(described)) {
                 break;
             }
         }
@@ -79,19 +79,19 @@ impl Campaign {
             false => run_list(&mut rng, plan.events_per_instant()),
         };
         count_plan(met, drawn.family, drawn.fill, &plan);
-        let mut between = Between {
+        let mut between = BetweenCalls {
             simulator,
-            second: Checker {
+            second: SecondSimulator {
                 mutant: self.mutant,
             },
             rng,
             engines: Vec::new(),
         };
         let found = match start {
-            None => loaded_list_beside(simulator, &plan, &list, met, &mut between),
+            None => loaded_list_with_hook(simulator, &plan, &list, met, &mut between),
             Some(state) => {
                 count_signs(met, &state);
-                continued_list_beside(simulator, &plan, &state, &list, met, &mut between)
+                continued_list_with_hook(simulator, &plan, &state, &list, met, &mut between)
             }
         };
         count_engines(met, &between.engines);
@@ -113,12 +113,12 @@ impl Drawn {
         let place = number as usize;
         let family = Family::ALL[place % Family::ALL.len()];
         let round = place / Family::ALL.len();
-        let filled = round % CONTINUED == CONTINUED - 1;
+        let filled = round % CONTINUED_ONCE_IN == CONTINUED_ONCE_IN - 1;
         Drawn {
             seed: first.wrapping_add(number),
             family,
-            fill: filled.then(|| Fill::ALL[round / CONTINUED % Fill::ALL.len()]),
-            long: family == Family::Swinging && round % LONG == LONG / 2,
+            fill: filled.then(|| Fill::ALL[round / CONTINUED_ONCE_IN % Fill::ALL.len()]),
+            long: family == Family::Swinging && round % LONG_ONCE_IN == LONG_ONCE_IN / 2,
         }
     }
 }

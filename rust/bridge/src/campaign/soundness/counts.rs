@@ -24,7 +24,7 @@ const ENOUGH_CHANGED: u64 = 1_000_000;
 
 /// A clause of "A sound state", taken apart where it asks for several things.
 #[derive(Clone, Copy, Debug, PartialEq, Eq, PartialOrd, Ord)]
-pub enum Part {
+pub enum ClausePart {
     /// Fewer entries than a section has to have.
     TooFew(Section),
     /// More entries than a section may have.
@@ -57,75 +57,76 @@ pub enum Part {
     Updates,
 }
 
-impl Part {
+impl ClausePart {
     /// Every part.
-    pub fn all() -> Vec<Part> {
-        let counts = Section::ALL.map(Part::TooMany);
+    pub fn all() -> Vec<ClausePart> {
+        let counts = Section::ALL.map(ClausePart::TooMany);
         let causes = Cause::ALL
             .into_iter()
             .filter(|cause| cause.number() > REFUSED_SIZES);
         let others = [
-            Part::TooFew(Section::Integrators),
-            Part::Clock,
-            Part::Moved,
-            Part::Ahead,
-            Part::Output,
-            Part::Position,
-            Part::Slope,
-            Part::Due,
-            Part::Input,
-            Part::Next,
-            Part::Instants,
-            Part::Updates,
+            ClausePart::TooFew(Section::Integrators),
+            ClausePart::Clock,
+            ClausePart::Moved,
+            ClausePart::Ahead,
+            ClausePart::Output,
+            ClausePart::Position,
+            ClausePart::Slope,
+            ClausePart::Due,
+            ClausePart::Input,
+            ClausePart::Next,
+            ClausePart::Instants,
+            ClausePart::Updates,
         ];
-        let parts = counts.into_iter().chain(causes.map(Part::Plan));
+        let parts = counts.into_iter().chain(causes.map(ClausePart::Plan));
         parts
-            .chain(Array::ALL.map(Part::Unused))
+            .chain(Array::ALL.map(ClausePart::Unused))
             .chain(others)
             .collect()
     }
 
     /// The parts that a state breaks, from the clauses that it breaks.
-    fn of(state: &RawState, broken: &[Clause]) -> BTreeSet<Part> {
+    fn of(state: &RawState, broken: &[Clause]) -> BTreeSet<ClausePart> {
         let mut parts = BTreeSet::new();
         for clause in broken {
             match clause {
                 Clause::Counts => parts.extend(wrong_counts(state.plan.counts)),
-                Clause::Plan(refusal) => parts.extend([Part::Plan(refusal.cause)]),
-                Clause::UnusedInPlan => parts.extend(left_over(state, true)),
-                Clause::UnusedInRun => parts.extend(left_over(state, false)),
-                Clause::ClockAboveHorizon => parts.extend([Part::Clock]),
-                Clause::MovedAfterClock(_) => parts.extend([Part::Moved]),
-                Clause::DueNotAhead(_) => parts.extend([Part::Ahead]),
-                Clause::OutputBeyond(_) => parts.extend([Part::Output]),
-                Clause::PositionOutsideLevels(_) => parts.extend([Part::Position]),
-                Clause::Slope(_) => parts.extend([Part::Slope]),
-                Clause::Due(_) => parts.extend([Part::Due]),
-                Clause::InputBeyond(_) => parts.extend([Part::Input]),
-                Clause::NextCommand => parts.extend([Part::Next]),
-                Clause::InstantsAboveClock => parts.extend([Part::Instants]),
-                Clause::UpdatesAboveMoves => parts.extend([Part::Updates]),
+                Clause::Plan(refusal) => parts.extend([ClausePart::Plan(refusal.cause)]),
+                Clause::UnusedInPlan => parts.extend(unused_parts(state, true)),
+                Clause::UnusedInRun => parts.extend(unused_parts(state, false)),
+                Clause::ClockAboveHorizon => parts.extend([ClausePart::Clock]),
+                Clause::MovedAfterClock(_) => parts.extend([ClausePart::Moved]),
+                Clause::DueNotAhead(_) => parts.extend([ClausePart::Ahead]),
+                Clause::OutputBeyond(_) => parts.extend([ClausePart::Output]),
+                Clause::PositionOutsideLevels(_) => parts.extend([ClausePart::Position]),
+                Clause::Slope(_) => parts.extend([ClausePart::Slope]),
+                Clause::Due(_) => parts.extend([ClausePart::Due]),
+                Clause::InputBeyond(_) => parts.extend([ClausePart::Input]),
+                Clause::NextCommand => parts.extend([ClausePart::Next]),
+                Clause::InstantsAboveClock => parts.extend([ClausePart::Instants]),
+                Clause::UpdatesAboveMoves => parts.extend([ClausePart::Updates]),
             }
         }
         parts
     }
 }
 
-fn wrong_counts(counts: RawCounts) -> impl Iterator<Item = Part> {
+fn wrong_counts(counts: RawCounts) -> impl Iterator<Item = ClausePart> {
     let sections = Section::ALL.into_iter().zip(counts.by_section());
     sections.filter_map(|(section, count)| {
         if count < section.least() {
-            Some(Part::TooFew(section))
+            Some(ClausePart::TooFew(section))
         } else {
-            (count > section.most()).then_some(Part::TooMany(section))
+            (count > section.most()).then_some(ClausePart::TooMany(section))
         }
     })
 }
 
-fn left_over(state: &RawState, in_plan: bool) -> impl Iterator<Item = Part> + '_ {
+fn unused_parts(state: &RawState, in_plan: bool) -> impl Iterator<Item = ClausePart> + '_ {
     let arrays = Array::ALL.into_iter();
-    let fitting = arrays.filter(move |array| array.in_plan() == in_plan && array.left_over(state));
-    fitting.map(Part::Unused)
+    let fitting =
+        arrays.filter(move |array| array.in_plan() == in_plan && array.unused_not_zero(state));
+    fitting.map(ClausePart::Unused)
 }
 
 /// What has to be met.
@@ -136,7 +137,7 @@ pub fn required() -> Met {
     met.require_each(SOUND, ENOUGH_SOUND);
     met.require_each(Fill::ALL.map(base_of), ENOUGH_OF_A_FILL);
     met.require_each(SIGNS, ENOUGH_OF_A_FILL);
-    for part in Part::all() {
+    for part in ClausePart::all() {
         met.require_each([broken(part), broken_alone(part)], ENOUGH);
     }
     met
@@ -152,13 +153,13 @@ fn base_of(fill: Fill) -> String {
     format!("sound and unchanged, {fill:?}")
 }
 
-fn broken(part: Part) -> String {
+fn broken(part: ClausePart) -> String {
     format!("broken, {part:?}")
 }
 
 /// With no other part broken, as far as the second simulator looks: behind a wrong count, or a broken rule
 /// of the plan, the clauses that build on it have no meaning.
-fn broken_alone(part: Part) -> String {
+fn broken_alone(part: ClausePart) -> String {
     format!("broken alone, {part:?}")
 }
 
@@ -177,7 +178,7 @@ pub fn count_state(met: &mut Met, state: &RawState, clauses: &[Clause], origin: 
         Origin::Changed | Origin::Broken(_) => met.count(CHANGED),
         Origin::Base(_) | Origin::WithoutIntegrators => (),
     }
-    let parts = Part::of(state, clauses);
+    let parts = ClausePart::of(state, clauses);
     let alone = parts.len() == 1;
     for part in parts {
         met.count(broken(part));

@@ -6,13 +6,13 @@
 
 mod counts;
 
-pub use counts::Part;
+pub use counts::ClausePart;
 
-use super::switches::{mutant, number};
+use super::variables::{mutant, number};
 use super::{Machine, Outcome};
 use crate::state::State;
 use counts::{count_state, required};
-use cup_check::generate::near::{change, without_integrators};
+use cup_check::generate::changes::{change_fields, without_integrators};
 use cup_check::generate::{Breakage, Family, Fill, Rng};
 use cup_check::raw::RawState;
 use cup_check::sound::{broken_by, Clause, Mutant};
@@ -49,7 +49,7 @@ pub enum Origin {
 
 impl Campaign {
     /// A campaign by the variables CUP_STATES, CUP_SEED and CUP_MUTANT, or the gate's without them.
-    pub fn asked_for() -> Campaign {
+    pub fn by_variables() -> Campaign {
         Campaign {
             states: number("CUP_STATES", STATES),
             seed: number("CUP_SEED", 0),
@@ -69,7 +69,7 @@ impl Campaign {
             let left = self.states - number * OF_ONE_BASE;
             for step in 0..left.min(OF_ONE_BASE) {
                 let origin = base.origin(&mut rng, step);
-                base.lead_to(&mut rng, origin, &mut state);
+                base.fill_state(&mut rng, origin, &mut state);
                 let broken = broken_by(&table, &state);
                 count_state(&mut outcome.met, &state, &broken, origin);
                 let found = compare(machine, &state, &broken);
@@ -78,7 +78,7 @@ impl Campaign {
                     let state = format!("state {step} of base {number} of seed {}", self.seed);
                     format!("{state}, {origin:?} from {base}: {what}")
                 };
-                if outcome.found(found.err().map(described)) {
+                if outcome.add_difference(found.err().map(described)) {
                     return outcome;
                 }
             }
@@ -119,7 +119,7 @@ impl Base {
     }
 
     /// Fills a state from this one; but for the base itself it is another.
-    fn lead_to(&self, rng: &mut Rng, origin: Origin, state: &mut RawState) {
+    fn fill_state(&self, rng: &mut Rng, origin: Origin, state: &mut RawState) {
         state.clone_from(&self.state);
         match origin {
             Origin::Base(_) => return,
@@ -133,7 +133,7 @@ impl Base {
             }
         }
         while *state == self.state {
-            change(rng, state);
+            change_fields(rng, state);
         }
     }
 

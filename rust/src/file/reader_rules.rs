@@ -11,9 +11,9 @@ use std::cmp::Ordering;
 /// The faults of a section, by ascending entry.
 pub type Faults<'a> = &'a mut dyn DoubleEndedIterator<Item = Refusal>;
 
-/// The rules that a [`super::Mutant`] exchanges; [`Reading::DOCUMENT`] is document 01.
+/// The rules that a [`super::Mutant`] exchanges; [`ReaderRules::DOCUMENT`] is document 01.
 #[derive(Clone, Copy)]
-pub struct Reading {
+pub struct ReaderRules {
     /// Where a section ends, from its offset and length.
     pub end: fn(offset: u64, length: u64) -> u64,
     /// Whether a last section with this end ends a file of this length.
@@ -23,7 +23,7 @@ pub struct Reading {
     /// Whether the counts of all sections are tried before the horizon.
     pub counts_first: bool,
     /// The numbers 4 to 9 in the order in which they are tried.
-    pub order: [usize; 6],
+    pub numbers: [usize; 6],
     /// Which of a section's faults is answered.
     pub answered: fn(faults: Faults) -> Option<Refusal>,
     /// The entry of a fault that is found at an entry.
@@ -35,28 +35,28 @@ pub struct Reading {
     /// Whether a value is outside ±bound.
     pub beyond: fn(value: i64, bound: i64) -> bool,
     /// How many sources a node may name, from its own source number.
-    pub node_names: fn(source: usize) -> usize,
+    pub node_may_name: fn(source: usize) -> usize,
     /// What is wrong with a node's B, given how many sources it may name.
-    pub node_b: fn(node: &Node, places: usize) -> Option<Cause>,
+    pub node_b: fn(node: &Node, sources_below: usize) -> Option<Cause>,
     /// Whether a kind asks lo ≤ hi.
     pub limits_ordered: fn(kind: usize) -> bool,
     /// How many sources a link may name.
-    pub link_names: fn(plan: &Plan) -> usize,
+    pub link_may_name: fn(plan: &Plan) -> usize,
     /// The last tick that a command may have, from the horizon.
     pub last_tick: fn(horizon: u32) -> u32,
     /// A way of breaking the rules 4 to 9 that is passed over.
-    pub unasked: Option<Cause>,
+    pub skipped: Option<Cause>,
 }
 
-impl Reading {
+impl ReaderRules {
     /// Document 01.
-    pub const DOCUMENT: Reading = Reading {
+    pub const DOCUMENT: ReaderRules = ReaderRules {
         // As u64, where two words cannot wrap.
         end: |offset, length| offset + length,
         ends_file: |end, file_length| end == file_length,
         most: Section::most,
         counts_first: true,
-        order: [
+        numbers: [
             REFUSED_HORIZON,
             REFUSED_INTEGRATOR,
             REFUSED_INPUT,
@@ -70,20 +70,20 @@ impl Reading {
         order_with_limits: true,
         may_follow: |before| before == Ordering::Less,
         beyond: |value, bound| value < -bound || bound < value,
-        node_names: |source| source,
+        node_may_name: |source| source,
         node_b,
         limits_ordered: |kind| kind == LIMIT,
-        link_names: Plan::sources,
+        link_may_name: Plan::sources,
         last_tick: |horizon| horizon,
-        unasked: None,
+        skipped: None,
     };
 }
 
 /// "B is 0 and names nothing" for kind 2; the other kinds use it.
-fn node_b(node: &Node, places: usize) -> Option<Cause> {
+fn node_b(node: &Node, sources_below: usize) -> Option<Cause> {
     if node.kind == LIMIT {
         (node.b != 0).then_some(Cause::UnusedBNotZero)
     } else {
-        (node.b >= places).then_some(Cause::BOutOfPlace)
+        (node.b >= sources_below).then_some(Cause::BOutOfPlace)
     }
 }

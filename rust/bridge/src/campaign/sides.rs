@@ -1,4 +1,4 @@
-//! Who is compared with whom.
+//! The two sides of a comparison: the proved calls, or mutants of them, and the second simulator.
 
 use crate::machine;
 use crate::state::{Loaded, Ran, State, Tables, Written};
@@ -6,7 +6,7 @@ use crate::{Answer, Rewritten};
 use cup_check::calls::{self, Simulator};
 use cup_check::engine::Engine;
 use cup_check::file::read::{read_by, section_by};
-use cup_check::file::{write, Mutant, Reading, Refusal};
+use cup_check::file::{write, Mutant, ReaderRules, Refusal};
 use cup_check::limits::{ACCEPTED, REFUSED_WRITE_BUFFER};
 use cup_check::plan::Plan;
 use cup_check::raw::RawState;
@@ -59,14 +59,14 @@ pub trait Machine {
 
 /// The proved calls as they are linked.
 #[derive(Clone, Copy, Debug)]
-pub struct Archive;
+pub struct ProvedCalls;
 
-impl Reader for Archive {}
+impl Reader for ProvedCalls {}
 
-impl Machine for Archive {}
+impl Machine for ProvedCalls {}
 
 /// The calls on states in the second simulator's words, for its comparison over lists.
-impl Simulator for Archive {
+impl Simulator for ProvedCalls {
     fn load(&self, file: &[u8]) -> calls::Loaded {
         let loaded = machine::load(file);
         calls::Loaded {
@@ -111,15 +111,15 @@ impl Simulator for Archive {
 }
 
 /// The second simulator, or one with a mutant of its reader.
-pub struct Second {
-    rules: Reading,
+pub struct SecondReader {
+    rules: ReaderRules,
 }
 
-impl Second {
+impl SecondReader {
     /// The second simulator with this mutant.
-    pub fn new(mutant: Mutant) -> Second {
-        let rules = mutant.reading();
-        Second { rules }
+    pub fn new(mutant: Mutant) -> SecondReader {
+        let rules = mutant.rules();
+        SecondReader { rules }
     }
 
     /// The plan of a file, or why it is refused.

@@ -1,4 +1,4 @@
-//! The variables by which more, or other, material is asked for.
+//! The environment variables by which more, or other, material is asked for.
 
 use std::env;
 use std::fmt::Debug;

@@ -6,9 +6,10 @@
 
 use super::rng::Rng;
 use super::states::{
-    between_instants, due_tick, first_later_command, move_the_overdue, settle, sound_state,
+    between_instants, due_tick, first_later_command, move_the_overdue, set_slopes_and_dues,
+    sound_state,
 };
-use crate::calls::{Checker, Simulator};
+use crate::calls::{SecondSimulator, Simulator};
 use crate::engine::Engine;
 use crate::limits::{EVENT_BYTES, M};
 use crate::plan::Plan;
@@ -61,7 +62,7 @@ fn reached(rng: &mut Rng, plan: &Plan) -> RawState {
     let engine = rng.pick(&Engine::BOTH);
     let mut buffer = vec![0; budget as usize * plan.events_per_instant() * EVENT_BYTES];
     let start = RawState::start(plan);
-    let ran = Checker::default().run(engine, &start, budget, &mut buffer);
+    let ran = SecondSimulator::default().run(engine, &start, budget, &mut buffer);
     ran.state
 }
 
@@ -84,7 +85,7 @@ fn at_limits(rng: &mut Rng, plan: &Plan) -> RawState {
     run.clocks.instants = rng.pick(&[0, 1.min(clock), clock, clock.saturating_sub(1)]);
     let most = run.clocks.instants * plan.integrators.len() as u64;
     run.clocks.updates = rng.pick(&[0, run.clocks.instants, most, most.saturating_sub(1)]);
-    settle(&mut state);
+    set_slopes_and_dues(&mut state);
     move_the_overdue(&mut state);
     state
 }

@@ -22,14 +22,14 @@ pub struct Called<'a> {
 
 /// What else is compared, or counted, after each call of a list. The list goes on from what the call
 /// returned, whatever is done here.
-pub trait Beside {
+pub trait Hook {
     /// After a call.
-    fn after(&mut self, called: &Called, met: &mut Met) -> Found;
+    fn after_call(&mut self, called: &Called, met: &mut Met) -> Found;
 }
 
-/// Nothing.
-impl Beside for () {
-    fn after(&mut self, _: &Called, _: &mut Met) -> Found {
+/// No hook: nothing else is compared.
+impl Hook for () {
+    fn after_call(&mut self, _: &Called, _: &mut Met) -> Found {
         Ok(())
     }
 }

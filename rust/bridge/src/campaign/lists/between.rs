@@ -4,11 +4,11 @@
 
 use super::counts::{count_call, OTHER_LISTS, UNSOUND};
 use crate::state::State;
-use cup_check::calls::{Checker, Simulator};
+use cup_check::calls::{SecondSimulator, Simulator};
 use cup_check::compare::{continued_list, same, same_events};
-use cup_check::compare::{Beside, Called, Found, Marked};
+use cup_check::compare::{Called, Found, Hook, MarkedBuffer};
 use cup_check::engine::Engine;
-use cup_check::generate::near::change;
+use cup_check::generate::changes::change_fields;
 use cup_check::generate::{plans, run_list, Breakage, Call, Fill, Rng};
 use cup_check::limits::{EVENT_BYTES, LARGEST_BUDGET, LISTING_BUDGET, REFUSED_UNSOUND};
 use cup_check::limits::{INPUTS, INTEGRATORS};
@@ -17,11 +17,11 @@ use cup_check::raw::RawState;
 use cup_check::sound::is_sound;
 
 /// Once in so many calls, an unsound state is handed in after it.
-const UNSOUND_AFTER: usize = 4;
+const UNSOUND_ONCE_IN: usize = 4;
 
 /// Once in so many calls, a list of another plan is begun and ended after it, from a state that is
 /// filled by hand.
-const OTHER_LIST_AFTER: usize = 12;
+const OTHER_LIST_ONCE_IN: usize = 12;
 
 /// The most calls of that list, and the largest budget that it is not declined for.
 const OTHER_CALLS: usize = 2;
@@ -31,28 +31,28 @@ const OTHER_BUDGET: u64 = 20;
 const INSTANT_BYTES: usize = (INTEGRATORS + INPUTS) * EVENT_BYTES;
 
 /// Who is compared between the calls of a list.
-pub struct Between<'a> {
+pub struct BetweenCalls<'a> {
     pub simulator: &'a dyn Simulator,
-    pub second: Checker,
+    pub second: SecondSimulator,
     pub rng: Rng,
     /// The engines of the list's calls that took instants.
     pub engines: Vec<Engine>,
 }
 
-impl Beside for Between<'_> {
-    fn after(&mut self, called: &Called, met: &mut Met) -> Found {
+impl Hook for BetweenCalls<'_> {
+    fn after_call(&mut self, called: &Called, met: &mut Met) -> Found {
         count_call(met, called);
         if called.instants > 0 {
             self.engines.push(called.call.engine);
         }
         self.check_engine(called)
             .map_err(|difference| format!("second simulator's engine: {difference}"))?;
-        if self.rng.once_in(UNSOUND_AFTER) {
+        if self.rng.once_in(UNSOUND_ONCE_IN) {
             self.check_unsound(&called.ran.state)
                 .map_err(|difference| format!("then an unsound state: {difference}"))?;
             met.count(UNSOUND);
         }
-        if self.rng.once_in(OTHER_LIST_AFTER) {
+        if self.rng.once_in(OTHER_LIST_ONCE_IN) {
             self.check_other_list()
                 .map_err(|difference| format!("then another list: {difference}"))?;
             met.count(OTHER_LISTS);
@@ -61,12 +61,12 @@ impl Beside for Between<'_> {
     }
 }
 
-impl Between<'_> {
+impl BetweenCalls<'_> {
     /// The same call by the second simulator's engine: every figure, every byte and every field of the
     /// state, stored positions and last-moved ticks too, which the plain machine does not have.
     fn check_engine(&self, called: &Called) -> Found {
         let (call, ran) = (called.call, called.ran);
-        let mut buffer = Marked::new(call.buffer);
+        let mut buffer = MarkedBuffer::new(call.buffer);
         let expected = self
             .second
             .run(call.engine, called.before, call.budget, buffer.handed());
@@ -90,8 +90,8 @@ impl Between<'_> {
     }
 
     /// A state that is not sound is declined by 10, whatever else the call is given.
-    fn check_unsound(&mut self, near: &RawState) -> Found {
-        let state = self.unsound(near);
+    fn check_unsound(&mut self, sound: &RawState) -> Found {
+        let state = self.unsound_from(sound);
         let n = state.plan.counts.n;
         for engine in Engine::BOTH {
             let budget = self.rng.pick(&[
@@ -105,11 +105,11 @@ impl Between<'_> {
             let length = self
                 .rng
                 .pick(&[0, EVENT_BYTES - 1, EVENT_BYTES, INSTANT_BYTES, 1_000]);
-            let mut buffer = Marked::new(length);
+            let mut buffer = MarkedBuffer::new(length);
             let ran = self.simulator.run(engine, &state, budget, buffer.handed());
             let figures = (ran.number, ran.status, ran.integrator, ran.written);
             same("run", figures, (REFUSED_UNSOUND, 0, 0, 0))?;
-            same("byte changed", buffer.changed_beside(0), None)?;
+            same("byte changed", buffer.changed_outside(0), None)?;
             same("state of a run given back", ran.state == state, true)?;
         }
         for integrator in [0, n.wrapping_sub(1), n, usize::MAX] {
@@ -119,27 +119,27 @@ impl Between<'_> {
             let given_back = positioned.state == state;
             same("state of a position given back", given_back, true)?;
         }
-        let mut buffer = Marked::new(self.rng.pick(&[0, 51, 5_000]));
+        let mut buffer = MarkedBuffer::new(self.rng.pick(&[0, 51, 5_000]));
         let written = self.simulator.write(&state, buffer.handed());
         same(
             "write",
             (written.number, written.length),
             (REFUSED_UNSOUND, 0),
         )?;
-        same("byte changed by write", buffer.changed_beside(0), None)?;
+        same("byte changed by write", buffer.changed_outside(0), None)?;
         Ok(())
     }
 
     /// One clause broken, or fields changed until one is.
-    fn unsound(&mut self, near: &RawState) -> RawState {
+    fn unsound_from(&mut self, sound: &RawState) -> RawState {
         let breakage = self.rng.pick(&Breakage::ALL);
         let broken = match self.rng.once_in(2) {
-            true => breakage.apply(&mut self.rng, near),
+            true => breakage.apply(&mut self.rng, sound),
             false => None,
         };
-        let mut state = broken.map_or_else(|| near.clone(), |(state, _)| state);
+        let mut state = broken.map_or_else(|| sound.clone(), |(state, _)| state);
         while is_sound(&state) {
-            change(&mut self.rng, &mut state);
+            change_fields(&mut self.rng, &mut state);
         }
         state
     }

@@ -1,7 +1,7 @@
 //! The cases of one list of run calls.
 
-use super::played::Played;
-use crate::common::{CHECKER, MARK};
+use super::called_list::CalledList;
+use crate::common::{MARK, SIMULATOR};
 use crate::prover::antt::{
     buffer, bytes, bytes_case, call, calls, case, int_case, nat_case, plain, state, BYTES, CALLS,
     PLAIN, PLAN, RUNNING, STATE,
@@ -16,22 +16,22 @@ use cup_check::raw::RawState;
 
 /// A list whose theorems speak of literals by names of their own, so that what one theorem shows is
 /// not computed again by the next.
-pub struct Listed<'a> {
+pub struct ListTheorems<'a> {
     name: String,
     plan: &'a Plan,
-    played: &'a Played,
+    called: &'a CalledList,
     /// The plain machine fed the accepted budgets.
     machine: Plain<'a>,
 }
 
-impl<'a> Listed<'a> {
-    pub fn new(name: String, plan: &'a Plan, played: &'a Played) -> Listed<'a> {
+impl<'a> ListTheorems<'a> {
+    pub fn new(name: String, plan: &'a Plan, called: &'a CalledList) -> ListTheorems<'a> {
         let mut machine = Plain::start(plan);
-        machine.run(u128::from(played.sum()));
-        Listed {
+        machine.run(u128::from(called.sum()));
+        ListTheorems {
             name,
             plan,
-            played,
+            called,
             machine,
         }
     }
@@ -58,7 +58,7 @@ impl<'a> Listed<'a> {
     pub fn wrong(&self, name: &str) -> Declaration {
         Declaration::Theorem {
             name: name.to_string(),
-            cases: vec![self.growth_case(self.played.end().run.clocks.updates + 1)],
+            cases: vec![self.growth_case(self.called.end().run.clocks.updates + 1)],
         }
     }
 
@@ -72,13 +72,13 @@ impl<'a> Listed<'a> {
             kind,
             term,
         };
-        let (played, before_last) = (self.played, self.played.list.len() - 1);
+        let (called, before_last) = (self.called, self.called.list.len() - 1);
         vec![
             literal("file", BYTES, bytes(&encode(self.plan))),
-            literal("start", STATE, state(played.start())),
-            literal("calls", CALLS, calls(&played.list)),
-            literal("before", STATE, state(&played.states[before_last])),
-            literal("end", STATE, state(played.end())),
+            literal("start", STATE, state(called.start())),
+            literal("calls", CALLS, calls(&called.list)),
+            literal("before", STATE, state(&called.states[before_last])),
+            literal("end", STATE, state(called.end())),
             literal("last", PLAIN, plain(&self.machine)),
         ]
     }
@@ -98,7 +98,7 @@ impl<'a> Listed<'a> {
         ];
         let whole = encode(self.plan);
         for number in 0..=SECTIONS {
-            let section = CHECKER.section(&whole, number);
+            let section = SIMULATOR.section(&whole, number);
             cases.push(bytes_case(&format!("sectionOf {file} {number}"), section));
         }
         cases
@@ -108,7 +108,7 @@ impl<'a> Listed<'a> {
     fn run_cases(&self) -> Vec<String> {
         let (start, list) = (self.named("start"), self.named("calls"));
         let end = format!("({} .run)", self.named("end"));
-        let (sum, joined) = (self.played.sum(), self.played.joined());
+        let (sum, joined) = (self.called.sum(), self.called.joined());
         let mut cases = vec![
             nat_case(&format!("budgetSum {start} {list}"), sum),
             case(RUNNING, &format!("afterCalls {start} {list} .run"), &end),
@@ -123,9 +123,9 @@ impl<'a> Listed<'a> {
     /// The list up to an instant, and the rest of it from there.
     fn cut_cases(&self, instant: u64) -> [String; 2] {
         let (start, list) = (self.named("start"), self.named("calls"));
-        let [front, back] = self.played.cut_at(instant);
-        let front = Played::of(self.played.start(), front);
-        assert_eq!(Played::of(front.end(), back).end(), self.played.end());
+        let [front, back] = self.called.cut_at(instant);
+        let front = CalledList::of(self.called.start(), front);
+        assert_eq!(CalledList::of(front.end(), back).end(), self.called.end());
         let middle = state(front.end());
         let cut = format!("afterCalls {start} (cutAt {start} {list} {instant})");
         let rest = format!("afterCalls {middle} (restAt {start} {list} {instant})");
@@ -140,7 +140,7 @@ impl<'a> Listed<'a> {
     fn plain_cases(&self) -> Vec<String> {
         let (last, end) = (self.named("last"), format!("({} .run)", self.named("end")));
         let p = format!("({} .plan)", self.named("start"));
-        let sum = self.played.sum();
+        let sum = self.called.sum();
         let (plain, read) = (
             format!("plainStatus {p} {last}"),
             format!("statusOf {p} {end}"),
@@ -157,7 +157,7 @@ impl<'a> Listed<'a> {
             nat_case(&format!("statusIntegrator ({plain})"), integrator),
             nat_case(&format!("statusNumber ({read})"), number),
             nat_case(&format!("statusIntegrator ({read})"), integrator),
-            self.growth_case(self.played.end().run.clocks.updates),
+            self.growth_case(self.called.end().run.clocks.updates),
             nat_case(&format!("movedNow {p} {end}"), self.moved_last()),
         ]
     }
@@ -173,7 +173,7 @@ impl<'a> Listed<'a> {
 
     /// "The number of integrators with l = c."
     fn moved_last(&self) -> u64 {
-        let RawState { plan, run } = self.played.end();
+        let RawState { plan, run } = self.called.end();
         let used = run.l[..plan.counts.n].iter();
         used.filter(|&&l| l == run.clocks.clock).count() as u64
     }
@@ -181,11 +181,11 @@ impl<'a> Listed<'a> {
     /// What each call answers that is made from the state before the last call: the last, and the
     /// declined one before it, which has left the state as it was.
     fn answer_cases(&self) -> Vec<String> {
-        let Played {
+        let CalledList {
             list,
             states,
             answers,
-        } = self.played;
+        } = self.called;
         let same_state = |&number: &usize| states[number] == states[list.len() - 1];
         let numbers = (0..list.len()).filter(same_state);
         let answered = |number: usize| {
@@ -205,9 +205,9 @@ impl<'a> Listed<'a> {
 
     /// The position call for every integrator, and for the number after them.
     fn position_cases(&self) -> Vec<String> {
-        let end = self.played.end();
+        let end = self.called.end();
         let positioned = |i| {
-            let answer = CHECKER.position(end, i);
+            let answer = SIMULATOR.position(end, i);
             let computed = format!("positionedOf {} {i}", self.named("end"));
             [
                 nat_case(&format!("{computed} .number"), answer.number as u64),
@@ -222,7 +222,7 @@ impl<'a> Listed<'a> {
         let length = encode(self.plan).len();
         let written = |length: usize| {
             let mut bytes = vec![MARK; length];
-            let answer = CHECKER.write(self.played.end(), &mut bytes);
+            let answer = SIMULATOR.write(self.called.end(), &mut bytes);
             let made = format!("{} {}", self.named("end"), buffer(length));
             [
                 nat_case(&format!("writeOf {made} .number"), answer.number as u64),

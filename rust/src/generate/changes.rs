@@ -8,7 +8,7 @@ use crate::limits::{
 use crate::plan::{Plan, LIMIT, THRESHOLD};
 use crate::raw::{RawCounts, RawPlan, RawState};
 use crate::sound::table::first_command_after;
-use crate::sound::{as_kept, has_values, Array};
+use crate::sound::{engine_state, has_values, Array};
 
 /// Numbers at the ends of 64 and of 32 bits.
 const WILD: [i64; 8] = [
@@ -24,15 +24,15 @@ const WILD: [i64; 8] = [
 
 /// Changes one or two fields of a sound state. Often what follows from them is then set right, so
 /// that a single clause is broken, or none.
-pub fn change(rng: &mut Rng, state: &mut RawState) {
+pub fn change_fields(rng: &mut Rng, state: &mut RawState) {
     change_field(rng, state);
     if rng.once_in(3) {
         change_field(rng, state);
     }
     match rng.below(8) {
         0 => set_next(state),
-        1 => settle(state, Settled::DueTicks),
-        2..=4 => settle(state, Settled::SlopesAndDueTicks),
+        1 => recompute(state, Recomputed::DueTicks),
+        2..=4 => recompute(state, Recomputed::SlopesAndDueTicks),
         _ => (),
     }
 }
@@ -57,7 +57,7 @@ pub fn without_integrators(rng: &mut Rng) -> RawState {
 fn change_field(rng: &mut Rng, state: &mut RawState) {
     match rng.below(16) {
         0 => change_count(rng, &mut state.plan.counts),
-        1 | 2 => spoil(rng, state),
+        1 | 2 => set_any_unused(rng, state),
         3 => change_start_or_quantum(rng, state),
         4 => change_node(rng, &mut state.plan),
         5 => change_link(rng, &mut state.plan),
@@ -69,7 +69,7 @@ fn change_field(rng: &mut Rng, state: &mut RawState) {
 }
 
 /// A limit or a neighbour of one, the number itself a little changed, or a wild one.
-fn near(rng: &mut Rng, now: i64, limits: &[i64]) -> i64 {
+fn near_limit(rng: &mut Rng, now: i64, limits: &[i64]) -> i64 {
     match rng.below(10) {
         0 => rng.pick(&WILD),
         1 => now.wrapping_add(rng.pick(&[1, -1])),
@@ -87,7 +87,7 @@ fn change_count(rng: &mut Rng, counts: &mut RawCounts) {
         3 => (&mut counts.links, LINKS),
         _ => (&mut counts.commands, COMMANDS),
     };
-    *count = near(rng, *count as i64, &[0, most as i64]) as usize;
+    *count = near_limit(rng, *count as i64, &[0, most as i64]) as usize;
 }
 
 fn change_horizon_or_first_value(rng: &mut Rng, state: &mut RawState) {
@@ -96,68 +96,68 @@ fn change_horizon_or_first_value(rng: &mut Rng, state: &mut RawState) {
         let last = plan.commands.ticks[plan.counts.commands.clamp(1, COMMANDS) - 1];
         let clock = state.run.clocks.clock;
         let limits = [0, LARGEST_HORIZON.into(), clock.into(), last.into()];
-        plan.horizon = near(rng, plan.horizon.into(), &limits) as u32;
+        plan.horizon = near_limit(rng, plan.horizon.into(), &limits) as u32;
     } else {
         let first = &mut plan.inputs.firsts[rng.below(plan.counts.m.min(INPUTS))];
-        *first = near(rng, *first, &[M, -M]);
+        *first = near_limit(rng, *first, &[M, -M]);
     }
 }
 
 fn change_start_or_quantum(rng: &mut Rng, state: &mut RawState) {
     let (integrators, run) = (&mut state.plan.integrators, &state.run);
-    let i = some(rng, state.plan.counts.n, INTEGRATORS);
+    let i = used_entry(rng, state.plan.counts.n, INTEGRATORS);
     if rng.once_in(2) {
-        integrators.starts[i] = near(rng, integrators.starts[i], &[M, -M]);
+        integrators.starts[i] = near_limit(rng, integrators.starts[i], &[M, -M]);
     } else {
         let offset = run.x[i].wrapping_sub(run.q[i]).wrapping_abs();
-        integrators.quanta[i] = near(rng, integrators.quanta[i], &[0, M, offset]);
+        integrators.quanta[i] = near_limit(rng, integrators.quanta[i], &[0, M, offset]);
     }
 }
 
 fn change_node(rng: &mut Rng, plan: &mut RawPlan) {
     let (counts, nodes) = (plan.counts, &mut plan.nodes);
-    let j = some(rng, counts.k, NODES);
+    let j = used_entry(rng, counts.k, NODES);
     let own = counts.n.wrapping_add(counts.m).wrapping_add(j) as i64;
     match rng.below(5) {
         0 => {
-            nodes.kinds[j] = near(
+            nodes.kinds[j] = near_limit(
                 rng,
                 nodes.kinds[j] as i64,
                 &[0, LIMIT as i64, THRESHOLD as i64],
             ) as usize
         }
-        1 => nodes.a[j] = near(rng, nodes.a[j] as i64, &[0, own]) as usize,
-        2 => nodes.b[j] = near(rng, nodes.b[j] as i64, &[0, own]) as usize,
-        3 => nodes.lows[j] = near(rng, nodes.lows[j], &[M, -M, 0, nodes.highs[j]]),
-        _ => nodes.highs[j] = near(rng, nodes.highs[j], &[M, -M, 0, nodes.lows[j]]),
+        1 => nodes.a[j] = near_limit(rng, nodes.a[j] as i64, &[0, own]) as usize,
+        2 => nodes.b[j] = near_limit(rng, nodes.b[j] as i64, &[0, own]) as usize,
+        3 => nodes.lows[j] = near_limit(rng, nodes.lows[j], &[M, -M, 0, nodes.highs[j]]),
+        _ => nodes.highs[j] = near_limit(rng, nodes.highs[j], &[M, -M, 0, nodes.lows[j]]),
     }
 }
 
 fn change_link(rng: &mut Rng, plan: &mut RawPlan) {
     let (counts, links) = (plan.counts, &mut plan.links);
-    let e = some(rng, counts.links, LINKS);
-    let beside = [e.saturating_sub(1), (e + 1).min(LINKS - 1)];
-    let targets = beside.map(|e| links.targets[e] as i64);
-    let sources = beside.map(|e| links.sources[e] as i64);
+    let entry = used_entry(rng, counts.links, LINKS);
+    let beside = [entry.saturating_sub(1), (entry + 1).min(LINKS - 1)];
+    let targets = beside.map(|entry| links.targets[entry] as i64);
+    let sources = beside.map(|entry| links.sources[entry] as i64);
     match rng.below(4) {
         0 => {
             let limits = [counts.n as i64, targets[0], targets[1]];
-            links.targets[e] = near(rng, links.targets[e] as i64, &limits) as usize;
+            links.targets[entry] = near_limit(rng, links.targets[entry] as i64, &limits) as usize;
         }
         1 => {
             let all = counts.n.wrapping_add(counts.m).wrapping_add(counts.k) as i64;
             let limits = [all, sources[0], sources[1]];
-            links.sources[e] = near(rng, links.sources[e] as i64, &limits) as usize;
+            links.sources[entry] = near_limit(rng, links.sources[entry] as i64, &limits) as usize;
         }
         2 => {
             let limits = [0, LARGEST_COEFFICIENT, -LARGEST_COEFFICIENT];
-            links.coefficients[e] = near(rng, links.coefficients[e], &limits);
+            links.coefficients[entry] = near_limit(rng, links.coefficients[entry], &limits);
         }
         _ => {
             // The keys of two links exchanged, or one repeated.
             let from = beside[rng.below(2)];
-            let keys = [e, from].map(|e| (links.targets[e], links.sources[e]));
-            (links.targets[e], links.sources[e]) = keys[1];
+            let keys = [entry, from].map(|entry| (links.targets[entry], links.sources[entry]));
+            (links.targets[entry], links.sources[entry]) = keys[1];
             if rng.once_in(2) {
                 (links.targets[from], links.sources[from]) = keys[0];
             }
@@ -167,49 +167,50 @@ fn change_link(rng: &mut Rng, plan: &mut RawPlan) {
 
 fn change_command(rng: &mut Rng, state: &mut RawState) {
     let (counts, commands) = (state.plan.counts, &mut state.plan.commands);
-    let e = some(rng, counts.commands, COMMANDS);
-    let beside = [e.saturating_sub(1), (e + 1).min(COMMANDS - 1)];
+    let entry = used_entry(rng, counts.commands, COMMANDS);
+    let beside = [entry.saturating_sub(1), (entry + 1).min(COMMANDS - 1)];
     let from = beside[rng.below(2)];
     match rng.below(4) {
         0 => {
-            let near_ticks = beside.map(|e| i64::from(commands.ticks[e]));
+            let near_ticks = beside.map(|entry| i64::from(commands.ticks[entry]));
             let (horizon, clock) = (state.plan.horizon.into(), state.run.clocks.clock.into());
             let limits = [0, horizon, horizon, clock, near_ticks[0], near_ticks[1]];
-            commands.ticks[e] = near(rng, commands.ticks[e].into(), &limits) as u32;
+            commands.ticks[entry] = near_limit(rng, commands.ticks[entry].into(), &limits) as u32;
         }
         1 => {
             let limits = [counts.m as i64, commands.inputs[from] as i64];
-            commands.inputs[e] = near(rng, commands.inputs[e] as i64, &limits) as usize;
+            commands.inputs[entry] =
+                near_limit(rng, commands.inputs[entry] as i64, &limits) as usize;
         }
-        2 => commands.values[e] = near(rng, commands.values[e], &[M, -M]),
+        2 => commands.values[entry] = near_limit(rng, commands.values[entry], &[M, -M]),
         _ => {
-            commands.ticks[e] = commands.ticks[from];
-            commands.inputs[e] = commands.inputs[from];
+            commands.ticks[entry] = commands.ticks[from];
+            commands.inputs[entry] = commands.inputs[from];
         }
     }
 }
 
 fn change_figure_or_input(rng: &mut Rng, state: &mut RawState) {
     let (plan, run) = (&state.plan, &mut state.run);
-    let i = some(rng, plan.counts.n, INTEGRATORS);
+    let i = used_entry(rng, plan.counts.n, INTEGRATORS);
     let (x, q, quantum) = (run.x[i], run.q[i], plan.integrators.quanta[i]);
     let levels = |of: i64| [of.wrapping_add(quantum), of.wrapping_sub(quantum)];
     let clock = i64::from(run.clocks.clock);
     match rng.below(7) {
-        0 | 1 => run.x[i] = near(rng, x, &[levels(q)[0], levels(q)[1], q]),
-        2 => run.q[i] = near(rng, q, &[M, -M, levels(x)[0], levels(x)[1]]),
-        3 => run.s[i] = near(rng, run.s[i], &[0, run.s[i]]),
-        4 => run.l[i] = near(rng, run.l[i].into(), &[clock, 0]) as u32,
+        0 | 1 => run.x[i] = near_limit(rng, x, &[levels(q)[0], levels(q)[1], q]),
+        2 => run.q[i] = near_limit(rng, q, &[M, -M, levels(x)[0], levels(x)[1]]),
+        3 => run.s[i] = near_limit(rng, run.s[i], &[0, run.s[i]]),
+        4 => run.l[i] = near_limit(rng, run.l[i].into(), &[clock, 0]) as u32,
         5 => {
-            run.d[i] = near(
+            run.d[i] = near_limit(
                 rng,
                 run.d[i].into(),
                 &[clock, NEVER.into(), run.l[i].into()],
             ) as u32
         }
         _ => {
-            let input = &mut run.inputs[some(rng, plan.counts.m, INPUTS)];
-            *input = near(rng, *input, &[M, -M]);
+            let input = &mut run.inputs[used_entry(rng, plan.counts.m, INPUTS)];
+            *input = near_limit(rng, *input, &[M, -M]);
         }
     }
 }
@@ -225,30 +226,31 @@ fn change_counter(rng: &mut Rng, state: &mut RawState) {
             let moved = run.l[..used].iter().copied().max().unwrap_or(0);
             let tick = plan.commands.ticks[clocks.next.min(COMMANDS - 1)];
             let limits = [plan.horizon, due, moved, tick].map(i64::from);
-            clocks.clock = near(rng, clock, &limits) as u32;
+            clocks.clock = near_limit(rng, clock, &limits) as u32;
         }
         1 => {
             let limits = [0, plan.counts.commands as i64, clocks.next as i64];
-            clocks.next = near(rng, clocks.next as i64, &limits) as usize;
+            clocks.next = near_limit(rng, clocks.next as i64, &limits) as usize;
         }
         2 => {
             let least = clocks.updates.div_ceil(plan.counts.n.max(1) as u64);
-            clocks.instants = near(rng, clocks.instants as i64, &[0, clock, least as i64]) as u64;
+            clocks.instants =
+                near_limit(rng, clocks.instants as i64, &[0, clock, least as i64]) as u64;
         }
         _ => {
             let most = clocks.instants.wrapping_mul(plan.counts.n as u64) as i64;
-            clocks.updates = near(rng, clocks.updates as i64, &[0, most]) as u64;
+            clocks.updates = near_limit(rng, clocks.updates as i64, &[0, most]) as u64;
         }
     }
 }
 
 /// A used entry, the first if there is none.
-fn some(rng: &mut Rng, used: usize, most: usize) -> usize {
+fn used_entry(rng: &mut Rng, used: usize, most: usize) -> usize {
     rng.below(used.clamp(1, most))
 }
 
 /// Sets an entry behind the used ones, if there are any.
-fn spoil(rng: &mut Rng, state: &mut RawState) {
+fn set_any_unused(rng: &mut Rng, state: &mut RawState) {
     let (plan, run) = (&mut state.plan, &mut state.run);
     let RawCounts {
         n,
@@ -288,14 +290,14 @@ fn set_unused<T>(rng: &mut Rng, entries: &mut [T], used: usize, of: fn(i64) -> T
     let unused = entries.get_mut(used..).unwrap_or(&mut []);
     if let Some(last) = unused.len().checked_sub(1) {
         let any = rng.below(unused.len());
-        let value = near(rng, 0, &[1, M]);
+        let value = near_limit(rng, 0, &[1, M]);
         unused[rng.pick(&[0, last, any])] = of(value);
     }
 }
 
 /// What is worked out anew after a change.
 #[derive(Clone, Copy, PartialEq, Eq)]
-enum Settled {
+enum Recomputed {
     /// d by Due from the slope that is held.
     DueTicks,
     /// s by Rate, then d; who would be due by the clock is taken as moved at the clock.
@@ -303,17 +305,17 @@ enum Settled {
 }
 
 /// Works with any numbers; where the plan has no values, all stays as it is.
-fn settle(state: &mut RawState, what: Settled) {
-    let Some(mut kept) = as_kept(state).filter(|kept| has_values(&kept.plan)) else {
+fn recompute(state: &mut RawState, what: Recomputed) {
+    let Some(mut kept) = engine_state(state).filter(|kept| has_values(&kept.plan)) else {
         return;
     };
     let values = kept.source_values(&kept.outputs(), &Rules::DOCUMENT);
     for i in 0..kept.integrators.len() {
-        if what == Settled::SlopesAndDueTicks {
+        if what == Recomputed::SlopesAndDueTicks {
             kept.integrators[i].s = kept.slope(i, &values, &Rules::DOCUMENT) as i64;
         }
         kept.integrators[i].d = due(&kept, i);
-        if what == Settled::SlopesAndDueTicks && kept.integrators[i].d <= kept.clock {
+        if what == Recomputed::SlopesAndDueTicks && kept.integrators[i].d <= kept.clock {
             kept.integrators[i].l = kept.clock;
             kept.integrators[i].d = due(&kept, i);
         }

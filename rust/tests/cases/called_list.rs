@@ -1,6 +1,6 @@
 //! Lists of run calls, and what this simulator makes of them.
 
-use crate::common::{CHECKER, MARK};
+use crate::common::{MARK, SIMULATOR};
 use cup_check::calls::{Ran, Simulator};
 use cup_check::engine::Engine;
 use cup_check::generate::{Call, Rng};
@@ -11,13 +11,13 @@ use cup_check::raw::RawState;
 /// A list of calls by either engine: two that are accepted, the first sometimes with budget 0, and
 /// between them one whose budget or whose buffer is declined.
 pub fn short_list(rng: &mut Rng, plan: &Plan) -> Vec<Call> {
-    let room = plan.events_per_instant() * EVENT_BYTES;
+    let instant_bytes = plan.events_per_instant() * EVENT_BYTES;
     let (first, last) = (rng.below(5), rng.below(4) + 4);
-    let declined = rng.pick(&[(LARGEST_BUDGET as usize + 1, 0), (2, 2 * room - 1)]);
+    let declined = rng.pick(&[(LARGEST_BUDGET as usize + 1, 0), (2, 2 * instant_bytes - 1)]);
     let figures = [
-        (first, first * room + rng.below(3)),
+        (first, first * instant_bytes + rng.below(3)),
         declined,
-        (last, last * room),
+        (last, last * instant_bytes),
     ];
     let call = |(budget, buffer): (usize, usize)| Call {
         engine: rng.pick(&Engine::BOTH),
@@ -28,7 +28,7 @@ pub fn short_list(rng: &mut Rng, plan: &Plan) -> Vec<Call> {
 }
 
 /// A list of calls and what came of it.
-pub struct Played {
+pub struct CalledList {
     pub list: Vec<Call>,
     /// The state before each call, and the one after the last.
     pub states: Vec<RawState>,
@@ -36,18 +36,18 @@ pub struct Played {
     pub answers: Vec<(Ran, Vec<u8>)>,
 }
 
-impl Played {
-    pub fn of(start: &RawState, list: Vec<Call>) -> Played {
+impl CalledList {
+    pub fn of(start: &RawState, list: Vec<Call>) -> CalledList {
         let mut states = vec![start.clone()];
         let mut answers = Vec::new();
         for call in &list {
             let mut buffer = vec![MARK; call.buffer];
             let state = &states[answers.len()];
-            let ran = CHECKER.run(call.engine, state, call.budget, &mut buffer);
+            let ran = SIMULATOR.run(call.engine, state, call.budget, &mut buffer);
             states.push(ran.state.clone());
             answers.push((ran, buffer));
         }
-        Played {
+        CalledList {
             list,
             states,
             answers,
