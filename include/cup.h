@@ -69,8 +69,20 @@ extern "C" {
 #define CUP_LARGEST_HORIZON 2000000000
 #define CUP_LARGEST_COEFFICIENT 16777216
 
-/* The sections of a plan file: integrators, inputs, nodes, links and commands. */
+/* The sections of a plan file, by the number that cup_section takes, and how many they are. */
+#define CUP_SECTION_INTEGRATORS 0
+#define CUP_SECTION_INPUTS 1
+#define CUP_SECTION_NODES 2
+#define CUP_SECTION_LINKS 3
+#define CUP_SECTION_COMMANDS 4
 #define CUP_SECTIONS 5
+
+/* The kinds of a node, with a and b the values of A and B: a - b; a * b / 65,536, rounded down; a limited
+ * to lo..hi; and hi if a >= b, else lo. The first two are clipped to M in size. */
+#define CUP_KIND_DIFFERENCE 0
+#define CUP_KIND_PRODUCT 1
+#define CUP_KIND_LIMIT 2
+#define CUP_KIND_COMPARISON 3
 
 /* The bytes of a plan file's header, and of an entry of each section. */
 #define CUP_HEADER_BYTES 44
@@ -204,9 +216,9 @@ typedef struct {
 size_t cup_read(const uint8_t *file, size_t file_length, size_t *entry);
 
 /* The section view: returns the length of a part of the file, and *offset becomes where in the file
- * it starts. The numbers 0 to 4 are integrators, inputs, nodes, links and commands. A section that has
- * no entry is empty and starts where the next one does. If the file would be refused or the number is
- * above 4, length and offset are 0. */
+ * it starts. The number is one of CUP_SECTION_INTEGRATORS to CUP_SECTION_COMMANDS. A section that has no
+ * entry is empty and starts where the next one does. If the file would be refused or the number is
+ * above those, length and offset are 0. */
 size_t cup_section(const uint8_t *file, size_t file_length, size_t number, size_t *offset);
 
 /* Reads a plan file and writes its plan from the buffer's start: returns CUP_ACCEPTED, and *length

@@ -15,6 +15,26 @@ pub const LARGEST_HORIZON: u32 = 2_000_000_000;
 /// The due tick of an integrator that is never due.
 pub const NEVER: u32 = u32::MAX;
 
+/// The number of the integrators' section, in the header of a plan file and for the section view.
+pub const SECTION_INTEGRATORS: usize = Section::Integrators as usize;
+/// The same of the inputs.
+pub const SECTION_INPUTS: usize = Section::Inputs as usize;
+/// The same of the nodes.
+pub const SECTION_NODES: usize = Section::Nodes as usize;
+/// The same of the links.
+pub const SECTION_LINKS: usize = Section::Links as usize;
+/// The same of the commands.
+pub const SECTION_COMMANDS: usize = Section::Commands as usize;
+
+/// Node kind a − b.
+pub const KIND_DIFFERENCE: usize = 0;
+/// Node kind floor(a × b / 65,536).
+pub const KIND_PRODUCT: usize = 1;
+/// Node kind "a limited to lo..hi".
+pub const KIND_LIMIT: usize = 2;
+/// Node kind "hi if a ≥ b, else lo".
+pub const KIND_COMPARISON: usize = 3;
+
 /// Bytes of a word, the width of all numbers in files and events.
 pub const WORD_BYTES: usize = 4;
 /// Sections of a plan file.

@@ -3,14 +3,7 @@
 //! A [`Plan`] may break the rules: the reader fills it before it tests it, and the generators make
 //! faulty ones on purpose. [`crate::file::rules`] tells which rules it breaks.
 
-/// Node kind a − b.
-pub const DIFFERENCE: usize = 0;
-/// Node kind floor(a × b / 65,536).
-pub const PRODUCT: usize = 1;
-/// Node kind "a limited to lo..hi".
-pub const LIMIT: usize = 2;
-/// Node kind "hi if a ≥ b, else lo".
-pub const THRESHOLD: usize = 3;
+use crate::limits::{KIND_COMPARISON, KIND_DIFFERENCE, KIND_LIMIT, KIND_PRODUCT};
 
 /// A cup.
 #[derive(Clone, Copy, Debug, PartialEq, Eq)]
@@ -110,22 +103,22 @@ impl Plan {
 
     /// Adds a node a − b.
     pub fn difference(self, a: usize, b: usize) -> Plan {
-        self.node(DIFFERENCE, a, b, 0, 0)
+        self.node(KIND_DIFFERENCE, a, b, 0, 0)
     }
 
     /// Adds a node floor(a × b / 65,536).
     pub fn product(self, a: usize, b: usize) -> Plan {
-        self.node(PRODUCT, a, b, 0, 0)
+        self.node(KIND_PRODUCT, a, b, 0, 0)
     }
 
     /// Adds a node that limits a source.
     pub fn limit(self, a: usize, low: i64, high: i64) -> Plan {
-        self.node(LIMIT, a, 0, low, high)
+        self.node(KIND_LIMIT, a, 0, low, high)
     }
 
     /// Adds a node that is `high` if a ≥ b, else `low`.
-    pub fn threshold(self, a: usize, b: usize, low: i64, high: i64) -> Plan {
-        self.node(THRESHOLD, a, b, low, high)
+    pub fn comparison(self, a: usize, b: usize, low: i64, high: i64) -> Plan {
+        self.node(KIND_COMPARISON, a, b, low, high)
     }
 
     /// Adds a link.

@@ -79,7 +79,7 @@ fn kinds() -> Plan {
         .input(ml(1))
         .input(ml(40))
         .input(part(20))
-        .threshold(first, level, 0, ml(2))
+        .comparison(first, level, 0, ml(2))
         .difference(first, second)
         .limit(difference, -ml(10), ml(10))
         .product(second, valve)
@@ -106,7 +106,7 @@ fn overflow() -> Plan {
         .command(9_000, 0, 0)
 }
 
-/// Slopes of one and two grains per tick over the longest horizon; a threshold turns the second
+/// Slopes of one and two grains per tick over the longest horizon; a comparison turns the second
 /// cup round whenever its output passes a level.
 fn long() -> Plan {
     let (first, second, rate, level, turn) = (0, 1, 2, 3, 4);
@@ -115,7 +115,7 @@ fn long() -> Plan {
         .integrator(0, 1 << 25)
         .input(1)
         .input(3 << 26)
-        .threshold(second, level, 2, -2)
+        .comparison(second, level, 2, -2)
         .link(first, rate, GRAINS_PER_ML)
         .link(second, turn, GRAINS_PER_ML)
         .command(1_000_000_000, 0, -1)
@@ -156,7 +156,7 @@ fn ring_nodes(plan: Plan, ring: usize) -> Plan {
     plan.difference(first, across)
         .limit(difference, -ml(30), ml(30))
         .product(difference + 1, pump)
-        .threshold(first, level, -ml(1), ml(1))
+        .comparison(first, level, -ml(1), ml(1))
 }
 
 fn ring_links(plan: Plan, cup: usize) -> Plan {

@@ -142,9 +142,9 @@ fn p7_a_product_is_rounded_towards_minus_infinity() {
 }
 
 #[test]
-fn p8_a_threshold_gives_hi_for_equal_sources() {
+fn p8_a_comparison_gives_hi_for_equal_sources() {
     let plan = Plan::new(1).integrator(0, 1).input(7).input(7);
-    let plan = plan.threshold(1, 2, -5, 5).link(0, 3, GRAINS_PER_ML);
+    let plan = plan.comparison(1, 2, -5, 5).link(0, 3, GRAINS_PER_ML);
     assert_eq!(start_slopes(&plan), [5]);
 }
 

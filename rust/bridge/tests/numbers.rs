@@ -16,7 +16,7 @@ macro_rules! numbers {
 }
 
 /// In the header's order.
-const NUMBERS: [(&str, u64, u64); 38] = numbers!(
+const NUMBERS: [(&str, u64, u64); 47] = numbers!(
     ACCEPTED 0,
     REFUSED_SHORT 1,
     REFUSED_OFFSETS 2,
@@ -39,7 +39,16 @@ const NUMBERS: [(&str, u64, u64); 38] = numbers!(
     NEVER 4_294_967_295,
     LARGEST_HORIZON 2_000_000_000,
     LARGEST_COEFFICIENT 16_777_216,
+    SECTION_INTEGRATORS 0,
+    SECTION_INPUTS 1,
+    SECTION_NODES 2,
+    SECTION_LINKS 3,
+    SECTION_COMMANDS 4,
     SECTIONS 5,
+    KIND_DIFFERENCE 0,
+    KIND_PRODUCT 1,
+    KIND_LIMIT 2,
+    KIND_COMPARISON 3,
     HEADER_BYTES 44,
     INTEGRATOR_BYTES 8,
     INPUT_BYTES 4,

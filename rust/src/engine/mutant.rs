@@ -2,8 +2,8 @@
 
 use super::rules::{divided_rounding_up, node_value, ticks_to_level, Rules};
 use super::Engine;
-use crate::limits::{GRAINS_PER_ML, GRAIN_BITS, M};
-use crate::plan::{Node, DIFFERENCE, PRODUCT, THRESHOLD};
+use crate::limits::{GRAINS_PER_ML, GRAIN_BITS, KIND_COMPARISON, KIND_DIFFERENCE, KIND_PRODUCT, M};
+use crate::plan::Node;
 
 /// One exchanged rule, or none.
 #[derive(Clone, Copy, Debug, Default, PartialEq, Eq)]
@@ -25,7 +25,7 @@ pub enum Mutant {
     /// document 01 names).
     SlopeBeforeOutputs,
     /// Kind 3 compares a > b.
-    StrictThreshold,
+    StrictComparison,
     /// Nodes are clipped to ±2 M.
     WideClip,
     /// The lazy engine moves only the due.
@@ -53,7 +53,7 @@ impl Mutant {
         Mutant::LevelMustBePassed,
         Mutant::ReceiverOutputSet,
         Mutant::SlopeBeforeOutputs,
-        Mutant::StrictThreshold,
+        Mutant::StrictComparison,
         Mutant::WideClip,
         Mutant::OnlyDueMoved,
         Mutant::AllMoved,
@@ -99,8 +99,8 @@ impl Mutant {
                 slopes_after_outputs: false,
                 ..right
             },
-            Mutant::StrictThreshold => Rules {
-                node: strict_threshold,
+            Mutant::StrictComparison => Rules {
+                node: strict_comparison,
                 ..right
             },
             Mutant::WideClip => Rules {
@@ -141,14 +141,14 @@ impl Mutant {
 
 fn truncated_product(node: &Node, a: i128, b: i128) -> i128 {
     match node.kind {
-        PRODUCT => (a * b / i128::from(GRAINS_PER_ML)).clamp(i128::from(-M), i128::from(M)),
+        KIND_PRODUCT => (a * b / i128::from(GRAINS_PER_ML)).clamp(i128::from(-M), i128::from(M)),
         _ => node_value(node, a, b),
     }
 }
 
-fn strict_threshold(node: &Node, a: i128, b: i128) -> i128 {
+fn strict_comparison(node: &Node, a: i128, b: i128) -> i128 {
     match node.kind {
-        THRESHOLD if a == b => i128::from(node.low),
+        KIND_COMPARISON if a == b => i128::from(node.low),
         _ => node_value(node, a, b),
     }
 }
@@ -156,8 +156,8 @@ fn strict_threshold(node: &Node, a: i128, b: i128) -> i128 {
 fn wide_clip(node: &Node, a: i128, b: i128) -> i128 {
     let bound = 2 * i128::from(M);
     match node.kind {
-        DIFFERENCE => (a - b).clamp(-bound, bound),
-        PRODUCT => ((a * b) >> GRAIN_BITS).clamp(-bound, bound),
+        KIND_DIFFERENCE => (a - b).clamp(-bound, bound),
+        KIND_PRODUCT => ((a * b) >> GRAIN_BITS).clamp(-bound, bound),
         _ => node_value(node, a, b),
     }
 }

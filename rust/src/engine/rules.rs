@@ -4,8 +4,8 @@
 //! values and a sum of 256 products of a value and a coefficient both fit.
 
 use super::Engine;
-use crate::limits::{GRAIN_BITS, M};
-use crate::plan::{Node, DIFFERENCE, LIMIT, PRODUCT};
+use crate::limits::{GRAIN_BITS, KIND_DIFFERENCE, KIND_LIMIT, KIND_PRODUCT, M};
+use crate::plan::Node;
 
 /// The rules that a test may exchange; [`Rules::DOCUMENT`] is document 01.
 #[derive(Clone, Copy)]
@@ -40,7 +40,7 @@ impl Rules {
         slope,
         ticks_to_level,
         node: node_value,
-        follows_b: |node| node.kind != LIMIT,
+        follows_b: |node| node.kind != KIND_LIMIT,
         nodes_are_followed: true,
         command_reaches: |_, _| true,
         moves: |engine, due, reached| engine == Engine::Eager || due || reached,
@@ -87,9 +87,9 @@ pub fn node_value(node: &Node, a: i128, b: i128) -> i128 {
     let bound = i128::from(M);
     let (low, high) = (i128::from(node.low), i128::from(node.high));
     match node.kind {
-        DIFFERENCE => (a - b).clamp(-bound, bound),
-        PRODUCT => ((a * b) >> GRAIN_BITS).clamp(-bound, bound),
-        LIMIT => a.clamp(low, high),
+        KIND_DIFFERENCE => (a - b).clamp(-bound, bound),
+        KIND_PRODUCT => ((a * b) >> GRAIN_BITS).clamp(-bound, bound),
+        KIND_LIMIT => a.clamp(low, high),
         _ if a >= b => high,
         _ => low,
     }

@@ -1,6 +1,6 @@
 //! The next tick, the status, and one instant.
 
-use super::tables::NODES_FROM;
+use super::tables::FIRST_NODE_BIT;
 use super::{Fast, IntegratorState};
 use crate::limits::{EVENT_BYTES, INTEGRATORS, M, NEVER, SOURCES, WORD_BYTES};
 use crate::status::Status;
@@ -76,7 +76,7 @@ impl Fast {
             event[2 * WORD_BYTES..].copy_from_slice(&(self.values[source] as i32).to_le_bytes());
             end += EVENT_BYTES;
         }
-        self.work_out_nodes((reached >> NODES_FROM) as u32);
+        self.work_out_nodes((reached >> FIRST_NODE_BIT) as u32);
         let moved = due | reached as u32;
         for i in members(moved) {
             self.move_integrator(i, tick);

@@ -1,14 +1,15 @@
 //! What is worked out of a plan once.
 
-use crate::limits::{COMMANDS, INPUTS, INTEGRATORS, LINKS};
-use crate::limits::{GRAIN_BITS, M, SOURCES};
-use crate::plan::{DIFFERENCE, LIMIT, PRODUCT};
+use crate::limits::{COMMANDS, GRAIN_BITS, INPUTS, INTEGRATORS, LINKS, M, SOURCES};
+use crate::limits::{KIND_DIFFERENCE, KIND_LIMIT, KIND_PRODUCT};
 use crate::raw::RawPlan;
 
 /// Places by source number: a plan has at most 56 sources, and a byte is always one of these.
 pub const PLACES: usize = 256;
-/// Where the nodes begin in an entry of the table of reach.
-pub const NODES_FROM: usize = 32;
+/// The bit of the first node in an entry of the table of reach.
+pub const FIRST_NODE_BIT: usize = 32;
+/// Nodes by number: a plan has at most 16, and a bit of a mask is always one of these.
+const MASK_BITS: usize = 32;
 /// Links that are summed up together.
 const TERMS: usize = 2;
 /// The most rows of links: 256, and behind those of each integrator what adds nothing to its row.
@@ -75,11 +76,11 @@ pub struct Tables {
     pub integrators: [Integrator; INTEGRATORS],
     /// By target.
     links: [[Link; TERMS]; ROWS],
-    /// By node; a member of a mask is always a place.
-    pub nodes: [Node; NODES_FROM],
+    /// By node.
+    pub nodes: [Node; MASK_BITS],
     /// By tick, as in the plan.
     pub commands: [Command; COMMANDS],
-    /// For each source the integrators, and from bit 32 on the nodes, that a change of it reaches.
+    /// For each source the integrators, and from [`FIRST_NODE_BIT`] on the nodes, that a change of it reaches.
     pub reach: [u64; SOURCES],
 }
 
@@ -94,7 +95,7 @@ impl Tables {
             command_count: plan.counts.commands,
             integrators: [Integrator::default(); INTEGRATORS],
             links: [[Link::default(); TERMS]; ROWS],
-            nodes: [Node::default(); NODES_FROM],
+            nodes: [Node::default(); MASK_BITS],
             commands: [Command::default(); COMMANDS],
             reach: [0; SOURCES],
         };
@@ -139,10 +140,10 @@ impl Tables {
     fn fill_nodes(&mut self, plan: &RawPlan) {
         for j in (0..plan.counts.k).rev() {
             let (kind, a, b) = (plan.nodes.kinds[j], plan.nodes.a[j], plan.nodes.b[j]);
-            let reach = self.reach[plan.counts.n + plan.counts.m + j] | 1 << (NODES_FROM + j);
+            let reach = self.reach[plan.counts.n + plan.counts.m + j] | 1 << (FIRST_NODE_BIT + j);
             self.reach[plan.counts.n + plan.counts.m + j] = reach;
             self.reach[a] |= reach;
-            if kind != LIMIT {
+            if kind != KIND_LIMIT {
                 self.reach[b] |= reach;
             }
             self.nodes[j] = Node {
@@ -186,9 +187,9 @@ impl Node {
     pub fn value(&self, values: &Values) -> i64 {
         let (a, b) = (values[usize::from(self.a)], values[usize::from(self.b)]);
         match usize::from(self.kind) {
-            DIFFERENCE => limited(a - b, -M, M),
-            PRODUCT => limited((a * b) >> GRAIN_BITS, -M, M),
-            LIMIT => limited(a, self.low, self.high),
+            KIND_DIFFERENCE => limited(a - b, -M, M),
+            KIND_PRODUCT => limited((a * b) >> GRAIN_BITS, -M, M),
+            KIND_LIMIT => limited(a, self.low, self.high),
             _ if a >= b => self.high,
             _ => self.low,
         }

@@ -2,8 +2,8 @@
 
 use super::cause::Cause;
 use super::reader_rules::ReaderRules;
-use crate::limits::{Section, REFUSED_LINK, REFUSED_NODE};
-use crate::plan::{Plan, LIMIT, THRESHOLD};
+use crate::limits::{Section, KIND_COMPARISON, KIND_LIMIT, REFUSED_LINK, REFUSED_NODE};
+use crate::plan::Plan;
 use std::cmp::Ordering;
 
 /// One exchanged rule of the reader, or none.
@@ -126,7 +126,7 @@ impl Mutant {
                 ..right
             },
             Mutant::KindThreeOrdered => ReaderRules {
-                limits_ordered: |kind| kind == LIMIT || kind == THRESHOLD,
+                limits_ordered: |kind| kind == KIND_LIMIT || kind == KIND_COMPARISON,
                 ..right
             },
             Mutant::LinksNameNoNode => ReaderRules {

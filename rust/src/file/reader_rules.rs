@@ -1,11 +1,11 @@
 //! The rules of the reader that a test may exchange, as a table.
 
 use super::cause::{Cause, Refusal};
-use crate::limits::Section;
+use crate::limits::{Section, KIND_LIMIT};
 use crate::limits::{
     REFUSED_COMMAND, REFUSED_HORIZON, REFUSED_INPUT, REFUSED_INTEGRATOR, REFUSED_LINK, REFUSED_NODE,
 };
-use crate::plan::{Node, Plan, LIMIT};
+use crate::plan::{Node, Plan};
 use std::cmp::Ordering;
 
 /// The faults of a section, by ascending entry.
@@ -72,7 +72,7 @@ impl ReaderRules {
         beyond: |value, bound| value < -bound || bound < value,
         node_may_name: |source| source,
         node_b,
-        limits_ordered: |kind| kind == LIMIT,
+        limits_ordered: |kind| kind == KIND_LIMIT,
         link_may_name: Plan::sources,
         last_tick: |horizon| horizon,
         skipped: None,
@@ -81,7 +81,7 @@ impl ReaderRules {
 
 /// "B is 0 and names nothing" for kind 2; the other kinds use it.
 fn node_b(node: &Node, sources_below: usize) -> Option<Cause> {
-    if node.kind == LIMIT {
+    if node.kind == KIND_LIMIT {
         (node.b != 0).then_some(Cause::UnusedBNotZero)
     } else {
         (node.b >= sources_below).then_some(Cause::BOutOfPlace)

@@ -2,12 +2,13 @@
 
 use super::cause::{Cause, Refusal};
 use super::reader_rules::ReaderRules;
-use crate::limits::{LARGEST_COEFFICIENT, LARGEST_HORIZON, M};
+use crate::limits::{
+    KIND_COMPARISON, KIND_DIFFERENCE, KIND_PRODUCT, LARGEST_COEFFICIENT, LARGEST_HORIZON, M,
+};
 use crate::limits::{
     REFUSED_HORIZON, REFUSED_INPUT, REFUSED_INTEGRATOR, REFUSED_LINK, REFUSED_NODE,
 };
 use crate::plan::{Command, Integrator, Link, Node, Plan};
-use crate::plan::{DIFFERENCE, PRODUCT, THRESHOLD};
 use std::cmp::Ordering;
 
 /// The first rule broken, tried in the order of the numbers 4 to 9.
@@ -119,7 +120,7 @@ fn input(rules: &ReaderRules, first: i64) -> Option<Cause> {
 /// A node may name the sources below its own: integrators, inputs and lower-numbered nodes.
 fn node(rules: &ReaderRules, entry: &Node, own_source: usize) -> Option<Cause> {
     let sources_below = (rules.node_may_name)(own_source);
-    if entry.kind > THRESHOLD {
+    if entry.kind > KIND_COMPARISON {
         return Some(Cause::KindAbove);
     }
     if entry.a >= sources_below {
@@ -131,9 +132,9 @@ fn node(rules: &ReaderRules, entry: &Node, own_source: usize) -> Option<Cause> {
 /// lo and hi are 0 for kinds 0 and 1 and within ±M for 2 and 3; only kind 2 asks lo ≤ hi.
 fn node_limits(rules: &ReaderRules, entry: &Node) -> Option<Cause> {
     match entry.kind {
-        DIFFERENCE | PRODUCT if entry.low != 0 => Some(Cause::UnusedLowNotZero),
-        DIFFERENCE | PRODUCT if entry.high != 0 => Some(Cause::UnusedHighNotZero),
-        DIFFERENCE | PRODUCT => None,
+        KIND_DIFFERENCE | KIND_PRODUCT if entry.low != 0 => Some(Cause::UnusedLowNotZero),
+        KIND_DIFFERENCE | KIND_PRODUCT if entry.high != 0 => Some(Cause::UnusedHighNotZero),
+        KIND_DIFFERENCE | KIND_PRODUCT => None,
         _ if (rules.beyond)(entry.low, M) => Some(Cause::LowBeyond),
         _ if (rules.beyond)(entry.high, M) => Some(Cause::HighBeyond),
         kind if (rules.limits_ordered)(kind) && entry.low > entry.high => Some(Cause::LowAboveHigh),

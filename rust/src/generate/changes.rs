@@ -3,9 +3,10 @@
 use super::rng::Rng;
 use crate::engine::{Rules, State};
 use crate::limits::{
-    COMMANDS, INPUTS, INTEGRATORS, LARGEST_COEFFICIENT, LARGEST_HORIZON, LINKS, M, NEVER, NODES,
+    COMMANDS, INPUTS, INTEGRATORS, KIND_COMPARISON, KIND_LIMIT, LARGEST_COEFFICIENT,
+    LARGEST_HORIZON, LINKS, M, NEVER, NODES,
 };
-use crate::plan::{Plan, LIMIT, THRESHOLD};
+use crate::plan::Plan;
 use crate::raw::{RawCounts, RawPlan, RawState};
 use crate::sound::table::first_command_after;
 use crate::sound::{engine_state, has_values, Array};
@@ -41,7 +42,7 @@ pub fn change_fields(rng: &mut Rng, state: &mut RawState) {
 pub fn without_integrators(rng: &mut Rng) -> RawState {
     let mut plan = Plan::new(rng.within(1, 40) as u32).input(rng.within(-9, 9));
     if rng.once_in(2) {
-        plan = plan.threshold(0, 0, 1, 2);
+        plan = plan.comparison(0, 0, 1, 2);
     }
     if rng.once_in(2) {
         plan = plan.command(1, 0, 5);
@@ -123,7 +124,7 @@ fn change_node(rng: &mut Rng, plan: &mut RawPlan) {
             nodes.kinds[j] = near_limit(
                 rng,
                 nodes.kinds[j] as i64,
-                &[0, LIMIT as i64, THRESHOLD as i64],
+                &[0, KIND_LIMIT as i64, KIND_COMPARISON as i64],
             ) as usize
         }
         1 => nodes.a[j] = near_limit(rng, nodes.a[j] as i64, &[0, own]) as usize,

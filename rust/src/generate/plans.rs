@@ -2,16 +2,19 @@
 
 use super::recipe::{Recipe, Spread};
 use super::rng::Rng;
-use crate::limits::{COMMANDS, INPUTS, INTEGRATORS, LINKS, NODES, SECTIONS};
+use crate::limits::{
+    COMMANDS, INPUTS, INTEGRATORS, KIND_COMPARISON, KIND_DIFFERENCE, KIND_LIMIT, LINKS, NODES,
+    SECTIONS,
+};
 use crate::limits::{GRAINS_PER_ML, LARGEST_COEFFICIENT, LARGEST_HORIZON, M};
-use crate::plan::{Plan, DIFFERENCE, LIMIT, THRESHOLD};
+use crate::plan::Plan;
 
 /// What a plan is made for.
 #[derive(Clone, Copy, Debug, PartialEq, Eq)]
 pub enum Family {
     /// A few cups with every kind of node; many events.
     Ordinary,
-    /// Pairs of cups that swing, and cups that a threshold empties and fills: runs long.
+    /// Pairs of cups that swing, and cups that a comparison empties and fills: runs long.
     Swinging,
     /// Equal cups that are due together and read each other.
     Together,
@@ -250,7 +253,7 @@ fn swinging(rng: &mut Rng) -> Plan {
     let level = plan.input_source(0);
     for cup in 0..emptied {
         let (filling, emptying) = (rng.within(1, 9), -rng.within(1, 9));
-        plan = plan.threshold(2 * pairs + cup, level, filling, emptying);
+        plan = plan.comparison(2 * pairs + cup, level, filling, emptying);
     }
     for pair in 0..pairs {
         let speed = rng.within(GRAINS_PER_ML / 4_096, GRAINS_PER_ML / 64);
@@ -272,7 +275,7 @@ fn swinging(rng: &mut Rng) -> Plan {
 fn slow(rng: &mut Rng) -> Plan {
     let mut plan = SLOW.plan(rng);
     let inputs = plan.input_source(0)..plan.node_source(0);
-    let limited = |&node: &usize| plan.nodes[node].kind >= LIMIT;
+    let limited = |&node: &usize| plan.nodes[node].kind >= KIND_LIMIT;
     let nodes = (0..plan.nodes.len()).filter(limited);
     let sources: Vec<usize> = inputs
         .chain(nodes.map(|node| plan.node_source(node)))
@@ -323,7 +326,7 @@ fn together(rng: &mut Rng) -> Plan {
         plan = plan.integrator(start, quantum);
     }
     plan = plan.input(rng.within(1, 9)).input(rng.within(-9, -1));
-    plan = plan.difference(0, count - 1).threshold(0, count, -3, 4);
+    plan = plan.difference(0, count - 1).comparison(0, count, -3, 4);
     let drive = rng.within(1, 3) * GRAINS_PER_ML;
     let coupling = rng.within(-GRAINS_PER_ML / 64, GRAINS_PER_ML / 64) | 1;
     for cup in 0..count {
@@ -352,10 +355,10 @@ fn ladder(rng: &mut Rng) -> Plan {
         };
         let other = rng.below(sources_below);
         let (low, high) = (rng.within(-900, 0), rng.within(1, 900));
-        plan = match rng.pick(&[DIFFERENCE, LIMIT, LIMIT, THRESHOLD]) {
-            DIFFERENCE => plan.difference(below, other),
-            LIMIT => plan.limit(below, low, high),
-            _ => plan.threshold(other, below, low, high),
+        plan = match rng.pick(&[KIND_DIFFERENCE, KIND_LIMIT, KIND_LIMIT, KIND_COMPARISON]) {
+            KIND_DIFFERENCE => plan.difference(below, other),
+            KIND_LIMIT => plan.limit(below, low, high),
+            _ => plan.comparison(other, below, low, high),
         };
     }
     let topmost = plan.node_source(NODES - 1);

@@ -4,12 +4,13 @@ use super::rng::Rng;
 use crate::file::encoding::{assemble, section_bytes};
 use crate::file::{encode, Cause, Refusal};
 use crate::limits::{
-    Section, HEADER_BYTES, LARGEST_COEFFICIENT, LARGEST_HORIZON, M, SECTIONS, WORD_BYTES,
+    Section, HEADER_BYTES, KIND_COMPARISON, KIND_DIFFERENCE, KIND_LIMIT, KIND_PRODUCT,
+    LARGEST_COEFFICIENT, LARGEST_HORIZON, M, SECTIONS, WORD_BYTES,
 };
 use crate::limits::{
     REFUSED_HORIZON, REFUSED_INPUT, REFUSED_INTEGRATOR, REFUSED_LINK, REFUSED_NODE, REFUSED_SIZES,
 };
-use crate::plan::{Plan, DIFFERENCE, LIMIT, PRODUCT, THRESHOLD};
+use crate::plan::Plan;
 use crate::words::{set_word, word_at};
 
 /// The largest word, as an index, a kind or an unsigned number.
@@ -95,18 +96,25 @@ fn plant_input(rng: &mut Rng, plan: &mut Plan) -> Option<usize> {
 
 fn plant_node(rng: &mut Rng, plan: &mut Plan, cause: Cause) -> Option<usize> {
     let kinds: &[usize] = match cause {
-        Cause::KindAbove | Cause::AOutOfPlace => &[DIFFERENCE, PRODUCT, LIMIT, THRESHOLD],
-        Cause::BOutOfPlace => &[DIFFERENCE, PRODUCT, THRESHOLD],
-        Cause::UnusedLowNotZero | Cause::UnusedHighNotZero => &[DIFFERENCE, PRODUCT],
-        Cause::LowBeyond | Cause::HighBeyond => &[LIMIT, THRESHOLD],
-        _ => &[LIMIT],
+        Cause::KindAbove | Cause::AOutOfPlace => {
+            &[KIND_DIFFERENCE, KIND_PRODUCT, KIND_LIMIT, KIND_COMPARISON]
+        }
+        Cause::BOutOfPlace => &[KIND_DIFFERENCE, KIND_PRODUCT, KIND_COMPARISON],
+        Cause::UnusedLowNotZero | Cause::UnusedHighNotZero => &[KIND_DIFFERENCE, KIND_PRODUCT],
+        Cause::LowBeyond | Cause::HighBeyond => &[KIND_LIMIT, KIND_COMPARISON],
+        _ => &[KIND_LIMIT],
     };
     let entry = entry_where(rng, &plan.nodes, |node| kinds.contains(&node.kind))?;
     let sources_below = plan.node_source(entry);
     let node = &mut plan.nodes[entry];
     match cause {
         Cause::KindAbove => {
-            node.kind = rng.pick(&[THRESHOLD + 1, THRESHOLD + 2, 256, u32::MAX as usize]);
+            node.kind = rng.pick(&[
+                KIND_COMPARISON + 1,
+                KIND_COMPARISON + 2,
+                256,
+                u32::MAX as usize,
+            ]);
         }
         Cause::AOutOfPlace => {
             node.a = rng.pick(&[sources_below, sources_below + 1, u32::MAX as usize])

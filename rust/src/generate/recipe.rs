@@ -1,8 +1,8 @@
 //! Accepted plans from ranges for their counts and numbers.
 
 use super::rng::Rng;
-use crate::limits::{Section, SECTIONS};
-use crate::plan::{Command, Integrator, Link, Node, Plan, LIMIT, THRESHOLD};
+use crate::limits::{Section, KIND_COMPARISON, KIND_LIMIT, SECTIONS};
+use crate::plan::{Command, Integrator, Link, Node, Plan};
 use std::collections::BTreeSet;
 
 /// Where a number is drawn from.
@@ -77,7 +77,7 @@ impl Recipe {
 
     /// Half of the time a node names the source just below it, which makes long chains.
     fn node(&self, rng: &mut Rng, sources_below: usize) -> Node {
-        let kind = rng.below(THRESHOLD + 1);
+        let kind = rng.below(KIND_COMPARISON + 1);
         let source = |rng: &mut Rng| match rng.once_in(2) {
             true => sources_below - 1,
             false => rng.below(sources_below),
@@ -85,11 +85,11 @@ impl Recipe {
         let (a, b) = (source(rng), source(rng));
         let (one, other) = (self.limit.draw(rng), self.limit.draw(rng));
         let (low, high) = match kind {
-            LIMIT => (one.min(other), one.max(other)),
-            THRESHOLD => (one, other),
+            KIND_LIMIT => (one.min(other), one.max(other)),
+            KIND_COMPARISON => (one, other),
             _ => (0, 0),
         };
-        let b = if kind == LIMIT { 0 } else { b };
+        let b = if kind == KIND_LIMIT { 0 } else { b };
         Node {
             kind,
             a,

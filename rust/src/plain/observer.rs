@@ -2,7 +2,8 @@
 
 use super::TakenInstant;
 use crate::engine::Engine;
-use crate::plan::{Plan, LIMIT};
+use crate::limits::KIND_LIMIT;
+use crate::plan::Plan;
 use std::collections::BTreeSet;
 
 /// For each source, what reads it directly. Reach then spreads upwards from the sources that an
@@ -26,7 +27,7 @@ impl Observer {
             let source = plan.node_source(number);
             observer.reading_sources[node.a].push(source);
             // "B is 0 and names nothing" for kind 2.
-            if node.kind != LIMIT {
+            if node.kind != KIND_LIMIT {
                 observer.reading_sources[node.b].push(source);
             }
         }

@@ -1,7 +1,7 @@
 //! Node values and slopes of the plain machine.
 
-use crate::limits::{GRAINS_PER_ML, M};
-use crate::plan::{Node, Plan, DIFFERENCE, LIMIT, PRODUCT, THRESHOLD};
+use crate::limits::{GRAINS_PER_ML, KIND_COMPARISON, KIND_DIFFERENCE, KIND_LIMIT, KIND_PRODUCT, M};
+use crate::plan::{Node, Plan};
 
 /// The values of all sources by source number: "integrators give q, inputs their value, nodes
 /// their value", the nodes "worked out in node order".
@@ -33,9 +33,9 @@ pub fn clipped_nodes(plan: &Plan, values: &[i64]) -> usize {
 fn node_value(node: &Node, values: &[i64]) -> i64 {
     let value = unlimited(node, values);
     match node.kind {
-        DIFFERENCE | PRODUCT => value.clamp(-M, M),
-        LIMIT => value.clamp(node.low, node.high),
-        THRESHOLD => value,
+        KIND_DIFFERENCE | KIND_PRODUCT => value.clamp(-M, M),
+        KIND_LIMIT => value.clamp(node.low, node.high),
+        KIND_COMPARISON => value,
         kind => panic!("no node kind {kind} in a plan that keeps the rules"),
     }
 }
@@ -44,9 +44,9 @@ fn node_value(node: &Node, values: &[i64]) -> i64 {
 fn unlimited(node: &Node, values: &[i64]) -> i64 {
     let a = values[node.a];
     match node.kind {
-        DIFFERENCE => a - values[node.b],
-        PRODUCT => (a * values[node.b]).div_euclid(GRAINS_PER_ML),
-        LIMIT => a,
+        KIND_DIFFERENCE => a - values[node.b],
+        KIND_PRODUCT => (a * values[node.b]).div_euclid(GRAINS_PER_ML),
+        KIND_LIMIT => a,
         _ => {
             if a >= values[node.b] {
                 node.high

@@ -14,8 +14,8 @@ pub use unused::Array;
 use crate::engine::{IntegratorState, State};
 use crate::file::rules;
 use crate::file::Refusal;
-use crate::limits::Section;
-use crate::plan::{Link, Node, Plan, LIMIT, THRESHOLD};
+use crate::limits::{Section, KIND_COMPARISON, KIND_LIMIT};
+use crate::plan::{Link, Node, Plan};
 use crate::raw::{RawCounts, RawState};
 use std::borrow::Cow;
 
@@ -221,8 +221,8 @@ fn check_integrators(table: &Soundness, state: &State, broken: &mut Vec<Clause>)
 pub fn has_values(plan: &Plan) -> bool {
     let valued = |(number, node): (usize, &Node)| {
         let sources_below = plan.node_source(number);
-        let limited = node.kind != LIMIT || node.low <= node.high;
-        node.kind <= THRESHOLD && node.a < sources_below && node.b < sources_below && limited
+        let limited = node.kind != KIND_LIMIT || node.low <= node.high;
+        node.kind <= KIND_COMPARISON && node.a < sources_below && node.b < sources_below && limited
     };
     // 256 products of 32 and 64 bits fit 128.
     let summed =

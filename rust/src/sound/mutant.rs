@@ -186,7 +186,7 @@ const ENGINES: [engine::Mutant; 6] = [
     engine::Mutant::TruncatedProduct,
     engine::Mutant::DistanceBothWays,
     engine::Mutant::LevelMustBePassed,
-    engine::Mutant::StrictThreshold,
+    engine::Mutant::StrictComparison,
     engine::Mutant::WideClip,
 ];
 

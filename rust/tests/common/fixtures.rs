@@ -17,7 +17,7 @@ pub fn every_section() -> Plan {
         .difference(0, 3)
         .product(4, 4)
         .limit(5, -M, M)
-        .threshold(6, 0, M, -M)
+        .comparison(6, 0, M, -M)
         .link(0, 0, -LARGEST_COEFFICIENT)
         .link(0, 7, LARGEST_COEFFICIENT)
         .link(1, 1, 1)

@@ -5,9 +5,10 @@ use super::{Machine, Outcome};
 use crate::state::{State, Tables};
 use cup_check::generate::changes::change_fields;
 use cup_check::generate::{Family, Fill, Rng};
+use cup_check::limits::KIND_LIMIT;
 use cup_check::met::Met;
 use cup_check::plain::values::of_all_sources;
-use cup_check::plan::{Plan, LIMIT};
+use cup_check::plan::Plan;
 use cup_check::raw::RawState;
 use cup_check::sound::is_sound;
 
@@ -18,7 +19,7 @@ pub const STATES: u64 = 10_000;
 const ENOUGH: u64 = 1_000;
 
 /// The bit of the first node.
-const NODES_FROM: usize = 32;
+const FIRST_NODE_BIT: usize = 32;
 
 /// What to compare on.
 #[derive(Clone, Copy, Debug)]
@@ -122,7 +123,7 @@ fn reach(plan: &Plan, changed: usize) -> u64 {
         .filter(|link| follows(plan, link.source, changed));
     let integrators = named.map(|link| link.target);
     let nodes = (0..plan.nodes.len()).filter(|&j| follows(plan, plan.node_source(j), changed));
-    let bits = integrators.chain(nodes.map(|j| NODES_FROM + j));
+    let bits = integrators.chain(nodes.map(|j| FIRST_NODE_BIT + j));
     bits.fold(0, |mask, bit| mask | 1 << bit)
 }
 
@@ -138,7 +139,7 @@ fn follows(plan: &Plan, source: usize, changed: usize) -> bool {
     else {
         return false;
     };
-    follows(plan, node.a, changed) || node.kind != LIMIT && follows(plan, node.b, changed)
+    follows(plan, node.a, changed) || node.kind != KIND_LIMIT && follows(plan, node.b, changed)
 }
 
 /// What has to be met.
@@ -169,11 +170,11 @@ fn count(met: &mut Met, plan: &Plan, tables: &Tables) {
         met.add(BY_NODES, by_nodes.count_ones().into());
         let named = |j: &usize| {
             let node = &plan.nodes[*j];
-            node.a == changed || node.kind != LIMIT && node.b == changed
+            node.a == changed || node.kind != KIND_LIMIT && node.b == changed
         };
         let beside = (0..plan.nodes.len()).filter(named).count() as u32;
         let own = u32::from(changed >= plan.node_source(0));
-        let deep = (reached >> NODES_FROM).count_ones() - beside - own;
+        let deep = (reached >> FIRST_NODE_BIT).count_ones() - beside - own;
         met.add(DEEP, deep.into());
     }
     let linked = |i: &usize| plan.links.iter().any(|link| link.target == *i);

@@ -9,7 +9,7 @@ use cup_check::plan::Plan;
 const LINKS_EACH: usize = 8;
 /// What a cup loses, so that it stays within ±M.
 const LEAK: i64 = -48;
-/// What a threshold gives.
+/// What a comparison gives.
 const DRIVE: i64 = 1 << 27;
 /// Quanta are about this; no two cups have the same.
 const QUANTUM: i64 = 1 << 21;
@@ -17,7 +17,7 @@ const QUANTUM: i64 = 1 << 21;
 const COMMANDED_EACH: u32 = 300;
 
 /// n cups with 8 links each, 8 inputs, 16 nodes of all kinds and 64 commands. Every cup leaks, and
-/// reads a threshold, which turns round when a cup has passed an input's value, and then inputs,
+/// reads a comparison, which turns round when a cup has passed an input's value, and then inputs,
 /// nodes and other cups in turn.
 pub fn mixed(n: usize) -> Plan {
     let mut plan = with_inputs(with_cups(Plan::new(LARGEST_HORIZON), n));
@@ -25,7 +25,7 @@ pub fn mixed(n: usize) -> Plan {
         let (cup, input) = (node * 5 % n, plan.input_source(node % INPUTS));
         let (below, gain) = (plan.node_source(node) - 1, plan.input_source(0));
         plan = match node % 4 {
-            0 => plan.threshold(cup, input, DRIVE, -DRIVE),
+            0 => plan.comparison(cup, input, DRIVE, -DRIVE),
             1 => plan.difference(below, input),
             2 => plan.product(below, gain),
             _ => plan.limit(below, -DRIVE / 8, DRIVE / 8),
@@ -33,11 +33,11 @@ pub fn mixed(n: usize) -> Plan {
     }
     let sources = plan.sources();
     for cup in 0..n {
-        let threshold = plan.node_source(cup % 4 * 4);
+        let comparison = plan.node_source(cup % 4 * 4);
         let others = (0..sources).map(|step| (n + cup * 7 + step * 11) % sources);
-        let others = others.filter(|&source| source != cup && source != threshold);
+        let others = others.filter(|&source| source != cup && source != comparison);
         let mut named: Vec<usize> = others.take(LINKS_EACH - 2).collect();
-        named.extend([cup, threshold]);
+        named.extend([cup, comparison]);
         plan = with_links(plan, cup, named);
     }
     with_commands(plan)

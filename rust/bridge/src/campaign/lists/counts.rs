@@ -7,10 +7,11 @@ use cup_check::compare::Called;
 use cup_check::engine::Engine;
 use cup_check::generate::{Call, Family, Fill};
 use cup_check::limits::{
-    Section, EVENT_BYTES, FINISHED, INTEGRATORS, LARGEST_BUDGET, LISTING_BUDGET, NODES, RANGE,
+    Section, EVENT_BYTES, FINISHED, INTEGRATORS, KIND_LIMIT, LARGEST_BUDGET, LISTING_BUDGET, NODES,
+    RANGE,
 };
 use cup_check::met::Met;
-use cup_check::plan::{Plan, LIMIT};
+use cup_check::plan::Plan;
 use cup_check::raw::{RawPlan, RawState};
 
 /// How often each has to be met.
@@ -147,7 +148,11 @@ fn longest_chain(plan: &Plan) -> usize {
     for node in &plan.nodes {
         let first = plan.node_source(0);
         let below = |source: usize| source.checked_sub(first).map_or(0, |node| chains[node]);
-        let of_b = if node.kind == LIMIT { 0 } else { below(node.b) };
+        let of_b = if node.kind == KIND_LIMIT {
+            0
+        } else {
+            below(node.b)
+        };
         chains.push(1 + below(node.a).max(of_b));
     }
     chains.into_iter().max().unwrap_or(0)
