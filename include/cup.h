@@ -3,8 +3,9 @@
  * The functions are in target/staticlib/libcup.a, made by 'rt staticlib cup', for x86-64.
  *
  * They keep nothing between calls and always return. No pointer may be null, also where a length is
- * 0. The file must be readable, the buffer and the word behind the last pointer writable, and neither
- * of these two may overlap anything else that the call is given. A state is 9,808 bytes and goes by
+ * 0. The file must be readable, the buffer writable, and so must be the size_t that the last argument of
+ * cup_read, cup_section and cup_rewrite points to. Neither of these two may overlap anything else that
+ * the call is given. A state is 9,808 bytes and goes by
  * value, so a call takes up to about 100 KB of stack: give a thread that calls them 128 KB or more. */
 
 #ifndef CUP_H

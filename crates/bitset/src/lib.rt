@@ -1,5 +1,5 @@
-// Sets of small numbers as masks: bit i of a mask is set where i is in the set. Masks of 32 bits hold integrators; those of 64 bits, in
-// `wide`, hold source numbers. A set is visited in ascending order by `lowest` and `rest` while it is not 0.
+// Sets of small numbers as masks: bit i of a mask is set where i is in the set. Masks of 32 bits hold integrators, inputs or nodes; those of 64 bits, in
+// `wide`, sources, or integrators and nodes together. A set is visited in ascending order by `lowest` and `rest` while it is not 0.
 ghost use mathlib.Core.Path.{_≡_};
 ghost use Prim.Native.Nat.{_<_, _≤_};
 ghost use lib.Dec.{eqb};

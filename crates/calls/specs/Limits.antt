@@ -36,7 +36,7 @@ pub record RunLimits (answer : Ran) : Type 0 where
 -- of an accepted file
 pub record AcceptedLimits (file : List ℕ) : Type 0 where
   pub shortest : 52 ≤ length file
-  pub longest : length file ≤ longestFile
+  pub longest : length file ≤ 4492
   -- of a section view: how long it is, and that it ends inside the file
   pub view : (number : ℕ) → number ≤ 4 → length (sectionOf file number) ≤ 3072
   pub view-end : (number : ℕ) → number ≤ 4 → sectionStart file number + length (sectionOf file number) ≤ length file
@@ -51,7 +51,7 @@ pub record FileLimits (file : List ℕ) : Type 0 where
 
 -- of what the other calls answer on any state
 pub record AnswerLimits (st : State) : Type 0 where
-  pub write : (buffer : List ℕ) → (writeOf st buffer .number ≤ 14) × (writeOf st buffer .length ≤ longestFile)
+  pub write : (buffer : List ℕ) → (writeOf st buffer .number ≤ 14) × (writeOf st buffer .length ≤ 4492)
   pub written : (buffer : List ℕ) → writeOf st buffer .number ≡ 0 → 52 ≤ writeOf st buffer .length
   pub position : (i : ℕ) → (positionedOf st i .number ≤ 14) × (∣ positionedOf st i .value ∣ < 2 ^ 31)
   pub run : (engine : Engine) (budget : ℕ) (buffer : List ℕ) → RunLimits (runOf engine st budget buffer)

@@ -15,6 +15,7 @@ use machine::State;
 use plan::ACCEPTED;
 use plan::Finding;
 use plan::REFUSED_WRITE_BUFFER;
+use plan::SECTION_INTEGRATORS;
 use plan::SECTIONS;
 use plan::SOURCES;
 use planfile::read_plan;
@@ -40,13 +41,13 @@ use values::source_values;
 
 // Reads a plan file: the number, 0 where it is accepted, and the lowest faulty entry.
 #[no_mangle]
-pub extern "C" fn cup_read(file: &[u8], faulty: &mut usize) -> usize
+pub extern "C" fn cup_read(file: &[u8], entry: &mut usize) -> usize
     ensures answer { λ r. ⌜ r ≡ numberOf (findingOf (now (file .entry))) ⌝ }
-    ensures faulty { λ _. ⌜ now (faulty .exit) ≡ entryOf (findingOf (now (file .entry))) ⌝ }
+    ensures entry { λ _. ⌜ now (entry .exit) ≡ entryOf (findingOf (now (file .entry))) ⌝ }
 {
     let reading = read_plan(file);
     let found = reading.finding;
-    *faulty = entry_of(found);
+    *entry = entry_of(found);
     number_of(found)
 }
 
@@ -59,7 +60,7 @@ pub extern "C" fn cup_section(file: &[u8], number: usize, offset: &mut usize) ->
     ensures part { λ r. ⌜ part (now (file .entry)) (now (offset .exit)) r ≡ sectionOf (now (file .entry)) number ⌝ }
 {
     // An accepted file has an integrator, so its first section is not empty.
-    let integrators = section(file, 0).len();
+    let integrators = section(file, SECTION_INTEGRATORS).len();
     if integrators == 0 || SECTIONS <= number {
         *offset = 0;
         return 0;

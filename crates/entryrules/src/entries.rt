@@ -6,7 +6,7 @@ ghost use lib.Dec.{eqb, ltb};
 ghost use Rattle.integers.specs.Parts.{∣_∣};
 ghost use Rattle.integers.specs.Range.{within};
 ghost use Rattle.plan.specs.Numbers.{M, mostLinks, mostCommands};
-ghost use Rattle.plan.specs.Tests.{horizonKept, integratorTest, nodeTest, linkTest, commandTest, pairAscends, ascendsAt};
+ghost use Rattle.plan.specs.Tests.{horizonKept, integratorTest, nodeTest, linkLimitsTest, commandLimitsTest, pairAscends, ascendsAt};
 use plan::COMMANDS;
 use plan::KIND_COMPARISON;
 use plan::KIND_LIMIT;
@@ -37,7 +37,7 @@ pub fn horizon_kept(horizon: u32) -> bool
 }
 
 // "signed start within ±M; quantum 1 to M"
-pub fn integrator_kept(start: i64, quantum: i64) -> bool
+pub fn integrator_test(start: i64, quantum: i64) -> bool
     ensures { λ r. ⌜ r ≡ integratorTest start quantum ⌝ }
 {
     if !value_within_m(start) {
@@ -63,7 +63,7 @@ fn arithmetic_kept(own: usize, b: usize, lo: i64, hi: i64) -> bool
 }
 
 // The rule of a node's kind. The node's own source number is `own`: "A and B, where used, name integrators, inputs or lower-numbered nodes."
-pub fn node_kept(own: usize, kind: usize, a: usize, b: usize, lo: i64, hi: i64) -> bool
+pub fn node_test(own: usize, kind: usize, a: usize, b: usize, lo: i64, hi: i64) -> bool
     ensures { λ r. ⌜ r ≡ nodeTest own kind a b lo hi ⌝ }
 {
     if own <= a {
@@ -91,14 +91,14 @@ pub fn node_kept(own: usize, kind: usize, a: usize, b: usize, lo: i64, hi: i64) 
 }
 
 // "target integrator, source, signed coefficient, not 0, within ±16,777,216", with n integrators and `all` sources
-pub fn link_limits_kept(
+pub fn link_limits_test(
     n: usize,
     all: usize,
     target: usize,
     source: usize,
     coefficient: i64,
 ) -> bool
-    ensures { λ r. ⌜ r ≡ linkTest n all target source coefficient ⌝ }
+    ensures { λ r. ⌜ r ≡ linkLimitsTest n all target source coefficient ⌝ }
 {
     if n <= target {
         return false;
@@ -116,8 +116,8 @@ pub fn link_limits_kept(
 }
 
 // "tick 1 to horizon, input number below m, signed value within ±M"
-pub fn command_limits_kept(horizon: u32, m: usize, tick: u32, input: usize, value: i64) -> bool
-    ensures { λ r. ⌜ r ≡ commandTest horizon m tick input value ⌝ }
+pub fn command_limits_test(horizon: u32, m: usize, tick: u32, input: usize, value: i64) -> bool
+    ensures { λ r. ⌜ r ≡ commandLimitsTest horizon m tick input value ⌝ }
 {
     if tick < 1 {
         return false;
@@ -152,7 +152,7 @@ fn tick_ascends(tick: u32, input: usize, next_tick: u32, next_input: usize) -> b
 }
 
 // "Strictly ascending by target, then source": a link stands above its predecessor, if it has one.
-pub fn link_ordered<'a>(
+pub fn link_ascends<'a>(
     link: usize,
     targets: &'a [usize; LINKS],
     sources: &'a [usize; LINKS],
@@ -172,7 +172,7 @@ pub fn link_ordered<'a>(
 }
 
 // "Strictly ascending by tick, then input": a command stands above its predecessor, if it has one.
-pub fn command_ordered<'a>(
+pub fn command_ascends<'a>(
     command: usize,
     ticks: &'a [u32; COMMANDS],
     inputs: &'a [usize; COMMANDS],

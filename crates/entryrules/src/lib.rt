@@ -3,13 +3,13 @@
 mod entries;
 mod layout;
 
-pub use entries::command_limits_kept;
-pub use entries::command_ordered;
+pub use entries::command_ascends;
+pub use entries::command_limits_test;
 pub use entries::horizon_kept;
-pub use entries::integrator_kept;
-pub use entries::link_limits_kept;
-pub use entries::link_ordered;
-pub use entries::node_kept;
+pub use entries::integrator_test;
+pub use entries::link_ascends;
+pub use entries::link_limits_test;
+pub use entries::node_test;
 pub use entries::value_within_m;
 pub use layout::count_kept;
 pub use layout::counts_kept;

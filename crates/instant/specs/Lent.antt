@@ -12,7 +12,7 @@ use Rattle.plan.specs.declared.Counts.{Counts}
 use Rattle.plan.specs.declared.Plan.{Plan}
 use Rattle.machine.specs.Reach.{isDue}
 use Rattle.machine.specs.Instant.{nextTickOf, instant, eventsOf}
-use Rattle.machine.specs.Status.{isPaused}
+use Rattle.machine.specs.Status.{runningPaused}
 use Rattle.machine.specs.Sound.{SoundRunning, RunningWidths}
 use Rattle.machine.specs.declared.Clocks.{Clocks}
 use Rattle.machine.specs.declared.Running.{Running}
@@ -66,7 +66,7 @@ movedSet Eager n due reached = allOf n
 pub record InstantReady (p : Plan) (ranges reach : List ℕ) (t due : ℕ) (r : Running) (values : List ℤ) (at size : ℕ) : Type 0 where
   pub shaped : RunningWidths r
   pub sound : SoundRunning p r
-  pub paused : isPaused p r ≡ true
+  pub paused : runningPaused p r ≡ true
   pub tick : t ≡ nextTickOf p r
   pub due-set : due ≡ maskOf (isDue (r .d) t) (p .counts .n)
   pub ranges-are : ranges ≡ rangesOf p

@@ -23,7 +23,7 @@ use Rattle.machine.specs.Start.{startSlope, startDue, startOf, startState, idle
 use Rattle.machine.specs.Reach.{isDue, setsInput, isCommanded, changes, dependsWith, linkReaches, reached}
 use Rattle.machine.specs.Instant.{positionAt, inputThen, inputsThen, moves, bytesOfEvent, eventsAt, outputsThen, slopeThen, xThen, dueThen}
 use Rattle.machine.specs.Instant.{figuresAfter, nextTickOf, instant, eventsOf}
-use Rattle.machine.specs.Status.{statusNumber, statusPaused, bars, barring, statusBy, statusAt, statusOf, isPaused}
+use Rattle.machine.specs.Status.{statusNumber, isPaused, bars, barring, statusBy, statusAt, statusOf, runningPaused}
 use Rattle.machine.specs.Runs.{afterRun, eventsOfRun}
 use Rattle.listingtext.specs.Decimal.{digitsIn, decimal, signedDecimal}
 use Rattle.listingtext.specs.Lines.{eventLine, endLine, refusalLine, lineAt, linesOf}
@@ -64,7 +64,7 @@ unfolding examples ceilDiv limited within countOf numberAt bytesOf signedOf unsi
     linksFinding commandsFinding planFinding findingOf accepted nodeValue valueWith valueOf sumOver rateOf upperLevel lowerLevel distance ticksTo
     dueTick dueOf nextCommand commandTick leastDue nextTick startSlope startDue startOf startState idleState isDue setsInput
     isCommanded changes dependsWith linkReaches reached positionAt inputThen inputsThen moves bytesOfEvent eventsAt outputsThen slopeThen xThen
-    dueThen figuresAfter nextTickOf instant eventsOf bars barring statusNumber statusPaused statusBy statusAt statusOf isPaused afterRun eventsOfRun
+    dueThen figuresAfter nextTickOf instant eventsOf bars barring statusNumber isPaused statusBy statusAt statusOf runningPaused afterRun eventsOfRun
     digitsIn decimal signedDecimal eventLine endLine refusalLine lineAt linesOf loadOf ranState ranEvents eventLines endLineOf listingOfRun listingOf
     turnState turnMore turnText beginText turnsFrom printedIn
 examples-right = refl & refl & refl & refl & refl & end

@@ -4,9 +4,9 @@ use mathlib.Core.Bool.{true}
 use mathlib.Core.List.{List, [], _∷_}
 use Prim.Native.Nat.{ℕ, suc, _^_, _≤_, _<_}
 use lib.IntN.{pos, negℤ}
-use lib.ListN.{length, take, getD}
+use lib.ListN.{length, take}
 use Rattle.words.specs.Word.{Bytes}
-use Rattle.plan.specs.Numbers.{longestFile, listingInput, acceptance}
+use Rattle.plan.specs.Lists.{natAt}
 use Rattle.machine.specs.Status.{statusOf}
 use Rattle.machine.specs.Runs.{afterRun}
 use Rattle.machine.specs.Sound.{Sound}
@@ -43,15 +43,15 @@ TextsFit = ((st : State) → Sound st → length (turnText st) ≤ textSpace) ×
 
 -- "reads at most 4,493 bytes of standard input": one more than the longest file that is accepted, so that of a longer input nothing is listed
 abbrev pub LongRefused : Type 0
-LongRefused = (input : List ℕ) → longestFile < length input → loadOf (take listingInput input) .number ≡ acceptance → ⊥
+LongRefused = (input : List ℕ) → 4492 < length input → loadOf (take 4493 input) .number ≡ 0 → ⊥
 
 -- what the text of a number is: its decimal digits, by which it is read back, with no 0 in front of others, so that 0 is the one digit 0, and
 -- '-' in front where it is below 0
 pub record NumberTexts : Type 0 where
   pub read : (n : ℕ) → readFrom 0 (decimal n) ≡ n
-  pub digits : (n i : ℕ) → i < length (decimal n) → (48 ≤ getD (decimal n) i 0) × (getD (decimal n) i 0 ≤ 57)
+  pub digits : (n i : ℕ) → i < length (decimal n) → (48 ≤ natAt (decimal n) i) × (natAt (decimal n) i ≤ 57)
   pub zero-text : decimal 0 ≡ 48 ∷ []
-  pub no-zero : (n : ℕ) → 1 ≤ n → 49 ≤ getD (decimal n) 0 0
+  pub no-zero : (n : ℕ) → 1 ≤ n → 49 ≤ natAt (decimal n) 0
   pub from-zero : (n : ℕ) → signedDecimal (pos n) ≡ decimal n
   pub below-zero : (n : ℕ) → signedDecimal (negℤ (pos (suc n))) ≡ 45 ∷ decimal (suc n)
   -- of a 64-bit number there are at most 20

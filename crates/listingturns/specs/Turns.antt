@@ -1,11 +1,11 @@
--- Binding definition: the turns of the program's loop, a run with budget 64 and its text each, "until status 1 or 2".
+-- Model of the code: the turns of the program's loop, a run with budget 64 and its text each, "until status 1 or 2".
 use mathlib.Core.Bool.{Bool, cond}
 use mathlib.Core.List.{List, [], _++_}
-use Prim.Native.Nat.{ℕ, zero, suc}
+use Prim.Native.Nat.{ℕ, zero, suc, _+_, _*_}
 use lib.Dec.{eqb}
 use lib.ListN.{length}
-use Rattle.plan.specs.Numbers.{listingBudget, acceptance}
-use Rattle.machine.specs.Status.{isPaused}
+use Rattle.plan.specs.Numbers.{listingBudget, mostIntegrators, mostInputs, eventBytes, acceptance}
+use Rattle.machine.specs.Status.{runningPaused}
 use Rattle.machine.specs.declared.State.{State}
 use Rattle.machine.specs.declared.Engine.the-variants.{Lazy}
 use Rattle.listingtext.specs.Lines.{refusalLine}
@@ -16,10 +16,10 @@ use Rattle.listingturns.specs.declared.Turn.{Turn}
 -- the room that a turn's buffers need: its events, 64 × 40 × 12 bytes, and its text, 64 × 40 lines of up to 26 characters and an end line
 -- of up to 40; and the room that a refusal needs
 abbrev pub eventSpace : ℕ
-eventSpace = 30720
+eventSpace = listingBudget * (mostIntegrators + mostInputs) * eventBytes
 
 abbrev pub textSpace : ℕ
-textSpace = 66600
+textSpace = listingBudget * (mostIntegrators + mostInputs) * 26 + 40
 
 abbrev pub refusalSpace : ℕ
 refusalSpace = 14
@@ -31,7 +31,7 @@ module _ (st : State) where
 
   -- "until status 1 or 2": another turn follows
   unfoldable pub turnMore : Bool
-  turnMore = isPaused (turnState .plan) (turnState .run)
+  turnMore = runningPaused (turnState .plan) (turnState .run)
 
   -- the lines of its events, and behind the last turn's the end line
   unfoldable pub turnText : List ℕ

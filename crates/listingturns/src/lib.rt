@@ -24,13 +24,13 @@ use simulator::run_lazy;
 pub const EVENT_SPACE: usize = LISTING_BUDGET as usize * (INTEGRATORS + INPUTS) * EVENT_BYTES;
 
 // The most characters of an event's line, and of the end line.
-const EVENT_LINE: usize = 26;
+const EVENT_LINE_BYTES: usize = 26;
 
-const END_LINE: usize = 40;
+const END_LINE_BYTES: usize = 40;
 
 // The characters of its text: a line for each event, and an end line.
-pub const TEXT_SPACE: usize = LISTING_BUDGET as usize * (INTEGRATORS + INPUTS) * EVENT_LINE
-    + END_LINE;
+pub const TEXT_SPACE: usize = LISTING_BUDGET as usize * (INTEGRATORS + INPUTS) * EVENT_LINE_BYTES
+    + END_LINE_BYTES;
 
 // How many bytes of text stand at the start of the buffer, whether a turn follows, and the state for it.
 pub struct Turn {
@@ -73,25 +73,25 @@ pub fn take_turn(state: State, events: &mut [u8], text: &mut [u8]) -> Turn
 {
     let ran = run_lazy(state, LISTING_BUDGET, events);
     let lines = write_lines(text, events, ran.written / EVENT_BYTES);
-    let reached = ran.state;
+    let state_after = ran.state;
     if ran.status == PAUSED {
         return Turn {
             length: lines,
             more: true,
-            state: reached,
+            state: state_after,
         };
     }
-    let clock = reached.run.clocks.clock as u64;
+    let clock = state_after.run.clocks.clock as u64;
     let end = write_end(
         &mut text[lines..],
         ran.status as u64,
         clock,
-        reached.run.clocks.instants,
-        reached.run.clocks.updates,
+        state_after.run.clocks.instants,
+        state_after.run.clocks.updates,
     );
     Turn {
         length: lines + end,
         more: false,
-        state: reached,
+        state: state_after,
     }
 }

@@ -13,7 +13,7 @@ use Rattle.machine.specs.Due.{dueOf}
 use Rattle.machine.specs.Next.{nextCommand, nextTick}
 use Rattle.machine.specs.Reach.{isDue, reached}
 use Rattle.machine.specs.Instant.{inputsThen, eventsAt}
-use Rattle.machine.specs.Status.{statusPaused, statusAt}
+use Rattle.machine.specs.Status.{isPaused, statusAt}
 use Rattle.machine.specs.declared.Status.{Status}
 
 -- positions at the clock, outputs, slopes and due ticks; input values; clock, next command and instants
@@ -76,11 +76,11 @@ module _ (p : Plan) where
   -- "From Start it takes B instants, or fewer if its status is first 1 or 2."
   unfoldable pub plainFrom : ℕ → Plain → Plain
   plainFrom zero plain = plain
-  plainFrom (suc b) plain = cond (statusPaused (plainStatus plain)) (plainFrom b (plainInstant plain)) plain
+  plainFrom (suc b) plain = cond (isPaused (plainStatus plain)) (plainFrom b (plainInstant plain)) plain
 
   unfoldable pub plainEventsFrom : ℕ → Plain → List ℕ
   plainEventsFrom zero plain = []
-  plainEventsFrom (suc b) plain = cond (statusPaused (plainStatus plain)) (plainEventsOf plain ++ plainEventsFrom b (plainInstant plain)) []
+  plainEventsFrom (suc b) plain = cond (isPaused (plainStatus plain)) (plainEventsOf plain ++ plainEventsFrom b (plainInstant plain)) []
 
   -- fed the budget sum
   unfoldable pub plainAfter : ℕ → Plain

@@ -28,7 +28,7 @@ module _ (p : Plan) (d : List ℕ) (t : ℕ) where
 
   -- Source i is one, or a node that depends on one, where only the first j nodes are looked at: "dependence is followed down through
   -- lower-numbered nodes". Kind 2 names nothing by B.
-  unfoldable pub dependsWith : ℕ → ℕ → Bool
+  unfoldable pub dependsWith : (j i : ℕ) → Bool
   dependsWith zero i = changes i
   dependsWith (suc j) i =
       cond (eqb i (p .counts .n + p .counts .m + j))
@@ -36,7 +36,7 @@ module _ (p : Plan) (d : List ℕ) (t : ℕ) where
       (dependsWith j i)
 
   -- link e is integrator i's own, and names a source that changes or depends on one that does
-  unfoldable pub linkReaches : ℕ → ℕ → Bool
+  unfoldable pub linkReaches : (i e : ℕ) → Bool
   linkReaches i e = eqb (natAt (p .links .targets) e) i && dependsWith (p .counts .k) (natAt (p .links .sources) e)
 
   -- "An integrator is reached if a link of its own names a due integrator, a commanded input, or a node that depends on one"

@@ -5,7 +5,7 @@ use Prim.Native.Nat.{ℕ, zero, suc}
 use lib.IntN.{ℤ}
 use Rattle.plan.specs.declared.Plan.{Plan}
 use Rattle.machine.specs.Instant.{positionAt, instant, eventsOf}
-use Rattle.machine.specs.Status.{isPaused}
+use Rattle.machine.specs.Status.{runningPaused}
 use Rattle.machine.specs.declared.Running.{Running}
 use Rattle.machine.specs.declared.Engine.{Engine}
 
@@ -13,12 +13,12 @@ module _ (p : Plan) (engine : Engine) where
   -- the running figures after a run
   unfoldable pub afterRun : ℕ → Running → Running
   afterRun zero r = r
-  afterRun (suc b) r = cond (isPaused p r) (afterRun b (instant p engine r)) r
+  afterRun (suc b) r = cond (runningPaused p r) (afterRun b (instant p engine r)) r
 
   -- the bytes of its events
   unfoldable pub eventsOfRun : ℕ → Running → List ℕ
   eventsOfRun zero r = []
-  eventsOfRun (suc b) r = cond (isPaused p r) (eventsOf p r ++ eventsOfRun b (instant p engine r)) []
+  eventsOfRun (suc b) r = cond (runningPaused p r) (eventsOf p r ++ eventsOfRun b (instant p engine r)) []
 
 -- "Position call: x+s×(c−l) for a numbered integrator."
 unfoldable pub positionOf : Running → ℕ → ℤ

@@ -27,10 +27,10 @@ statusIntegrator Paused = 0
 statusIntegrator Finished = 0
 statusIntegrator (Range i) = i
 
-unfoldable pub statusPaused : Status → Bool
-statusPaused Paused = true
-statusPaused Finished = false
-statusPaused (Range i) = false
+unfoldable pub isPaused : Status → Bool
+isPaused Paused = true
+isPaused Finished = false
+isPaused (Range i) = false
 
 -- "If any such value is beyond ±M, the instant isn't taken": integrator i is due at t, and its value there is beyond
 unfoldable pub bars : (d : List ℕ) (t : ℕ) (value : ℕ → ℤ) (i : ℕ) → Bool
@@ -52,5 +52,5 @@ module _ (p : Plan) (r : Running) where
   unfoldable pub statusOf : Status
   statusOf = statusAt p (r .d) (nextTickOf p r) (positionAt r (nextTickOf p r))
 
-  unfoldable pub isPaused : Bool
-  isPaused = statusPaused statusOf
+  unfoldable pub runningPaused : Bool
+  runningPaused = isPaused statusOf

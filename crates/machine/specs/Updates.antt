@@ -32,9 +32,9 @@ unfoldable pub eagerInstants : (ℕ → Engine) → ℕ → ℕ
 eagerInstants engine last = countOf (λ i. isEager (engine (i + 1))) last
 
 -- over those of the instants 1 to `last` that a lazy call took: the number due or reached, added up
-unfoldable pub lazyMoves : Plan → (ℕ → Engine) → ℕ → ℕ
-lazyMoves p engine zero = 0
-lazyMoves p engine (suc last) = lazyMoves p engine last + cond (isEager (engine (last + 1))) 0 (lazyCount p (plainAfter p last))
+unfoldable pub lazyGrowth : Plan → (ℕ → Engine) → ℕ → ℕ
+lazyGrowth p engine zero = 0
+lazyGrowth p engine (suc last) = lazyGrowth p engine last + cond (isEager (engine (last + 1))) 0 (lazyCount p (plainAfter p last))
 
 -- "the number of integrators with l = c"
 unfoldable pub movedNow : Plan → Running → ℕ

@@ -28,7 +28,7 @@ nodeValue kind a b lo hi =
 module _ (p : Plan) (q u : List ℤ) where
   -- The value of source i once the first j nodes are worked out: "integrators 0 to n−1, inputs n to n+m−1, nodes from n+m"; "Integrators
   -- give q, inputs their value, nodes their value." A node that is not worked out yet counts as 0.
-  unfoldable pub valueWith : ℕ → ℕ → ℤ
+  unfoldable pub valueWith : (j i : ℕ) → ℤ
   valueWith zero i = cond (ltb i (p .counts .n)) (intAt q i) (cond (ltb i (p .counts .n + p .counts .m)) (intAt u (i - p .counts .n)) (pos 0))
   valueWith (suc j) i =
       cond (eqb i (p .counts .n + p .counts .m + j))
@@ -40,7 +40,7 @@ module _ (p : Plan) (q u : List ℤ) where
   valueOf i = valueWith (p .counts .k) i
 
   -- the sum of coefficient × source value over those of the first e links that are integrator i's
-  unfoldable pub sumOver : ℕ → ℕ → ℤ
+  unfoldable pub sumOver : (i e : ℕ) → ℤ
   sumOver i zero = pos 0
   sumOver i (suc e) =
       sumOver i e

@@ -3,7 +3,7 @@ ghost use mathlib.Core.Path.{_≡_};
 ghost use lib.IntN.{pos};
 ghost use Rattle.plan.specs.Numbers.{M, never};
 ghost use Rattle.machine.specs.Start.{idleState};
-ghost use Rattle.machine.specs.Status.{statusNumber, statusIntegrator, statusPaused};
+ghost use Rattle.machine.specs.Status.{statusNumber, statusIntegrator, isPaused};
 use plan::FINISHED;
 use plan::INPUTS;
 use plan::INTEGRATORS;
@@ -77,7 +77,7 @@ impl Status {
     }
 
     pub fn is_paused(self) -> bool
-        ensures { λ r. ⌜ r ≡ statusPaused self ⌝ }
+        ensures { λ r. ⌜ r ≡ isPaused self ⌝ }
     {
         match self {
             Status::Paused => true,

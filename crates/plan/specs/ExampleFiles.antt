@@ -1,4 +1,4 @@
--- Worked examples, computed by the checker: "A cup in full" as its bytes and as its plan, and files made of a horizon and the words of five
+-- For worked examples, which the checker computes: "A cup in full" as its bytes and as its plan, and files made of a horizon and the words of five
 -- sections.
 use mathlib.Core.List.{List, [], _∷_, _++_}
 use Prim.Native.Nat.{ℕ, _+_, _*_}

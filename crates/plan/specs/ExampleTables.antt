@@ -1,4 +1,4 @@
--- Worked examples, computed by the checker: a table of cases, each a value that the definitions compute and the value that it is to be.
+-- For worked examples, which the checker computes: a table of cases, each a value that the definitions compute and the value that it is to be.
 use mathlib.Core.Path.{_≡_}
 use mathlib.Core.List.{List, [], _∷_}
 

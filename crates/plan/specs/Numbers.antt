@@ -3,7 +3,7 @@
 use mathlib.Core.List.{List, [], _∷_}
 use Prim.Native.Nat.{ℕ, _+_, _*_}
 use lib.IntN.{pos}
-use Rattle.plan.specs.declared.numbers.Largest.{Largest}
+use Rattle.plan.specs.declared.numbers.Limits.{Limits}
 use Rattle.plan.specs.declared.numbers.Widths.{Widths}
 use Rattle.plan.specs.declared.numbers.SectionNumbers.{SectionNumbers}
 use Rattle.plan.specs.declared.numbers.Kinds.{Kinds}
@@ -36,8 +36,8 @@ largestBudget = 1024
 abbrev pub listingBudget : ℕ
 listingBudget = 64
 
-abbrev pub largest : Largest
-largest =
+abbrev pub limits : Limits
+limits =
     record {
       value = pos M;
       coefficient = pos largestCoefficient;
@@ -175,11 +175,11 @@ headerBytes = 4 + 8 * sections
 
 -- a file with the most entries of every section
 abbrev pub longestFile : ℕ
-longestFile = 4492
+longestFile = headerBytes + integratorBytes * mostIntegrators + inputBytes * mostInputs + nodeBytes * mostNodes + linkBytes * mostLinks + commandBytes * mostCommands
 
 -- "reads at most 4,493 bytes of standard input", the listing program: one more, so that a longer input is refused
 abbrev pub listingInput : ℕ
-listingInput = 4493
+listingInput = longestFile + 1
 
 -- "Events of an instant: .. 12 bytes each"
 abbrev pub eventBytes : ℕ

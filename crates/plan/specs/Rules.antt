@@ -7,7 +7,7 @@ use Prim.Native.Nat.{ℕ, suc, _+_, _%_, _≤_, _<_}
 use lib.IntN.{ℤ, pos, negℤ}
 use lib.Signed.{_≤ℤ_}
 use lib.ListN.{length, getD}
-use Rattle.plan.specs.Numbers.{M, largestCoefficient, largestHorizon, sections, entrySizes, leastCounts, largestCounts, headerBytes, kindProduct, kindLimit, kindComparison}
+use Rattle.plan.specs.Numbers.{M, largestCoefficient, largestHorizon, sections, entrySizes, leastCounts, largestCounts, headerBytes, sectionIntegrators, refusedCommand, kindProduct, kindLimit, kindComparison}
 use Rattle.plan.specs.Lists.{natAt, intAt}
 use Rattle.plan.specs.Format.{offsetIn, lengthIn}
 use Rattle.plan.specs.Format.{countIn, planIn}
@@ -28,7 +28,7 @@ AscendsAt xs ys e = (before : ℕ) → suc before ≡ e → (natAt xs before < n
 
 module _ (file : List ℕ) where
   pub record OffsetRule : Type 0 where
-    pub first : offsetIn file 0 ≡ headerBytes
+    pub first : offsetIn file sectionIntegrators ≡ headerBytes
     pub next : (section : ℕ) → suc section < sections → offsetIn file (suc section) ≡ offsetIn file section + lengthIn file section
     pub last : (section : ℕ) → suc section ≡ sections → length file ≡ offsetIn file section + lengthIn file section
 
@@ -79,7 +79,7 @@ module _ (p : Plan) where
   pub record CommandRule (e : ℕ) : Type 0 where
     pub least : 1 ≤ natAt (p .commands .ticks) e
     pub most : natAt (p .commands .ticks) e ≤ p .horizon
-    pub number : natAt (p .commands .inputs) e < p .counts .m
+    pub input : natAt (p .commands .inputs) e < p .counts .m
     pub value : Within M (intAt (p .commands .values) e)
     pub order : AscendsAt (p .commands .ticks) (p .commands .inputs) e
 
@@ -125,7 +125,7 @@ module _ (file : List ℕ) where
 
 -- what number and entry mean, by the rules as propositions
 pub record Answered (file : List ℕ) (number entry : ℕ) : Type 0 where
-  pub known : number ≤ 9
+  pub known : number ≤ refusedCommand
   -- number 0: every entry keeps every rule, and the entry is 0
   pub accepts : number ≡ 0 → ((rule : ℕ) → Holds file rule) × (entry ≡ 0)
   -- any other: the rules of lower numbers hold; the entry is one of its rule's, those below it keep the rule, and it breaks it

@@ -49,13 +49,13 @@ nodeTest own kind a b lo hi =
     (within M lo && within M hi && cond (eqb kind kindLimit) (eqb b 0 && leZ lo hi) (eqb kind kindComparison && ltb b own))
 
 -- "target integrator, source, signed coefficient, not 0, within ±16,777,216", with n integrators and `all` sources
-abbrev pub linkTest : (n all target source : ℕ) (coefficient : ℤ) → Bool
-linkTest n all target source coefficient =
+abbrev pub linkLimitsTest : (n all target source : ℕ) (coefficient : ℤ) → Bool
+linkLimitsTest n all target source coefficient =
     ltb target n && ltb source all && not (eqb ∣ coefficient ∣ 0) && within largestCoefficient coefficient
 
 -- "tick 1 to horizon, input number below m, signed value within ±M"
-abbrev pub commandTest : (horizon m tick number : ℕ) (value : ℤ) → Bool
-commandTest horizon m tick number value = leb 1 tick && leb tick horizon && ltb number m && within M value
+abbrev pub commandLimitsTest : (horizon m tick input : ℕ) (value : ℤ) → Bool
+commandLimitsTest horizon m tick input value = leb 1 tick && leb tick horizon && ltb input m && within M value
 
 -- a pair stands before the next pair: by the first number, then by the second
 unfoldable pub pairAscends : (first second nextFirst nextSecond : ℕ) → Bool
@@ -87,14 +87,14 @@ module _ (p : Plan) where
   -- "Links may name any source."
   unfoldable pub linkLimitsKept : ℕ → Bool
   linkLimitsKept e =
-      linkTest (p .counts .n) (p .counts .n + p .counts .m + p .counts .k) (natAt (p .links .targets) e) (natAt (p .links .sources) e) (intAt (p .links .coefficients) e)
+      linkLimitsTest (p .counts .n) (p .counts .n + p .counts .m + p .counts .k) (natAt (p .links .targets) e) (natAt (p .links .sources) e) (intAt (p .links .coefficients) e)
 
   -- "Strictly ascending by target, then source."
   unfoldable pub linkOrdered : ℕ → Bool
   linkOrdered e = ascendsAt (p .links .targets) (p .links .sources) e
 
   unfoldable pub commandLimitsKept : ℕ → Bool
-  commandLimitsKept e = commandTest (p .horizon) (p .counts .m) (natAt (p .commands .ticks) e) (natAt (p .commands .inputs) e) (intAt (p .commands .values) e)
+  commandLimitsKept e = commandLimitsTest (p .horizon) (p .counts .m) (natAt (p .commands .ticks) e) (natAt (p .commands .inputs) e) (intAt (p .commands .values) e)
 
   -- "Strictly ascending by tick, then input."
   unfoldable pub commandOrdered : ℕ → Bool

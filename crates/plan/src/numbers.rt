@@ -1,7 +1,7 @@
 // The numbers of document 01 by name. A definition can't cite a constant, so specs/Numbers has each of them again; the functions of this file
 // hand the constants out, a group at a time, and their contracts say that the two are equal.
 ghost use mathlib.Core.Path.{_≡_};
-ghost use Rattle.plan.specs.Numbers.{largest, widths, sectionNumbers, kinds, sizes, refusals, statuses};
+ghost use Rattle.plan.specs.Numbers.{limits, widths, sectionNumbers, kinds, sizes, refusals, statuses};
 
 // "Let M = 2^30 = 1,073,741,824."
 pub const M: i64 = 1073741824;
@@ -21,7 +21,7 @@ pub const LARGEST_BUDGET: u64 = 1024;
 // "runs lazily with budget 64", the listing program.
 pub const LISTING_BUDGET: u64 = 64;
 
-pub struct Largest {
+pub struct Limits {
     pub value: i64,
     pub coefficient: i64,
     pub horizon: u32,
@@ -30,9 +30,9 @@ pub struct Largest {
     pub listing: u64,
 }
 
-impl Largest {
+impl Limits {
     pub fn named() -> Self
-        ensures { λ r. ⌜ r ≡ largest ⌝ }
+        ensures { λ r. ⌜ r ≡ limits ⌝ }
     {
         Self {
             value: M,

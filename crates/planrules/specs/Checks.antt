@@ -8,7 +8,7 @@ use lib.IntN.{ℤ}
 use Rattle.integers.specs.Range.{within}
 use Rattle.plan.specs.Numbers.{M}
 use Rattle.plan.specs.Lists.{natAt, intAt}
-use Rattle.plan.specs.Tests.{integratorTest, nodeTest, linkTest, commandTest, ascendsAt}
+use Rattle.plan.specs.Tests.{integratorTest, nodeTest, linkLimitsTest, commandLimitsTest, ascendsAt}
 use Rattle.plan.specs.Refusals.{unless, firstFinding}
 use Rattle.plan.specs.declared.Finding.{Finding}
 use Rattle.plan.specs.declared.Finding.the-variants.{Integrator, Input, Node, Link, Command}
@@ -39,7 +39,7 @@ nodesCheck base k kinds a b lows highs = checked (nodeAt base kinds a b lows hig
 
 -- `all` is n + m + k, the number of sources
 abbrev pub linkLimitsAt : (n all : ℕ) (targets sources : List ℕ) (coefficients : List ℤ) (e : ℕ) → Bool
-linkLimitsAt n all targets sources coefficients e = linkTest n all (natAt targets e) (natAt sources e) (intAt coefficients e)
+linkLimitsAt n all targets sources coefficients e = linkLimitsTest n all (natAt targets e) (natAt sources e) (intAt coefficients e)
 
 abbrev pub linkAt : (n all : ℕ) (targets sources : List ℕ) (coefficients : List ℤ) (e : ℕ) → Bool
 linkAt n all targets sources coefficients e = linkLimitsAt n all targets sources coefficients e && ascendsAt targets sources e
@@ -48,7 +48,7 @@ abbrev pub linksCheck : (n all links : ℕ) (targets sources : List ℕ) (coeffi
 linksCheck n all links targets sources coefficients = checked (linkAt n all targets sources coefficients) Link links
 
 abbrev pub commandLimitsAt : (horizon m : ℕ) (ticks inputs : List ℕ) (values : List ℤ) (e : ℕ) → Bool
-commandLimitsAt horizon m ticks inputs values e = commandTest horizon m (natAt ticks e) (natAt inputs e) (intAt values e)
+commandLimitsAt horizon m ticks inputs values e = commandLimitsTest horizon m (natAt ticks e) (natAt inputs e) (intAt values e)
 
 abbrev pub commandAt : (horizon m : ℕ) (ticks inputs : List ℕ) (values : List ℤ) (e : ℕ) → Bool
 commandAt horizon m ticks inputs values e = commandLimitsAt horizon m ticks inputs values e && ascendsAt ticks inputs e

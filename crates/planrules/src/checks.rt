@@ -9,14 +9,14 @@ ghost use Rattle.plan.specs.Rules.{CountsRule};
 ghost use Rattle.plan.specs.Refusals.{isClean, unless, orElse, planFinding};
 ghost use Rattle.plan.specs.declared.Finding.the-variants.{Horizon};
 ghost use Rattle.planrules.specs.Checks.{integratorsCheck, inputsCheck, nodesCheck, linksCheck, commandsCheck};
-use entryrules::command_limits_kept;
-use entryrules::command_ordered;
+use entryrules::command_ascends;
+use entryrules::command_limits_test;
 use entryrules::counts_kept;
 use entryrules::horizon_kept;
-use entryrules::integrator_kept;
-use entryrules::link_limits_kept;
-use entryrules::link_ordered;
-use entryrules::node_kept;
+use entryrules::integrator_test;
+use entryrules::link_ascends;
+use entryrules::link_limits_test;
+use entryrules::node_test;
 use entryrules::value_within_m;
 use plan::COMMANDS;
 use plan::Finding;
@@ -48,7 +48,7 @@ fn check_integrators<'a>(
 {
     let mut i = 0;
     while i < n {
-        if !integrator_kept(starts[i], quanta[i]) {
+        if !integrator_test(starts[i], quanta[i]) {
             return Finding::Integrator(i);
         }
         i += 1;
@@ -86,7 +86,7 @@ fn check_nodes<'a>(
 {
     let mut j = 0;
     while j < k {
-        if !node_kept(base + j, kinds[j], a[j], b[j], lows[j], highs[j]) {
+        if !node_test(base + j, kinds[j], a[j], b[j], lows[j], highs[j]) {
             return Finding::Node(j);
         }
         j += 1;
@@ -108,10 +108,10 @@ fn check_links<'a>(
 {
     let mut e = 0;
     while e < links {
-        if !link_limits_kept(n, all, targets[e], sources[e], coefficients[e]) {
+        if !link_limits_test(n, all, targets[e], sources[e], coefficients[e]) {
             return Finding::Link(e);
         }
-        if !link_ordered(e, targets, sources) {
+        if !link_ascends(e, targets, sources) {
             return Finding::Link(e);
         }
         e += 1;
@@ -161,10 +161,10 @@ fn check_commands<'a>(
 {
     let mut e = 0;
     while e < commands {
-        if !command_limits_kept(horizon, m, ticks[e], inputs[e], values[e]) {
+        if !command_limits_test(horizon, m, ticks[e], inputs[e], values[e]) {
             return Finding::Command(e);
         }
-        if !command_ordered(e, ticks, inputs) {
+        if !command_ascends(e, ticks, inputs) {
             return Finding::Command(e);
         }
         e += 1;

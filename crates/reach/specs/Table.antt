@@ -6,7 +6,7 @@ use Prim.Native.Nat.{ℕ, zero, suc, _+_, _≤_, _<_}
 use lib.Dec.{eqb}
 use lib.ListN.{set, replicate}
 use Rattle.bitset.specs.Mask.{has, each, union, withBit}
-use Rattle.plan.specs.Numbers.{mostIntegrators, mostLinks, sourceWidth}
+use Rattle.plan.specs.Numbers.{mostIntegrators, mostLinks, sourceWidth, kindLimit}
 use Rattle.plan.specs.Lists.{natAt}
 use Rattle.plan.specs.declared.Plan.{Plan}
 
@@ -19,9 +19,13 @@ marked place bit table (suc e) = set (marked place bit table e) (place e) (withB
 abbrev pub linkEntries : List ℕ → List ℕ → ℕ → List ℕ
 linkEntries targets sources links = marked (natAt sources) (natAt targets) (replicate sourceWidth 0) links
 
+-- The lower half of an entry is the integrators', the upper half the nodes'.
+abbrev pub firstNodeBit : ℕ
+firstNodeBit = 32
+
 -- each node in its own entry
 abbrev pub ownEntries : ℕ → List ℕ → ℕ → List ℕ
-ownEntries base table k = marked (λ j. base + j) (λ j. 32 + j) table k
+ownEntries base table k = marked (λ j. base + j) (λ j. firstNodeBit + j) table k
 
 -- the bits of an entry added to a source's
 abbrev pub addedTo : List ℕ → ℕ → ℕ → List ℕ
@@ -32,7 +36,7 @@ module _ (kinds a b : List ℕ) (base : ℕ) where
   unfoldable pub addedToOperands : ℕ → List ℕ → List ℕ
   addedToOperands j table =
       let entry = natAt table (base + j) in let left = addedTo table (natAt a j) entry in
-      cond (eqb (natAt kinds j) 2) left (addedTo left (natAt b j) entry)
+      cond (eqb (natAt kinds j) kindLimit) left (addedTo left (natAt b j) entry)
 
   -- "dependence is followed down through lower-numbered nodes": from node j - 1 down to node 0
   unfoldable pub followedDown : ℕ → List ℕ → List ℕ

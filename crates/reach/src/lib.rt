@@ -142,6 +142,6 @@ pub fn reached_by(changed: u64, table: &[u64; SOURCES]) -> Reach
 {
     let entries = entries_of(changed, table);
     let integrators = (entries % 4294967296) as u32;
-    let nodes = (entries >> 32) as u32;
+    let nodes = (entries >> FIRST_NODE_BIT) as u32;
     Reach { integrators, nodes }
 }

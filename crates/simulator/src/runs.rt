@@ -48,7 +48,7 @@ fn run_by(engine: Engine, state: State, budget: u64, buffer: &mut [u8]) -> Ran
     let status_number = status.number();
     let integrator = status.integrator();
     let after = ended.run;
-    let reached = State {
+    let state_after = State {
         run: after,
         ..state
     };
@@ -57,11 +57,11 @@ fn run_by(engine: Engine, state: State, budget: u64, buffer: &mut [u8]) -> Ran
         status: status_number,
         integrator,
         written: ended.written,
-        state: reached,
+        state: state_after,
     }
 }
 
-// "The lazy engine moves those due or reached".
+// "The lazy engine moves those due or state_after".
 pub fn run_lazy(state: State, budget: u64, buffer: &mut [u8]) -> Ran
     ensures answer { λ r. ⌜ r ≡ runOf Lazy state budget (now (buffer .entry)) ⌝ }
     ensures buffer { λ _. ⌜ now (buffer .exit) ≡ bufferOfRun Lazy state budget (now (buffer .entry)) ⌝ }

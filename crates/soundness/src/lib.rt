@@ -5,7 +5,7 @@ ghost use Rattle.machine.specs.SoundTest.{isSound};
 use crate::running::running_sound;
 use machine::State;
 use planrules::plan_kept;
-use unused::plan_unused_zero;
+use unusedentries::plan_unused_zero;
 
 mod running;
 

@@ -8,13 +8,13 @@ ghost use Rattle.plan.specs.Lists.{intAt, every};
 ghost use Rattle.plan.specs.Rules.{PlanRules};
 ghost use Rattle.machine.specs.SoundTest.{runningSound};
 use entryrules::value_within_m;
-use integratortest::integrators_sound;
 use machine::Running;
 use plan::Plan;
 use rates::link_ranges;
 use rates::rates;
+use soundintegrators::integrators_sound;
 use timing::next_command;
-use unused::figures_unused_zero;
+use unusedentries::running_unused_zero;
 use values::source_values;
 
 // "|q| ≤ M", and "inputs are within ±M".
@@ -91,5 +91,5 @@ pub fn running_sound(plan: Plan, run: Running) -> bool
     if run.clocks.updates > (n as u64) * run.clocks.instants {
         return false;
     }
-    figures_unused_zero(n, m, run)
+    running_unused_zero(n, m, run)
 }

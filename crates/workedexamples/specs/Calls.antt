@@ -29,7 +29,7 @@ use Rattle.machine.specs.Start.{startSlope, startDue, startOf, startState, idle
 use Rattle.machine.specs.Reach.{isDue, setsInput, isCommanded, changes, dependsWith, linkReaches, reached}
 use Rattle.machine.specs.Instant.{positionAt, inputThen, inputsThen, moves, bytesOfEvent, eventsAt, outputsThen, slopeThen, xThen, dueThen}
 use Rattle.machine.specs.Instant.{figuresAfter, nextTickOf, instant, eventsOf}
-use Rattle.machine.specs.Status.{statusNumber, statusIntegrator, statusPaused, bars, barring, statusBy, statusAt, statusOf, isPaused}
+use Rattle.machine.specs.Status.{statusNumber, statusIntegrator, isPaused, bars, barring, statusBy, statusAt, statusOf, runningPaused}
 use Rattle.machine.specs.Runs.{afterRun, eventsOfRun, positionOf}
 use Rattle.machine.specs.Plain.{withRatesAndDues, plainStart, plainNextTick, plainPosition, plainOutputs, plainInstant, plainEventsOf, plainStatus}
 use Rattle.machine.specs.Plain.{lazyCount, plainFrom, plainEventsFrom, plainAfter, plainEvents}
@@ -41,7 +41,7 @@ use Rattle.machine.specs.declared.Engine.the-variants.{Lazy, Eager}
 use Rattle.calls.specs.Calls.{loadOf, writeNumber, writeOf, bufferOfWrite, bytesNeeded, runNumberIfSound, runNumber, ranState, ranEvents}
 use Rattle.calls.specs.Calls.{runOf, bufferOfRun, positionNumber, positionedOf}
 use Rattle.calls.specs.Lists.{Call, answerOf, bufferOf, acceptedBudget, afterCalls, budgetSum, joinedBytes, engineAt, cutAt, restAt, allBy}
-use Rattle.machine.specs.Updates.{growth, growthUpTo, isEager, eagerInstants, lazyMoves, movedNow}
+use Rattle.machine.specs.Updates.{growth, growthUpTo, isEager, eagerInstants, lazyGrowth, movedNow}
 
 -- the cup as it is loaded, its plan number for number
 abbrev loaded : State
@@ -155,7 +155,7 @@ examples =
     ∷ case ℕ (growthUpTo cupPlan (engineAt loaded mixed) 2) 4
     ∷ case ℕ (growthUpTo cupPlan (engineAt loaded (allBy Lazy mixed)) 2) 3
     ∷ case ℕ (eagerInstants (engineAt loaded mixed) 2) 1
-    ∷ case ℕ (lazyMoves cupPlan (engineAt loaded mixed) 2) 2
+    ∷ case ℕ (lazyGrowth cupPlan (engineAt loaded mixed) 2) 2
     ∷ case ℕ (afterCalls loaded (cutAt loaded mixed 1) .run .clocks .instants) 1
     ∷ case ℕ (afterCalls loaded (cutAt loaded mixed 2) .run .clocks .instants) 2
     ∷ case ℕ (movedNow cupPlan (afterCalls loaded (cutAt loaded mixed 2) .run)) 2
@@ -182,12 +182,12 @@ unfolding examples ceilDiv limited within countOf numberAt bytesOf signedOf unsi
     nodeWords linkWords commandWords fileWords encode nodeValue valueWith valueOf sumOver rateOf upperLevel lowerLevel distance ticksTo
     dueTick dueOf nextCommand commandTick leastDue nextTick startSlope startDue startOf startState idleState isDue setsInput
     isCommanded changes dependsWith linkReaches reached positionAt inputThen inputsThen moves bytesOfEvent eventsAt outputsThen slopeThen xThen
-    dueThen figuresAfter nextTickOf instant eventsOf bars barring statusNumber statusIntegrator statusPaused statusBy statusAt statusOf isPaused afterRun eventsOfRun
+    dueThen figuresAfter nextTickOf instant eventsOf bars barring statusNumber statusIntegrator isPaused statusBy statusAt statusOf runningPaused afterRun eventsOfRun
     positionOf withRatesAndDues plainStart plainNextTick plainPosition plainOutputs plainInstant plainEventsOf plainStatus
     lazyCount plainFrom plainEventsFrom plainAfter plainEvents natsZeroFrom intsZeroFrom planUnusedZero planSound runningUnusedZero
     integratorSound runningSound isSound loadOf writeNumber writeOf bufferOfWrite bytesNeeded runNumberIfSound runNumber ranState ranEvents
     runOf bufferOfRun positionNumber positionedOf answerOf bufferOf acceptedBudget afterCalls budgetSum joinedBytes engineAt cutAt restAt allBy
-    growth growthUpTo isEager eagerInstants lazyMoves movedNow
+    growth growthUpTo isEager eagerInstants lazyGrowth movedNow
 examples-right =
     refl & refl & refl & refl & refl & refl & refl & refl & refl & refl & refl & refl & refl & refl & refl & refl & refl & refl & refl & refl &
     refl & refl & refl & refl & refl & refl & refl & refl & refl & refl & refl & refl & refl & refl & refl & refl & refl & refl & refl & refl &

@@ -29,7 +29,7 @@ use Rattle.machine.specs.Start.{startSlope, startDue, startOf, startState}
 use Rattle.machine.specs.Reach.{isDue, setsInput, isCommanded, changes, dependsWith, linkReaches, reached}
 use Rattle.machine.specs.Instant.{positionAt, inputThen, inputsThen, moves, bytesOfEvent, eventsAt, outputsThen, slopeThen, xThen, dueThen, figuresAfter}
 use Rattle.machine.specs.Instant.{nextTickOf, instant, eventsOf}
-use Rattle.machine.specs.Status.{statusNumber, statusPaused, bars, barring, statusBy, statusAt, statusOf, isPaused}
+use Rattle.machine.specs.Status.{statusNumber, isPaused, bars, barring, statusBy, statusAt, statusOf, runningPaused}
 use Rattle.machine.specs.Runs.{afterRun, eventsOfRun, positionOf}
 use Rattle.machine.specs.SoundTest.{planSound, runningUnusedZero, integratorSound, runningSound, isSound}
 use Rattle.machine.specs.declared.Engine.{Engine}
@@ -218,8 +218,8 @@ unfolding p1-to-p9 ceilDiv limited within countOf numberAt bytesOf signedOf unsi
     accepted offsetFrom headerWords integratorWords inputWords linkWords commandWords fileWords encode natsZeroFrom intsZeroFrom planUnusedZero
     nodeValue valueWith valueOf sumOver rateOf upperLevel lowerLevel distance ticksTo dueTick dueOf nextCommand commandTick leastDue nextTick
     startSlope startDue startOf startState isDue setsInput isCommanded changes dependsWith linkReaches reached positionAt inputThen
-    inputsThen moves bytesOfEvent eventsAt outputsThen slopeThen xThen dueThen figuresAfter nextTickOf instant eventsOf bars barring statusNumber statusPaused statusBy statusAt statusOf
-    isPaused afterRun eventsOfRun positionOf planSound runningUnusedZero integratorSound runningSound isSound digitsIn decimal signedDecimal eventLine
+    inputsThen moves bytesOfEvent eventsAt outputsThen slopeThen xThen dueThen figuresAfter nextTickOf instant eventsOf bars barring statusNumber isPaused statusBy statusAt statusOf
+    runningPaused afterRun eventsOfRun positionOf planSound runningUnusedZero integratorSound runningSound isSound digitsIn decimal signedDecimal eventLine
     endLine lineAt linesOf loadOf bytesNeeded runNumberIfSound runNumber ranState ranEvents runOf bufferOfRun positionNumber positionedOf eventLines
     endLineOf listingOfRun listingOf turnState turnMore turnText beginText turnsFrom printedIn
 p1-to-p9-right =

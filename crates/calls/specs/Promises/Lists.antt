@@ -14,7 +14,7 @@ use Rattle.machine.specs.Next.{nextTick}
 use Rattle.machine.specs.Instant.{moves, eventsOf}
 use Rattle.machine.specs.Status.{statusNumber, statusIntegrator, statusOf}
 use Rattle.machine.specs.Plain.{Plain, plainAfter, plainEvents, plainStatus, lazyCount}
-use Rattle.machine.specs.Updates.{growth, growthUpTo, eagerInstants, lazyMoves, movedNow}
+use Rattle.machine.specs.Updates.{growth, growthUpTo, eagerInstants, lazyGrowth, movedNow}
 use Rattle.machine.specs.declared.State.{State}
 use Rattle.machine.specs.declared.Engine.{Engine}
 use Rattle.machine.specs.declared.Engine.the-variants.{Lazy, Eager}
@@ -102,13 +102,13 @@ ListsMean = (st : State) (call : Call) (calls : List Call) → FoldPromise st ca
 pub record GrowthPromise (p : Plan) (engine : ℕ → Engine) (last : ℕ) (plain : Plain) : Type 0 where
   pub lazy : growth p Lazy plain ≡ countOf (moves p Lazy (plain .d) (nextTick p (plain .d) (plain .next))) (p .counts .n)
   pub due-or-reached : lazyCount p plain ≡ countOf (moves p Lazy (plain .d) (nextTick p (plain .d) (plain .next))) (p .counts .n)
-  pub parts : growthUpTo p engine last ≡ p .counts .n * eagerInstants engine last + lazyMoves p engine last
+  pub parts : growthUpTo p engine last ≡ p .counts .n * eagerInstants engine last + lazyGrowth p engine last
   -- an instant that an eager call took counts in the first part alone, one that a lazy call took in the second alone
-  pub none : (eagerInstants engine 0 ≡ 0) × (lazyMoves p engine 0 ≡ 0)
+  pub none : (eagerInstants engine 0 ≡ 0) × (lazyGrowth p engine 0 ≡ 0)
   pub by-eager : engine (last + 1) ≡ Eager
-      → (eagerInstants engine (last + 1) ≡ eagerInstants engine last + 1) × (lazyMoves p engine (last + 1) ≡ lazyMoves p engine last)
+      → (eagerInstants engine (last + 1) ≡ eagerInstants engine last + 1) × (lazyGrowth p engine (last + 1) ≡ lazyGrowth p engine last)
   pub by-lazy : engine (last + 1) ≡ Lazy
-      → (eagerInstants engine (last + 1) ≡ eagerInstants engine last) × (lazyMoves p engine (last + 1) ≡ lazyMoves p engine last + lazyCount p (plainAfter p last))
+      → (eagerInstants engine (last + 1) ≡ eagerInstants engine last) × (lazyGrowth p engine (last + 1) ≡ lazyGrowth p engine last + lazyCount p (plainAfter p last))
 
 abbrev pub GrowthMeans : Type 0
 GrowthMeans = (p : Plan) (engine : ℕ → Engine) (last : ℕ) (plain : Plain) → GrowthPromise p engine last plain
@@ -124,7 +124,7 @@ pub record ListPromise (p : Plan) (st : State) (calls : List Call) : Type 0 wher
   pub updates : afterCalls st calls .run .clocks .updates ≡ growthUpTo p (engineAt st calls) (plainAfter p (budgetSum st calls) .instants)
   -- n times the instants that eager calls took, and over those that lazy calls took the number due or reached
   pub counted : let last = plainAfter p (budgetSum st calls) .instants in
-      afterCalls st calls .run .clocks .updates ≡ p .counts .n * eagerInstants (engineAt st calls) last + lazyMoves p (engineAt st calls) last
+      afterCalls st calls .run .clocks .updates ≡ p .counts .n * eagerInstants (engineAt st calls) last + lazyGrowth p (engineAt st calls) last
   -- "any two lists with an equal sum end alike in all of these"
   pub alike : (others : List Call) → budgetSum st others ≡ budgetSum st calls
       → EndAlike (afterCalls st others) (afterCalls st calls) (joinedBytes st others) (joinedBytes st calls)

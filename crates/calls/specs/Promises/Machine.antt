@@ -163,9 +163,9 @@ UnreachedKeepsRate =
 
 -- 12 bytes from `at` on read back as an event's tick, source and value
 pub record EventAt (bytes : List ℕ) (at t source : ℕ) (value : ℤ) : Type 0 where
-  pub tick : word bytes at ≡ t
-  pub number : word bytes (at + 4) ≡ source
-  pub signed : signedWord bytes (at + 8) ≡ value
+  pub tick-is : word bytes at ≡ t
+  pub source-is : word bytes (at + 4) ≡ source
+  pub value-is : signedWord bytes (at + 8) ≡ value
 
 -- "Events of an instant: due integrators and commanded inputs by ascending source number, 12 bytes each: tick, source, signed value": an
 -- event stands behind those of the lower sources that have one, and there are no others

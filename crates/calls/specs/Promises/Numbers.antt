@@ -1,4 +1,4 @@
--- Promise: of the numbers that all others speak in, words, signs, M, never, the order's other numbers, division, limits, counts. Statements,
+-- Promise: of the numbers that all others speak in, words, signs, M, never, document 01's other numbers, division, limits, counts. Statements,
 -- with document 01's numbers as they are written there; the proofs stand in Proofs.
 use mathlib.Core.Path.{_≡_}
 use mathlib.Core.Bool.{Bool, true, false}
@@ -11,7 +11,7 @@ use Rattle.integers.specs.Range.{limited}
 use Rattle.bitset.specs.Counts.{countOf}
 use Rattle.words.specs.Word.{word, signedWord}
 use Rattle.plan.specs.Numbers.{M, never, largestHorizon, largestCoefficient, largestBudget, listingBudget, largestCounts, entrySizes, headerBytes}
-use Rattle.plan.specs.Numbers.{longestFile, eventBytes}
+use Rattle.plan.specs.Numbers.{sections, leastCounts, longestFile, listingInput, eventBytes}
 use Rattle.plan.specs.Lists.{natAt}
 
 pub record NumbersMean : Type 0 where
@@ -31,11 +31,15 @@ pub record NumbersMean : Type 0 where
   -- "A run's budget is above 1,024"; "runs lazily with budget 64"
   pub budget : largestBudget ≡ 1024
   pub listing-budget : listingBudget ≡ 64
-  -- "Header, 44 bytes"; "Sections in order" with the bytes of an entry and the largest counts; the file that has the most of each
+  -- "Header, 44 bytes"; "Sections in order" with the bytes of an entry, the least and the largest counts; the file that has the most of each
   pub header : headerBytes ≡ 44
   pub entries : entrySizes ≡ 8 ∷ 4 ∷ 20 ∷ 12 ∷ 12 ∷ []
+  pub section-count : sections ≡ 5
+  pub least-counts : leastCounts ≡ 1 ∷ 0 ∷ 0 ∷ 0 ∷ 0 ∷ []
   pub counts : largestCounts ≡ 32 ∷ 8 ∷ 16 ∷ 256 ∷ 64 ∷ []
   pub longest : longestFile ≡ 44 + 8 * 32 + 4 * 8 + 20 * 16 + 12 * 256 + 12 * 64
+  -- "reads at most 4,493 bytes of standard input"
+  pub listing-input : listingInput ≡ 4493
   -- "12 bytes each: tick, source, signed value"
   pub event : eventBytes ≡ 12
   -- "Division by 65,536 is written floor(..), rounding towards minus infinity."

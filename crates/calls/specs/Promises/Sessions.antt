@@ -8,7 +8,7 @@ use Rattle.plan.specs.Lists.{intAt}
 use Rattle.plan.specs.Format.{planIn}
 use Rattle.plan.specs.declared.Plan.{Plan}
 use Rattle.machine.specs.Plain.{plainAfter, plainEvents}
-use Rattle.machine.specs.Updates.{growthUpTo, eagerInstants, lazyMoves}
+use Rattle.machine.specs.Updates.{growthUpTo, eagerInstants, lazyGrowth}
 use Rattle.machine.specs.declared.State.{State}
 use Rattle.machine.specs.declared.Engine.the-variants.{Lazy, Eager}
 use Rattle.calls.specs.Calls.{loadOf, positionedOf}
@@ -25,7 +25,7 @@ pub record SessionPromise (p : Plan) (st : State) (made : List MadeCall) : Type 
   pub updates : lastState st made .run .clocks .updates ≡ growthUpTo p (engineAt st (callsOf made)) (plainAfter p (acceptedSum made) .instants)
   -- n times the instants that eager calls took, and over those that lazy calls took the number due or reached
   pub counted : let engine = engineAt st (callsOf made) in let last = plainAfter p (acceptedSum made) .instants in
-      lastState st made .run .clocks .updates ≡ p .counts .n * eagerInstants engine last + lazyMoves p engine last
+      lastState st made .run .clocks .updates ≡ p .counts .n * eagerInstants engine last + lazyGrowth p engine last
   -- "any two lists with an equal sum end alike in all of these"
   pub alike : (others : List MadeCall) → Session st others → acceptedSum others ≡ acceptedSum made
       → EndAlike (lastState st others) (lastState st made) (writtenBytes others) (writtenBytes made)

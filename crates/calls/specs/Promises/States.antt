@@ -44,7 +44,7 @@ pub record IdlePromise (p : Plan) (idle : State) : Type 0 where
   pub start : idle ≡ startState p
   pub integrators : p .counts .n ≡ 1
   pub nothing-else : (p .counts .m ≡ 0) × (p .counts .k ≡ 0) × (p .counts .links ≡ 0) × (p .counts .commands ≡ 0)
-  pub first : intAt (p .integrators .starts) 0 ≡ pos 0
+  pub first-start : intAt (p .integrators .starts) 0 ≡ pos 0
   pub quantum : intAt (p .integrators .quanta) 0 ≡ pos 1
   pub horizon : p .horizon ≡ 1
   pub size : length (encode p) ≡ 52

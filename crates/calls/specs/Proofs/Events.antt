@@ -42,9 +42,9 @@ module _ (p : Plan) (ok : PlanRules p) (d : List ℕ) (t : ℕ) (position : ℕ 
   event-at i value h c e small =
       let changed = changes-means p d t i .1 c in
       record {
-        tick = events-tick p d t q inputs i h changed (omega (arith, paused-horizon p d t position paused, ok .horizon));
-        number = events-source p d t q inputs i h changed (omega (arith, limits));
-        signed = events-value p d t q inputs i h changed (rw e small) ∙ e;
+        tick-is = events-tick p d t q inputs i h changed (omega (arith, paused-horizon p d t position paused, ok .horizon));
+        source-is = events-source p d t q inputs i h changed (omega (arith, limits));
+        value-is = events-value p d t q inputs i h changed (rw e small) ∙ e;
       }
 
   pub events-promise : EventsPromise p d t position bytes

@@ -8,7 +8,7 @@ use Rattle.bitset.specs.Counts.{countOf}
 use Rattle.plan.specs.declared.Plan.{Plan}
 use Rattle.machine.specs.Instant.{moves}
 use Rattle.machine.specs.Plain.{plainNextTick, plainAfter, lazyCount}
-use Rattle.machine.specs.Updates.{growth, isEager, eagerInstants, lazyMoves}
+use Rattle.machine.specs.Updates.{growth, isEager, eagerInstants, lazyGrowth}
 use Rattle.machine.specs.Laws.Instants.{growth-parts}
 use Rattle.machine.specs.declared.Engine.{Engine}
 use Rattle.machine.specs.declared.Engine.the-variants.{Lazy, Eager}
@@ -29,17 +29,17 @@ lists-mean st c calls =
 -- what one more instant adds to the two parts of the count
 module _ (p : Plan) (engine : ℕ → Engine) (k : ℕ) where
   one-eager : engine (k + 1) ≡ Eager
-      → (eagerInstants engine (suc k) ≡ eagerInstants engine k + 1) × (lazyMoves p engine (suc k) ≡ lazyMoves p engine k)
-  unfolding eagerInstants lazyMoves isEager countOf
+      → (eagerInstants engine (suc k) ≡ eagerInstants engine k + 1) × (lazyGrowth p engine (suc k) ≡ lazyGrowth p engine k)
+  unfolding eagerInstants lazyGrowth isEager countOf
   one-eager e = rw e (omega arith, omega arith)
 
   one-lazy : engine (k + 1) ≡ Lazy
-      → (eagerInstants engine (suc k) ≡ eagerInstants engine k) × (lazyMoves p engine (suc k) ≡ lazyMoves p engine k + lazyCount p (plainAfter p k))
-  unfolding eagerInstants lazyMoves isEager countOf
+      → (eagerInstants engine (suc k) ≡ eagerInstants engine k) × (lazyGrowth p engine (suc k) ≡ lazyGrowth p engine k + lazyCount p (plainAfter p k))
+  unfolding eagerInstants lazyGrowth isEager countOf
   one-lazy e = rw e (refl, refl)
 
 pub growth-means : GrowthMeans
-unfolding growth lazyCount moves plainNextTick eagerInstants lazyMoves countOf
+unfolding growth lazyCount moves plainNextTick eagerInstants lazyGrowth countOf
 growth-means p engine k m =
     let next : suc k ≡ k + 1 = omega arith in
     record {
@@ -48,8 +48,8 @@ growth-means p engine k m =
       parts = growth-parts p engine k;
       none = (refl, refl);
       by-eager =
-          λ e. subst (λ i. (eagerInstants engine i ≡ eagerInstants engine k + 1) × (lazyMoves p engine i ≡ lazyMoves p engine k)) next (one-eager p engine k e);
+          λ e. subst (λ i. (eagerInstants engine i ≡ eagerInstants engine k + 1) × (lazyGrowth p engine i ≡ lazyGrowth p engine k)) next (one-eager p engine k e);
       by-lazy =
-          λ e. subst (λ i. (eagerInstants engine i ≡ eagerInstants engine k) × (lazyMoves p engine i ≡ lazyMoves p engine k + lazyCount p (plainAfter p k)))
+          λ e. subst (λ i. (eagerInstants engine i ≡ eagerInstants engine k) × (lazyGrowth p engine i ≡ lazyGrowth p engine k + lazyCount p (plainAfter p k)))
           next (one-lazy p engine k e);
     }

@@ -13,7 +13,7 @@ use Rattle.plan.specs.Laws.TestMeanings.{within-size}
 use Rattle.plan.specs.declared.Counts.{Counts}
 use Rattle.plan.specs.declared.Plan.{Plan}
 use Rattle.machine.specs.Instant.{instant, eventsOf}
-use Rattle.machine.specs.Status.{statusPaused, statusOf, isPaused}
+use Rattle.machine.specs.Status.{isPaused, statusOf, runningPaused}
 use Rattle.machine.specs.Runs.{afterRun, eventsOfRun}
 use Rattle.machine.specs.Sound.{SoundRunning, RunningWidths}
 use Rattle.machine.specs.Laws.Lengths.{instant-bytes}
@@ -105,11 +105,11 @@ module _ {p : Plan} {engine : Engine} {budget : ℕ} {first : Running} {buffer�
   status-is = rw (ahead-known, ahead-is p r)
 
   -- ---- one more instant
-  module _ (more : taken < budget) (yes : statusPaused (ahead .status) ≡ true) where
+  module _ (more : taken < budget) (yes : isPaused (ahead .status) ≡ true) where
     paused-now : statusOf p r ≡ Paused
     paused-now = sym status-is ∙ true-paused (ahead .status) yes
 
-    paused : isPaused p r ≡ true
+    paused : runningPaused p r ≡ true
     paused = is-paused p r paused-now
 
     left : budget - taken ≡ budget - (taken + 1) + 1
@@ -174,7 +174,7 @@ module _ {p : Plan} {engine : Engine} {budget : ℕ} {first : Running} {buffer�
         (rw (told, status-is, written, ← here), sym (put-none buffer end) ∙ rw (none .1) at (now .bytes))
 
     -- by the status
-    pub stopped : statusPaused (ahead .status) ≡ false → Done r'
+    pub stopped : isPaused (ahead .status) ≡ false → Done r'
     stopped h =
         done (run-stopped p engine (budget - taken) r (λ e. true≢false (sym (paused-true (ahead .status) (status-is ∙ e)) ∙ h)))
 

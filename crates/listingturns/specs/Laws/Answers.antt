@@ -6,7 +6,7 @@ use Prim.Native.Nat.{ℕ, _+_, _*_, _/_, _≤_}
 use native.Mathlib.Omega.{arith}
 use lib.ListN.{length, drop, length-append}
 use borrow.Author.Tests.{eq-eqb, ne-eqb}
-use Rattle.machine.specs.Status.{statusNumber, statusOf, isPaused}
+use Rattle.machine.specs.Status.{statusNumber, statusOf, runningPaused}
 use Rattle.machine.specs.Sound.{Sound}
 use Rattle.machine.specs.Laws.Status.{zero-paused, paused-zero, paused-false, is-paused}
 use Rattle.machine.specs.declared.State.{State}
@@ -127,7 +127,7 @@ module _ (st : State) (ok : Sound st) (buffer : List ℕ) (room : 30720 ≤ leng
           omega (arith, lines-inside, q .size, ap length end-is, closing-fits (turnState st .plan) (turnState st .run) (turns-end st ok .sound))
 
       pub turn-stopped : (ran .status ≡ 0 → ⊥) → TurnAs text (record { length = size + more; more = false; state = ran .state }) (back middle size part)
-      unfolding turnOf turnText turnMore isPaused
+      unfolding turnOf turnText turnMore runningPaused
       turn-stopped n =
           let last = paused-false (statusOf (turnState st .plan) (turnState st .run)) (λ e. n (ran-status ∙ paused-zero _ e)) in
           let printed = rw (ran-lines, end-is) at (then-text p (in-part size end-place q)) in

@@ -7,7 +7,7 @@ use native.Mathlib.Omega.{arith}
 use lib.ListN.{replicate, replicate-append-replicate}
 use Rattle.plan.specs.declared.Plan.{Plan}
 use Rattle.machine.specs.Instant.{figuresAfter, nextTickOf, instant}
-use Rattle.machine.specs.Status.{statusOf, isPaused}
+use Rattle.machine.specs.Status.{statusOf, runningPaused}
 use Rattle.machine.specs.Runs.{afterRun, eventsOfRun}
 use Rattle.machine.specs.Sound.{SoundRunning}
 use Rattle.machine.specs.Laws.Runs.{afterBy, after-by, events-by, after-append, events-append, run-stopped}
@@ -44,10 +44,10 @@ module _ (p : Plan) (engine : Engine) where
   unfolding afterRun
   stops zero r ok h e =
       let l : nextTickOf p r ≤ p .horizon = tick-horizon p r (is-paused p r e) in omega (arith, tick-after p r ok)
-  stops (suc b) r ok h e = go (isPaused p r) refl e (λ t. stops b (instant p engine r) (instant-sound p r ok t engine) (omega (arith, instant-clock r ok)))
+  stops (suc b) r ok h e = go (runningPaused p r) refl e (λ t. stops b (instant p engine r) (instant-sound p r ok t engine) (omega (arith, instant-clock r ok)))
     where
-      go : (c : Bool) → isPaused p r ≡ c → statusOf p (cond c (afterRun p engine b (instant p engine r)) r) ≡ Paused
-          → (isPaused p r ≡ true → statusOf p (afterRun p engine b (instant p engine r)) ≡ Paused → ⊥) → ⊥
+      go : (c : Bool) → runningPaused p r ≡ c → statusOf p (cond c (afterRun p engine b (instant p engine r)) r) ≡ Paused
+          → (runningPaused p r ≡ true → statusOf p (afterRun p engine b (instant p engine r)) ≡ Paused → ⊥) → ⊥
       go true t s ih = ih t s
       go false t s ih = true≢false (sym (is-paused p r s) ∙ t)
 

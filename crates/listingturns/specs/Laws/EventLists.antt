@@ -15,7 +15,7 @@ use Rattle.plan.specs.declared.Plan.{Plan}
 use Rattle.machine.specs.Values.{valueWith}
 use Rattle.machine.specs.Reach.{changes}
 use Rattle.machine.specs.Instant.{bytesOfEvent, eventsAt, inputsThen, outputsThen, nextTickOf, instant, eventsOf}
-use Rattle.machine.specs.Status.{isPaused}
+use Rattle.machine.specs.Status.{runningPaused}
 use Rattle.machine.specs.Runs.{eventsOfRun}
 use Rattle.machine.specs.Laws.EventWords.{length-event, event-source}
 use Rattle.machine.specs.declared.Running.{Running}
@@ -69,7 +69,7 @@ module _ (p : Plan) (few : p .counts .n + p .counts .m ≤ 10 ^ 2) where
   pub run-list : (engine : Engine) (b : ℕ) (r : Running) → EventList (eventsOfRun p engine b r)
   unfolding eventsOfRun
   run-list engine zero r = none
-  run-list engine (suc b) r = go (isPaused p r) (run-list engine b (instant p engine r))
+  run-list engine (suc b) r = go (runningPaused p r) (run-list engine b (instant p engine r))
     where
       go : (c : Bool) → EventList (eventsOfRun p engine b (instant p engine r)) → EventList (cond c (eventsOf p r ++ eventsOfRun p engine b (instant p engine r)) [])
       go true rest = both (instant-list r) rest

@@ -10,7 +10,7 @@ use lib.ListN.{length, replicate, length-append}
 use Rattle.plan.specs.Lists.{joined}
 use Rattle.plan.specs.Laws.CountLimits.{count-limits}
 use Rattle.plan.specs.declared.Plan.{Plan}
-use Rattle.machine.specs.Status.{statusOf, isPaused}
+use Rattle.machine.specs.Status.{statusOf, runningPaused}
 use Rattle.machine.specs.Runs.{afterRun, eventsOfRun}
 use Rattle.machine.specs.Sound.{Sound, SoundRunning}
 use Rattle.machine.specs.Laws.Runs.{afterBy, after-by, run-stopped, run-sound, clock-moves}
@@ -82,7 +82,7 @@ turns-end st ok =
       moves = λ e. (moved p r ok e, sound .clock);
     }
   where
-    moved : (p : Plan) (r : Running) → SoundRunning p r → isPaused p (afterRun p Lazy 64 r) ≡ true → r .clocks .clock < afterRun p Lazy 64 r .clocks .clock
+    moved : (p : Plan) (r : Running) → SoundRunning p r → runningPaused p (afterRun p Lazy 64 r) ≡ true → r .clocks .clock < afterRun p Lazy 64 r .clocks .clock
     moved p r ok = rw (after-by p Lazy 64 r) (clock-moves p Lazy (replicate 63 Lazy) r ok)
 
 -- ---- the turns from a sound state on are the listing from there on, in every budget that is enough

@@ -13,9 +13,9 @@ use Rattle.bitset.specs.Counts.{countOf}
 use Rattle.plan.specs.declared.Plan.{Plan}
 use Rattle.machine.specs.Start.{startOf}
 use Rattle.machine.specs.Instant.{instant, eventsOf}
-use Rattle.machine.specs.Status.{statusPaused, isPaused}
+use Rattle.machine.specs.Status.{isPaused, runningPaused}
 use Rattle.machine.specs.Plain.{Plain, plainStart, plainStatus, plainAfter, lazyCount}
-use Rattle.machine.specs.Updates.{growth, growthUpTo, isEager, eagerInstants, lazyMoves, movedNow}
+use Rattle.machine.specs.Updates.{growth, growthUpTo, isEager, eagerInstants, lazyGrowth, movedNow}
 use Rattle.machine.specs.Sound.{SoundRunning}
 use Rattle.machine.specs.Laws.Status.{paused-true}
 use Rattle.machine.specs.Laws.Agreement.{Agrees, same-status, start-agrees}
@@ -46,10 +46,10 @@ growth-eager p zero = omega arith
 growth-eager p (suc k) = omega (arith, growth-eager p k)
 
 -- n times the instants that eager calls took, and the number due or reached over those that lazy calls took
-pub growth-parts : (p : Plan) (engine : ℕ → Engine) (k : ℕ) → growthUpTo p engine k ≡ p .counts .n * eagerInstants engine k + lazyMoves p engine k
-unfolding growthUpTo growth eagerInstants lazyMoves isEager countOf
+pub growth-parts : (p : Plan) (engine : ℕ → Engine) (k : ℕ) → growthUpTo p engine k ≡ p .counts .n * eagerInstants engine k + lazyGrowth p engine k
+unfolding growthUpTo growth eagerInstants lazyGrowth isEager countOf
 growth-parts p engine zero = omega arith
-growth-parts p engine (suc k) = go (engine (k + 1)) (eagerInstants engine k) (lazyMoves p engine k) (growth-parts p engine k)
+growth-parts p engine (suc k) = go (engine (k + 1)) (eagerInstants engine k) (lazyGrowth p engine k) (growth-parts p engine k)
   where
     go : (e : Engine) (eager moves : ℕ) → growthUpTo p engine k ≡ p .counts .n * eager + moves
         → growthUpTo p engine k + growth p e (plainAfter p k)
@@ -80,16 +80,16 @@ module _ (p : Plan) (ok : SoundRunning p (startOf p)) (engines : List Engine) wh
   state-sound k = run-sound p (take k engines) (startOf p) ok
 
   -- paused or not as the plain machine is
-  paused-as : (k : ℕ) → k ≤ length engines → isPaused p (stateAt p engines k) ≡ statusPaused (plainStatus p (plainAfter p k))
-  unfolding isPaused
-  paused-as k h = ap statusPaused (same-status p (stateAt p engines k) (state-sound k) (plainAfter p k) (state-agrees k h))
+  paused-as : (k : ℕ) → k ≤ length engines → runningPaused p (stateAt p engines k) ≡ isPaused (plainStatus p (plainAfter p k))
+  unfolding runningPaused
+  paused-as k h = ap isPaused (same-status p (stateAt p engines k) (state-sound k) (plainAfter p k) (state-agrees k h))
 
   -- ---- instant k + 1, where it is taken
   module _ (k : ℕ) (taken : k < plainAfter p (length engines) .instants) where
     inside : k < length engines
     inside = omega (arith, takes-most p (length engines))
 
-    is-paused : isPaused p (stateAt p engines k) ≡ true
+    is-paused : runningPaused p (stateAt p engines k) ≡ true
     is-paused = paused-as k (omega (arith, inside)) ∙ paused-true (plainStatus p (plainAfter p k)) (paused-before p k (length engines) taken)
 
     one-more : take (k + 1) engines ≡ take k engines ++ (engineOf engines (k + 1) ∷ [])

@@ -10,7 +10,7 @@ use Rattle.words.specs.Laws.Reading.{bytes-append}
 use Rattle.plan.specs.declared.Plan.{Plan}
 use Rattle.machine.specs.Reach.{changes}
 use Rattle.machine.specs.Instant.{inputsThen, outputsThen, nextTickOf, instant, eventsOf}
-use Rattle.machine.specs.Status.{isPaused}
+use Rattle.machine.specs.Status.{runningPaused}
 use Rattle.machine.specs.Runs.{eventsOfRun}
 use Rattle.machine.specs.Laws.SelectedBlocks.{no-bytes}
 use Rattle.machine.specs.Laws.EventWords.{length-events, bytes-events}
@@ -31,7 +31,7 @@ module _ (p : Plan) where
   pub run-bytes : (engine : Engine) (b : ℕ) (r : Running) → length (eventsOfRun p engine b r) ≤ b * (p .counts .n + p .counts .m) * 12
   unfolding eventsOfRun
   run-bytes engine zero r = omega arith
-  run-bytes engine (suc b) r = go (isPaused p r) (run-bytes engine b (instant p engine r))
+  run-bytes engine (suc b) r = go (runningPaused p r) (run-bytes engine b (instant p engine r))
     where
       rest : List ℕ
       rest = eventsOfRun p engine b (instant p engine r)
@@ -44,7 +44,7 @@ module _ (p : Plan) where
   pub events-are-bytes : (engine : Engine) (b : ℕ) (r : Running) → Bytes (eventsOfRun p engine b r)
   unfolding eventsOfRun eventsOf
   events-are-bytes engine zero r = no-bytes
-  events-are-bytes engine (suc b) r = go (isPaused p r) (events-are-bytes engine b (instant p engine r))
+  events-are-bytes engine (suc b) r = go (runningPaused p r) (events-are-bytes engine b (instant p engine r))
     where
       go : (c : Bool) → Bytes (eventsOfRun p engine b (instant p engine r)) → Bytes (cond c (eventsOf p r ++ eventsOfRun p engine b (instant p engine r)) [])
       go true h = bytes-append (bytes-events p (r .d) (nextTickOf p r) _ _) h

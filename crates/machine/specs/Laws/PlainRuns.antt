@@ -10,7 +10,7 @@ use native.Mathlib.Nat.{zero-add, suc-add}
 use Rattle.plan.specs.declared.Plan.{Plan}
 use Rattle.machine.specs.Plain.{Plain, withRatesAndDues, plainStart, plainNextTick, plainPosition, plainInstant, plainEventsOf, plainStatus}
 use Rattle.machine.specs.Plain.{plainFrom, plainEventsFrom, plainAfter, plainEvents}
-use Rattle.machine.specs.Status.{statusNumber, statusPaused}
+use Rattle.machine.specs.Status.{statusNumber, isPaused}
 use Rattle.machine.specs.Laws.Status.{paused-true, paused-false, true-paused}
 use Rattle.machine.specs.declared.Status.{Status}
 use Rattle.machine.specs.declared.Status.the-variants.{Paused, Finished, Range}
@@ -20,7 +20,7 @@ module _ (p : Plan) where
   unfolding plainInstant withRatesAndDues
   instant-counts m = refl
 
-  pub plain-stopped : (b : ℕ) (m : Plain) → statusPaused (plainStatus p m) ≡ false → plainFrom p b m ≡ m
+  pub plain-stopped : (b : ℕ) (m : Plain) → isPaused (plainStatus p m) ≡ false → plainFrom p b m ≡ m
   unfolding plainFrom
   plain-stopped zero m e = refl
   plain-stopped (suc b) m e = rw e
@@ -29,14 +29,14 @@ module _ (p : Plan) where
   pub plain-append : (a b : ℕ) (m : Plain) → plainFrom p (a + b) m ≡ plainFrom p b (plainFrom p a m)
   unfolding plainFrom
   plain-append zero b m = rw (zero-add b)
-  plain-append (suc a) b m = rw (suc-add a b) (go (statusPaused (plainStatus p m)) refl (plain-append a b (plainInstant p m)))
+  plain-append (suc a) b m = rw (suc-add a b) (go (isPaused (plainStatus p m)) refl (plain-append a b (plainInstant p m)))
     where
-      go : (c : Bool) → statusPaused (plainStatus p m) ≡ c → plainFrom p (a + b) (plainInstant p m) ≡ plainFrom p b (plainFrom p a (plainInstant p m))
+      go : (c : Bool) → isPaused (plainStatus p m) ≡ c → plainFrom p (a + b) (plainInstant p m) ≡ plainFrom p b (plainFrom p a (plainInstant p m))
           → cond c (plainFrom p (a + b) (plainInstant p m)) m ≡ plainFrom p b (cond c (plainFrom p a (plainInstant p m)) m)
       go true e ih = ih
       go false e ih = sym (plain-stopped b m e)
 
-  events-stopped : (b : ℕ) (m : Plain) → statusPaused (plainStatus p m) ≡ false → plainEventsFrom p b m ≡ []
+  events-stopped : (b : ℕ) (m : Plain) → isPaused (plainStatus p m) ≡ false → plainEventsFrom p b m ≡ []
   unfolding plainEventsFrom
   events-stopped zero m e = refl
   events-stopped (suc b) m e = rw e
@@ -45,12 +45,12 @@ module _ (p : Plan) where
   events-append : (a b : ℕ) (m : Plain) → plainEventsFrom p (a + b) m ≡ plainEventsFrom p a m ++ plainEventsFrom p b (plainFrom p a m)
   unfolding plainFrom plainEventsFrom
   events-append zero b m = rw (zero-add b)
-  events-append (suc a) b m = rw (suc-add a b) (go (statusPaused (plainStatus p m)) refl (events-append a b (plainInstant p m)))
+  events-append (suc a) b m = rw (suc-add a b) (go (isPaused (plainStatus p m)) refl (events-append a b (plainInstant p m)))
     where
       next : Plain
       next = plainInstant p m
 
-      go : (c : Bool) → statusPaused (plainStatus p m) ≡ c
+      go : (c : Bool) → isPaused (plainStatus p m) ≡ c
           → plainEventsFrom p (a + b) next ≡ plainEventsFrom p a next ++ plainEventsFrom p b (plainFrom p a next)
           → cond c (plainEventsOf p m ++ plainEventsFrom p (a + b) next) []
           ≡ cond c (plainEventsOf p m ++ plainEventsFrom p a next) [] ++ plainEventsFrom p b (cond c (plainFrom p a next) m)
@@ -61,7 +61,7 @@ module _ (p : Plan) where
   plain-range : (b : ℕ) (m : Plain) → (m .instants ≤ plainFrom p b m .instants) × (plainFrom p b m .instants ≤ m .instants + b)
   unfolding plainFrom
   plain-range zero m = omega arith
-  plain-range (suc b) m = go (statusPaused (plainStatus p m)) (plainFrom p b (plainInstant p m)) (plain-range b (plainInstant p m))
+  plain-range (suc b) m = go (isPaused (plainStatus p m)) (plainFrom p b (plainInstant p m)) (plain-range b (plainInstant p m))
     where
       go : (c : Bool) (end : Plain) → (plainInstant p m .instants ≤ end .instants) × (end .instants ≤ plainInstant p m .instants + b)
           → (m .instants ≤ cond c end m .instants) × (cond c end m .instants ≤ m .instants + suc b)
@@ -72,9 +72,9 @@ module _ (p : Plan) where
   pub plain-all : (b : ℕ) (m : Plain) → plainStatus p (plainFrom p b m) ≡ Paused → plainFrom p b m .instants ≡ m .instants + b
   unfolding plainFrom
   plain-all zero m e = omega arith
-  plain-all (suc b) m e = go (statusPaused (plainStatus p m)) refl (plain-all b (plainInstant p m)) e
+  plain-all (suc b) m e = go (isPaused (plainStatus p m)) refl (plain-all b (plainInstant p m)) e
     where
-      go : (c : Bool) → statusPaused (plainStatus p m) ≡ c
+      go : (c : Bool) → isPaused (plainStatus p m) ≡ c
           → (plainStatus p (plainFrom p b (plainInstant p m)) ≡ Paused → plainFrom p b (plainInstant p m) .instants ≡ plainInstant p m .instants + b)
           → plainStatus p (cond c (plainFrom p b (plainInstant p m)) m) ≡ Paused → cond c (plainFrom p b (plainInstant p m)) m .instants ≡ m .instants + suc b
       go true f ih e = omega (arith, ih e, instant-counts m)
@@ -111,12 +111,12 @@ module _ (p : Plan) where
 
   -- before each instant that is taken it is paused
   pub paused-before : (i b : ℕ) → i < plainAfter p b .instants → plainStatus p (plainAfter p i) ≡ Paused
-  paused-before i b h = go (statusPaused (plainStatus p (plainAfter p i))) refl
+  paused-before i b h = go (isPaused (plainStatus p (plainAfter p i))) refl
     where
       split : b ≡ i + (b - i)
       split = omega (arith, takes-most b)
 
-      go : (c : Bool) → statusPaused (plainStatus p (plainAfter p i)) ≡ c → plainStatus p (plainAfter p i) ≡ Paused
+      go : (c : Bool) → isPaused (plainStatus p (plainAfter p i)) ≡ c → plainStatus p (plainAfter p i) ≡ Paused
       go true e = true-paused (plainStatus p (plainAfter p i)) e
       go false e =
           let same : plainAfter p b ≡ plainAfter p i = ap (plainAfter p) split ∙ after-more i (b - i) ∙ plain-stopped (b - i) (plainAfter p i) e in
@@ -124,7 +124,7 @@ module _ (p : Plan) where
 
   -- and the instant leads to the next
   pub after-next : (i : ℕ) → plainStatus p (plainAfter p i) ≡ Paused → plainAfter p (i + 1) ≡ plainInstant p (plainAfter p i)
-  unfolding plainFrom statusPaused
+  unfolding plainFrom isPaused
   after-next i e = after-more i 1 ∙ rw e
 
   events-more : (a b : ℕ) → plainEvents p (a + b) ≡ plainEvents p a ++ plainEventsFrom p b (plainAfter p a)
@@ -133,7 +133,7 @@ module _ (p : Plan) where
 
   -- with its events behind those before it
   pub events-next : (i : ℕ) → plainStatus p (plainAfter p i) ≡ Paused → plainEvents p (i + 1) ≡ plainEvents p i ++ plainEventsOf p (plainAfter p i)
-  unfolding plainEventsFrom statusPaused
+  unfolding plainEventsFrom isPaused
   events-next i e = events-more i 1 ∙ rw (e, append-nil (plainEventsOf p (plainAfter p i)))
 
   -- where it is not paused, nothing follows
@@ -153,8 +153,8 @@ module _ (p : Plan) where
       rw (← one-more) (omega (arith, takes-all i z))
 
   -- where fewer instants than the budget were taken, it is not paused behind them
-  pub stopped-behind : (b : ℕ) → plainAfter p b .instants < b → statusPaused (plainStatus p (plainAfter p (plainAfter p b .instants))) ≡ false
-  stopped-behind b h = go (statusPaused (plainStatus p (plainAfter p k))) refl
+  pub stopped-behind : (b : ℕ) → plainAfter p b .instants < b → isPaused (plainStatus p (plainAfter p (plainAfter p b .instants))) ≡ false
+  stopped-behind b h = go (isPaused (plainStatus p (plainAfter p k))) refl
     where
       k : ℕ
       k = plainAfter p b .instants
@@ -162,7 +162,7 @@ module _ (p : Plan) where
       split : b ≡ (k + 1) + (b - (k + 1))
       split = omega arith
 
-      go : (c : Bool) → statusPaused (plainStatus p (plainAfter p k)) ≡ c → c ≡ false
+      go : (c : Bool) → isPaused (plainStatus p (plainAfter p k)) ≡ c → c ≡ false
       go true e =
           let z = true-paused (plainStatus p (plainAfter p k)) e in
           let one-more = ap (λ m. m .instants) (after-next k z) ∙ instant-counts (plainAfter p k) in

@@ -8,7 +8,7 @@ use native.Mathlib.Omega.{arith}
 use lib.ListN.{length, replicate}
 use Rattle.plan.specs.declared.Plan.{Plan}
 use Rattle.machine.specs.Instant.{figuresAfter, instant, eventsOf}
-use Rattle.machine.specs.Status.{statusPaused, statusOf, isPaused}
+use Rattle.machine.specs.Status.{isPaused, statusOf, runningPaused}
 use Rattle.machine.specs.Runs.{afterRun, eventsOfRun}
 use Rattle.machine.specs.Plain.{Plain, plainInstant, plainStatus, plainFrom, plainEventsFrom}
 use Rattle.machine.specs.Sound.{SoundRunning}
@@ -22,11 +22,11 @@ use Rattle.machine.specs.declared.Status.the-variants.{Paused}
 module _ (p : Plan) where
   unfoldable pub afterBy : List Engine → Running → Running
   afterBy [] r = r
-  afterBy (engine ∷ engines) r = cond (isPaused p r) (afterBy engines (instant p engine r)) r
+  afterBy (engine ∷ engines) r = cond (runningPaused p r) (afterBy engines (instant p engine r)) r
 
   unfoldable pub eventsBy : List Engine → Running → List ℕ
   eventsBy [] r = []
-  eventsBy (engine ∷ engines) r = cond (isPaused p r) (eventsOf p r ++ eventsBy engines (instant p engine r)) []
+  eventsBy (engine ∷ engines) r = cond (runningPaused p r) (eventsOf p r ++ eventsBy engines (instant p engine r)) []
 
   -- a run by one engine
   pub after-by : (engine : Engine) (b : ℕ) (r : Running) → afterRun p engine b r ≡ afterBy (replicate b engine) r
@@ -40,19 +40,19 @@ module _ (p : Plan) where
   events-by engine (suc b) r = rw (events-by engine b (instant p engine r))
 
   -- ---- a run goes on where one ended
-  pub after-stopped : (engines : List Engine) (r : Running) → isPaused p r ≡ false → afterBy engines r ≡ r
+  pub after-stopped : (engines : List Engine) (r : Running) → runningPaused p r ≡ false → afterBy engines r ≡ r
   unfolding afterBy
   after-stopped [] r e = refl
   after-stopped (engine ∷ engines) r e = rw e
 
-  events-stopped : (engines : List Engine) (r : Running) → isPaused p r ≡ false → eventsBy engines r ≡ []
+  events-stopped : (engines : List Engine) (r : Running) → runningPaused p r ≡ false → eventsBy engines r ≡ []
   unfolding eventsBy
   events-stopped [] r e = refl
   events-stopped (engine ∷ engines) r e = rw e
 
   -- so a run by one engine stops where it is not paused, and else takes an instant and goes on
   pub run-stopped : (engine : Engine) (b : ℕ) (r : Running) → (statusOf p r ≡ Paused → ⊥) → (afterRun p engine b r ≡ r) × (eventsOfRun p engine b r ≡ [])
-  unfolding isPaused
+  unfolding runningPaused
   run-stopped engine b r h =
       let e = paused-false (statusOf p r) h in
       (after-by engine b r ∙ after-stopped (replicate b engine) r e, events-by engine b r ∙ events-stopped (replicate b engine) r e)
@@ -69,12 +69,12 @@ module _ (p : Plan) where
   pub after-append : (first then : List Engine) (r : Running) → afterBy (first ++ then) r ≡ afterBy then (afterBy first r)
   unfolding afterBy
   after-append [] then r = refl
-  after-append (engine ∷ first) then r = go (isPaused p r) refl (after-append first then (instant p engine r))
+  after-append (engine ∷ first) then r = go (runningPaused p r) refl (after-append first then (instant p engine r))
     where
       next : Running
       next = instant p engine r
 
-      go : (b : Bool) → isPaused p r ≡ b → afterBy (first ++ then) next ≡ afterBy then (afterBy first next)
+      go : (b : Bool) → runningPaused p r ≡ b → afterBy (first ++ then) next ≡ afterBy then (afterBy first next)
           → cond b (afterBy (first ++ then) next) r ≡ afterBy then (cond b (afterBy first next) r)
       go true e ih = ih
       go false e ih = sym (after-stopped then r e)
@@ -82,12 +82,12 @@ module _ (p : Plan) where
   pub events-append : (first then : List Engine) (r : Running) → eventsBy (first ++ then) r ≡ eventsBy first r ++ eventsBy then (afterBy first r)
   unfolding afterBy eventsBy
   events-append [] then r = refl
-  events-append (engine ∷ first) then r = go (isPaused p r) refl (events-append first then (instant p engine r))
+  events-append (engine ∷ first) then r = go (runningPaused p r) refl (events-append first then (instant p engine r))
     where
       next : Running
       next = instant p engine r
 
-      go : (b : Bool) → isPaused p r ≡ b → eventsBy (first ++ then) next ≡ eventsBy first next ++ eventsBy then (afterBy first next)
+      go : (b : Bool) → runningPaused p r ≡ b → eventsBy (first ++ then) next ≡ eventsBy first next ++ eventsBy then (afterBy first next)
           → cond b (eventsOf p r ++ eventsBy (first ++ then) next) []
           ≡ cond b (eventsOf p r ++ eventsBy first next) [] ++ eventsBy then (cond b (afterBy first next) r)
       go true e ih = rw ih (sym (append-assoc (eventsOf p r) (eventsBy first next) (eventsBy then (afterBy first next))))
@@ -100,12 +100,12 @@ module _ (p : Plan) where
   unfolding afterBy
   along P none one [] r ok = none r ok
   along P none one (engine ∷ engines) r ok =
-      go (isPaused p r) refl (λ e. along P none one engines (instant p engine r) (instant-sound p r ok e engine))
+      go (runningPaused p r) refl (λ e. along P none one engines (instant p engine r) (instant-sound p r ok e engine))
     where
       next : Running
       next = instant p engine r
 
-      go : (b : Bool) → isPaused p r ≡ b → (isPaused p r ≡ true → P next (afterBy engines next)) → P r (cond b (afterBy engines next) r)
+      go : (b : Bool) → runningPaused p r ≡ b → (runningPaused p r ≡ true → P next (afterBy engines next)) → P r (cond b (afterBy engines next) r)
       go true e ih = one engine r (afterBy engines next) ok (ih e)
       go false e ih = none r ok
 
@@ -124,14 +124,14 @@ module _ (p : Plan) where
 
   -- a run that is still paused has moved it
   pub clock-moves : (engine : Engine) (engines : List Engine) (r : Running) → SoundRunning p r
-      → isPaused p (afterBy (engine ∷ engines) r) ≡ true → r .clocks .clock < afterBy (engine ∷ engines) r .clocks .clock
+      → runningPaused p (afterBy (engine ∷ engines) r) ≡ true → r .clocks .clock < afterBy (engine ∷ engines) r .clocks .clock
   unfolding afterBy
-  clock-moves engine engines r ok = go (isPaused p r) refl
+  clock-moves engine engines r ok = go (runningPaused p r) refl
     where
       next : Running
       next = instant p engine r
 
-      go : (b : Bool) → isPaused p r ≡ b → isPaused p (cond b (afterBy engines next) r) ≡ true → r .clocks .clock < cond b (afterBy engines next) r .clocks .clock
+      go : (b : Bool) → runningPaused p r ≡ b → runningPaused p (cond b (afterBy engines next) r) ≡ true → r .clocks .clock < cond b (afterBy engines next) r .clocks .clock
       go true e t = omega (arith, instant-clock engine r ok, clock-least engines next (instant-sound p r ok e engine))
       go false e t = absurd (true≢false (sym t ∙ e))
 
@@ -141,21 +141,21 @@ module _ (p : Plan) where
     pub bytes : eventsBy engines r ≡ plainEventsFrom p (length engines) m
 
   pub together : (engines : List Engine) (r : Running) (m : Plain) → SoundRunning p r → Agrees p r m → Together engines r m
-  unfolding afterBy eventsBy plainFrom plainEventsFrom isPaused
+  unfolding afterBy eventsBy plainFrom plainEventsFrom runningPaused
   together [] r m ok a = record { agrees = a; bytes = refl }
   together (engine ∷ engines) r m ok a =
-      go (isPaused p r) refl
+      go (runningPaused p r) refl
       (λ e. together engines (instant p engine r) (plainInstant p m) (instant-sound p r ok e engine) (agrees-then p r ok m a engine))
     where
-      same : isPaused p r ≡ statusPaused (plainStatus p m)
-      same = ap statusPaused (same-status p r ok m a)
+      same : runningPaused p r ≡ isPaused (plainStatus p m)
+      same = ap isPaused (same-status p r ok m a)
 
-      go : (b : Bool) → isPaused p r ≡ b → (isPaused p r ≡ true → Together engines (instant p engine r) (plainInstant p m))
+      go : (b : Bool) → runningPaused p r ≡ b → (runningPaused p r ≡ true → Together engines (instant p engine r) (plainInstant p m))
           → Together (engine ∷ engines) r m
       go true e ih =
           let t = ih e in
-          let f : statusPaused (plainStatus p m) ≡ true = sym same ∙ e in
+          let f : isPaused (plainStatus p m) ≡ true = sym same ∙ e in
           record { agrees = rw (e, f) (t .agrees); bytes = rw (e, f) (ap₂ (λ xs ys. xs ++ ys) (same-events p r ok m a) (t .bytes)) }
       go false e ih =
-          let f : statusPaused (plainStatus p m) ≡ false = sym same ∙ e in
+          let f : isPaused (plainStatus p m) ≡ false = sym same ∙ e in
           record { agrees = rw (e, f) a; bytes = rw (e, f) }

@@ -7,7 +7,7 @@ use Rattle.plan.specs.Laws.Rows.{length-row}
 use Rattle.plan.specs.declared.Plan.{Plan}
 use Rattle.machine.specs.Start.{startOf}
 use Rattle.machine.specs.Instant.{inputsThen, outputsThen, figuresAfter, instant}
-use Rattle.machine.specs.Status.{isPaused}
+use Rattle.machine.specs.Status.{runningPaused}
 use Rattle.machine.specs.Runs.{afterRun}
 use Rattle.machine.specs.Sound.{RunningWidths}
 use Rattle.machine.specs.declared.Running.{Running}
@@ -41,7 +41,7 @@ module _ (p : Plan) where
   pub after-shaped : (engine : Engine) (b : ℕ) (r : Running) → RunningWidths r → RunningWidths (afterRun p engine b r)
   unfolding afterRun
   after-shaped engine zero r h = h
-  after-shaped engine (suc b) r h = go (isPaused p r) (after-shaped engine b (instant p engine r) (instant-shaped engine r))
+  after-shaped engine (suc b) r h = go (runningPaused p r) (after-shaped engine b (instant p engine r) (instant-shaped engine r))
     where
       go : (c : Bool) → RunningWidths (afterRun p engine b (instant p engine r)) → RunningWidths (cond c (afterRun p engine b (instant p engine r)) r)
       go true ih = ih

@@ -18,7 +18,7 @@ use Rattle.plan.specs.declared.Plan.{Plan}
 use Rattle.machine.specs.Due.{dueOf}
 use Rattle.machine.specs.Reach.{isDue, reached}
 use Rattle.machine.specs.Instant.{positionAt, inputsThen, moves, outputsThen, slopeThen, dueThen, figuresAfter, nextTickOf, instant}
-use Rattle.machine.specs.Status.{isPaused}
+use Rattle.machine.specs.Status.{runningPaused}
 use Rattle.machine.specs.Sound.{SoundIntegrator, SoundRunning}
 use Rattle.machine.specs.Laws.BetweenLevels.{near-between, near-itself}
 use Rattle.machine.specs.Laws.Due.{due-ahead}
@@ -143,7 +143,7 @@ module _ (p : Plan) (r : Running) (ok : SoundRunning p r) where
       command h = rw (ok .next) (command-first p (r .clocks .clock) (rw (ok .next) at h))
 
   -- where the state is paused, that instant is taken
-  pub takes-next : isPaused p r ≡ true → Takes p r (nextTickOf p r)
+  pub takes-next : runningPaused p r ≡ true → Takes p r (nextTickOf p r)
   unfolding isDue
   takes-next paused =
       record {
@@ -153,7 +153,7 @@ module _ (p : Plan) (r : Running) (ok : SoundRunning p r) where
         within = λ i h e. due-size p r paused i h (eqb-true (natAt (r .d) i) (nextTickOf p r) e);
       }
 
-  pub instant-sound : isPaused p r ≡ true → (engine : Engine) → SoundRunning p (instant p engine r)
+  pub instant-sound : runningPaused p r ≡ true → (engine : Engine) → SoundRunning p (instant p engine r)
   unfolding instant
   instant-sound paused engine =
       let t = nextTickOf p r in sound-then p r ok t (takes-next paused) (moves p engine (r .d) t) (covers p engine (r .d) t)

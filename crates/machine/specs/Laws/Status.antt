@@ -16,7 +16,7 @@ use Rattle.plan.specs.Lists.{natAt}
 use Rattle.plan.specs.Laws.Searches.{First, first, first-unique, first-ext}
 use Rattle.plan.specs.declared.Plan.{Plan}
 use Rattle.machine.specs.Reach.{isDue}
-use Rattle.machine.specs.Status.{statusNumber, statusIntegrator, statusPaused, bars, barring, statusBy, statusAt, statusOf, isPaused}
+use Rattle.machine.specs.Status.{statusNumber, statusIntegrator, isPaused, bars, barring, statusBy, statusAt, statusOf, runningPaused}
 use Rattle.machine.specs.Instant.{positionAt, nextTickOf}
 use Rattle.machine.specs.declared.Running.{Running}
 use Rattle.machine.specs.declared.Status.{Status}
@@ -35,18 +35,18 @@ no-integrator Paused h = refl
 no-integrator Finished h = refl
 no-integrator (Range i) h = absurd (h refl)
 
-pub paused-true : (status : Status) → status ≡ Paused → statusPaused status ≡ true
-unfolding statusPaused
+pub paused-true : (status : Status) → status ≡ Paused → isPaused status ≡ true
+unfolding isPaused
 paused-true status e = rw e
 
-pub paused-false : (status : Status) → (status ≡ Paused → ⊥) → statusPaused status ≡ false
-unfolding statusPaused
+pub paused-false : (status : Status) → (status ≡ Paused → ⊥) → isPaused status ≡ false
+unfolding isPaused
 paused-false Paused h = absurd (h refl)
 paused-false Finished h = refl
 paused-false (Range i) h = refl
 
-pub true-paused : (status : Status) → statusPaused status ≡ true → status ≡ Paused
-unfolding statusPaused
+pub true-paused : (status : Status) → isPaused status ≡ true → status ≡ Paused
+unfolding isPaused
 true-paused Paused e = refl
 true-paused Finished e = absurd (true≢false (sym e))
 true-paused (Range i) e = absurd (true≢false (sym e))
@@ -137,10 +137,10 @@ module _ (p : Plan) (d : List ℕ) (t : ℕ) (value : ℕ → ℤ) where
   -- ---- what a paused status says
   module _ (paused : statusAt p d t value ≡ Paused) where
     tests : (eqb t never ≡ false) × (ltb (p .horizon) t ≡ false) × (ltb (barring p d t value) (p .counts .n) ≡ false)
-    unfolding statusAt statusBy statusPaused
+    unfolding statusAt statusBy isPaused
     tests = go (eqb t never) (ltb (p .horizon) t) (ltb (barring p d t value) (p .counts .n)) (paused-true (statusAt p d t value) paused)
       where
-        go : (a b c : Bool) → statusPaused (cond (a || b) Finished (cond c (Range (barring p d t value)) Paused)) ≡ true
+        go : (a b c : Bool) → isPaused (cond (a || b) Finished (cond c (Range (barring p d t value)) Paused)) ≡ true
             → (a ≡ false) × (b ≡ false) × (c ≡ false)
         go true b c e = absurd (true≢false (sym e))
         go false true c e = absurd (true≢false (sym e))
@@ -165,13 +165,13 @@ module _ (p : Plan) (d : List ℕ) (t : ℕ) (value value′ : ℕ → ℤ) (sam
 
 -- ---- a paused state
 module _ (p : Plan) (r : Running) where
-  pub is-paused : statusOf p r ≡ Paused → isPaused p r ≡ true
-  unfolding isPaused
+  pub is-paused : statusOf p r ≡ Paused → runningPaused p r ≡ true
+  unfolding runningPaused
   is-paused = paused-true (statusOf p r)
 
-  module _ (paused : isPaused p r ≡ true) where
+  module _ (paused : runningPaused p r ≡ true) where
     pub paused-status : statusOf p r ≡ Paused
-    unfolding isPaused
+    unfolding runningPaused
     paused-status = true-paused (statusOf p r) paused
 
     pub tick-horizon : nextTickOf p r ≤ p .horizon

@@ -140,9 +140,9 @@ module _ (p : Plan) where
         λ t. let h = all .0 t in record {
           least = h .0 .0 .0 .0;
           most = h .0 .0 .0 .1;
-          number = h .0 .0 .1;
+          input = h .0 .0 .1;
           value = h .0 .1;
           order = h .1;
         },
-        λ r. all .1 ((((r .least, r .most), r .number), r .value), r .order),
+        λ r. all .1 ((((r .least, r .most), r .input), r .value), r .order),
       )

@@ -11,7 +11,7 @@ use Rattle.plan.specs.Unused.{planUnusedZero}
 use Rattle.plan.specs.Laws.PlanRefusals.{plan-rules}
 use Rattle.machine.specs.SoundTest.{planSound, runningSound, isSound}
 use Rattle.entryrules.specs.Laws.Testing.{held, failed}
-use Rattle.unused.specs.Laws.EarlyReturns.{passes, Passed, begin, next, passed-at, fails, last}
+use Rattle.unusedentries.specs.Laws.EarlyReturns.{passes, Passed, begin, next, passed-at, fails, last}
 use Rattle.soundness.proofs.is_sound.Statement.{statement}
 use Rattle.soundness.proofs.is_sound.Tie as tie
 

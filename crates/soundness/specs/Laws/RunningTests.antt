@@ -30,10 +30,10 @@ use Rattle.values.specs.Sources.{valuesOf, outputAndInputValues, NodesReady}
 use Rattle.values.specs.Laws.SourceValues.{nodes-ready, first-sized, values-sized}
 use Rattle.rates.specs.Links.{rangesOf, RatesReady}
 use Rattle.rates.specs.Laws.OwnRange.{own-rated}
-use Rattle.unused.specs.Entries.{figuresUnusedZero}
-use Rattle.integratortest.specs.Figures.{figuresSound, AllReady}
-use Rattle.integratortest.specs.Laws.OneIntegrator.{figuresIn}
-use Rattle.unused.specs.Laws.EarlyReturns.{passes}
+use Rattle.unusedentries.specs.Entries.{runningUnusedZeroBy}
+use Rattle.soundintegrators.specs.Figures.{figuresSound, IntegratorsReady}
+use Rattle.soundintegrators.specs.Laws.OneIntegrator.{figuresIn}
+use Rattle.unusedentries.specs.Laws.EarlyReturns.{passes}
 
 -- ---- "|q| ≤ M" split off the clauses of an integrator
 every-both : (test f g : ℕ → Bool) → ((i : ℕ) → test i ≡ (f i && g i)) → (n : ℕ) → every test n ≡ (every f n && every g n)
@@ -91,11 +91,11 @@ module _ (p : Plan) (r : Running) where
       ∷ eqb (r .clocks .next) (nextCommand p (r .clocks .clock))
       ∷ leb (r .clocks .instants) (r .clocks .clock)
       ∷ leb (r .clocks .updates) (p .counts .n * r .clocks .instants)
-      ∷ figuresUnusedZero (p .counts .n) (p .counts .m) r
+      ∷ runningUnusedZeroBy (p .counts .n) (p .counts .m) r
       ∷ []
 
   pub running-tests : passes clauses 8 ≡ runningSound p r
-  unfolding passes every runningSound runningUnusedZero figuresUnusedZero
+  unfolding passes every runningSound runningUnusedZero runningUnusedZeroBy
   running-tests =
       let clock = leb (r .clocks .clock) (p .horizon) in let outputs = every outputAt (p .counts .n) in let inputs = every inputAt (p .counts .m) in
       rw (integrators-both, ← and-assoc clock, later (clock && outputs) inputs (every figuresAt (p .counts .n)))
@@ -125,7 +125,7 @@ module _ (p : Plan) (r : Running) where
       rates-ready =
           (count-limits p (rules .counts) .n, own-rated p rules _ (values-sized p (r .q) (r .inputs) rules output-size input-size))
 
-      pub figures-ready : leb (r .clocks .clock) (p .horizon) ≡ true → AllReady (p .counts .n) (p .integrators .quanta) slopes (r .clocks .clock) (r .q)
+      pub figures-ready : leb (r .clocks .clock) (p .horizon) ≡ true → IntegratorsReady (p .counts .n) (p .integrators .quanta) slopes (r .clocks .clock) (r .q)
       figures-ready clock i h = rw (slope-at i h) (
           record {
             early = omega (arith, leb-true (r .clocks .clock) (p .horizon) clock, rules .horizon .1);

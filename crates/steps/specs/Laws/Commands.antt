@@ -116,12 +116,12 @@ module _ (p : Plan) (rules : PlanRules p) (u values : List ℤ) (t : ℕ) (wide 
         most = omega arith;
         earlier = λ d l. let b : d < suc e = omega arith in below-suc (λ d. natAt (p .commands .ticks) d ≤ t) b (w .earlier d) (omega arith);
         ahead = λ l. omega (arith, ticks-ascend p rules e (e + 1) (omega arith) l);
-        small = with-lt (p .counts .m) (o .commanded) k (w .small) (rule .number);
+        small = with-lt (p .counts .m) (o .commanded) k (w .small) (rule .input);
         commanded = λ j. has-with (o .commanded) k j ∙ rw (add-one, own-tick p t j e tick, w .commanded j, eqb-same j k k j sym sym);
         same-length = length-set (o .values) (p .counts .n + k) v ∙ w .same-length;
         inputs = λ j l.
             let same = eqb-same (p .counts .n + k) (p .counts .n + j) k j (λ q. omega arith) (λ q. omega arith) in
-            set-entry (o .values) (p .counts .n + k) (p .counts .n + j) v (omega (arith, rule .number, limits .n, limits .m, w .same-length))
+            set-entry (o .values) (p .counts .n + k) (p .counts .n + j) v (omega (arith, rule .input, limits .n, limits .m, w .same-length))
             ∙ rw (same, add-one, own-tick p t j e tick, w .inputs j l);
         kept = λ i f.
             getD-set-other (o .values) (p .counts .n + k) i v (pos 0) (λ q. f e (omega arith) tick q)
@@ -223,7 +223,7 @@ module _ (p : Plan) (rules : PlanRules p) (u values : List ℤ) where
               w .inputs j h ∙ sym (all-inputs-then j) ∙ sym (row-at (pos 0) 8 (p .counts .m) _ j (limits .m) h);
           kept = λ i f.
               w .kept i
-              (λ e h tick. f (natAt (p .commands .inputs) e) (rules .commands e (omega (arith, w .most)) .number)
+              (λ e h tick. f (natAt (p .commands .inputs) e) (rules .commands e (omega (arith, w .most)) .input)
               (commanded-means p t (natAt (p .commands .inputs) e) .1 (e, omega (arith, w .most), tick, refl)));
         }
 
@@ -253,5 +253,5 @@ commands-in-range p rules next clock e =
       order = rw e (command-most p clock);
       few = limits .commands;
       room = limits .n;
-      known = λ d h. omega (arith, rules .commands d h .number, limits .m);
+      known = λ d h. omega (arith, rules .commands d h .input, limits .m);
     }

@@ -9,7 +9,7 @@ use borrow.Author.Needs.{needs}
 use borrow.Author.Tests.{not-true, not-false}
 use Rattle.plan.specs.Laws.CountLimits.{CountLimits, count-limits}
 use Rattle.plan.specs.declared.Plan.{Plan}
-use Rattle.machine.specs.Status.{statusPaused}
+use Rattle.machine.specs.Status.{isPaused}
 use Rattle.machine.specs.Sound.{SoundRunning, RunningWidths}
 use Rattle.machine.specs.declared.Running.{Running}
 use Rattle.rates.specs.Links.{rangesOf}
@@ -81,7 +81,7 @@ module _ (c : tie.Else2 Inv-loop μ-loop) where
   more : loop ahead .loop .taken < before-values (values ahead) .args .budget
   more = c .before .before .if1 .left
 
-  paused : statusPaused (ahead .look-ahead .result .status) ≡ true
+  paused : isPaused (ahead .look-ahead .result .status) ≡ true
   paused = sym (c .before .is-paused .ensures) ∙ not-false (c .before .is-paused .result) (c .if2 .left)
 
 -- ---- before the loop

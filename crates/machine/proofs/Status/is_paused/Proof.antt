@@ -1,6 +1,6 @@
 -- `Status::is_paused` meets its contract, case by case. Assumes nothing.
 use borrow.Author.Needs.{needs}
-use Rattle.machine.specs.Status.{statusPaused}
+use Rattle.machine.specs.Status.{isPaused}
 use Rattle.machine.proofs.Status.is_paused.Statement.{statement}
 use Rattle.machine.proofs.Status.is_paused.Tie as tie
 
@@ -14,15 +14,15 @@ enum-told-3 : tie.Need-enum-told-3
 enum-told-3 c = search needs
 
 returns : tie.Need-returns
-unfolding statusPaused
+unfolding isPaused
 returns c = search needs
 
 returns-2 : tie.Need-returns-2
-unfolding statusPaused
+unfolding isPaused
 returns-2 c = search needs
 
 returns-3 : tie.Need-returns-3
-unfolding statusPaused
+unfolding isPaused
 returns-3 c = search needs
 
 pub is-paused-spec : {M : Type 1} → statement M

@@ -21,26 +21,26 @@ abbrev μ-loop : tie.MeasureT-loop
 loop-holds : tie.Need-loop-holds Inv-loop μ-loop
 loop-holds c = begin _
 
-mul-integrator-kept : tie.Need-mul-integrator-kept Inv-loop μ-loop
-mul-integrator-kept c = search needs
+mul-integrator-test : tie.Need-mul-integrator-test Inv-loop μ-loop
+mul-integrator-test c = search needs
 
-element-copy-out-integrator-kept : tie.Need-element-copy-out-integrator-kept Inv-loop μ-loop
-element-copy-out-integrator-kept c = search needs
+element-copy-out-integrator-test : tie.Need-element-copy-out-integrator-test Inv-loop μ-loop
+element-copy-out-integrator-test c = search needs
 
-mul-integrator-kept-2 : tie.Need-mul-integrator-kept-2 Inv-loop μ-loop
-mul-integrator-kept-2 c = search needs
+mul-integrator-test-2 : tie.Need-mul-integrator-test-2 Inv-loop μ-loop
+mul-integrator-test-2 c = search needs
 
-element-copy-out-integrator-kept-2 : tie.Need-element-copy-out-integrator-kept-2 Inv-loop μ-loop
-element-copy-out-integrator-kept-2 c = search needs
+element-copy-out-integrator-test-2 : tie.Need-element-copy-out-integrator-test-2 Inv-loop μ-loop
+element-copy-out-integrator-test-2 c = search needs
 
-integrator-kept-requires : tie.Need-integrator-kept-requires Inv-loop μ-loop
-integrator-kept-requires c κs = search needs
+integrator-test-requires : tie.Need-integrator-test-requires Inv-loop μ-loop
+integrator-test-requires c κs = search needs
 
 -- what the call has said of the entry
-answer : (c : tie.After-integrator-kept Inv-loop μ-loop) → let l = c .before .before .before .before in let a = l .before .args in
-    c .integrator-kept .result ≡ integratorAt (now (a .starts)) (now (a .quanta)) (l .loop .i)
+answer : (c : tie.After-integrator-test Inv-loop μ-loop) → let l = c .before .before .before .before in let a = l .before .args in
+    c .integrator-test .result ≡ integratorAt (now (a .starts)) (now (a .quanta)) (l .loop .i)
 answer c =
-    rw (element (c .before .before .integrator-kept-arg .given), element (c .before .integrator-kept-arg2 .given)) at (c .integrator-kept .ensures)
+    rw (element (c .before .before .integrator-test-arg .given), element (c .before .integrator-test-arg2 .given)) at (c .integrator-test .ensures)
 
 returns : tie.Need-returns Inv-loop μ-loop
 unfolding numberOf isClean
@@ -66,11 +66,11 @@ check-integrators-spec =
     Inv-loop
     μ-loop
     loop-holds
-    mul-integrator-kept
-    element-copy-out-integrator-kept
-    mul-integrator-kept-2
-    element-copy-out-integrator-kept-2
-    integrator-kept-requires
+    mul-integrator-test
+    element-copy-out-integrator-test
+    mul-integrator-test-2
+    element-copy-out-integrator-test-2
+    integrator-test-requires
     returns
     add-i
     loop-less

@@ -21,46 +21,46 @@ abbrev μ-loop : tie.MeasureT-loop
 loop-holds : tie.Need-loop-holds Inv-loop μ-loop
 loop-holds c = begin _
 
-mul-link-limits-kept : tie.Need-mul-link-limits-kept Inv-loop μ-loop
-mul-link-limits-kept c = search needs
+mul-link-limits-test : tie.Need-mul-link-limits-test Inv-loop μ-loop
+mul-link-limits-test c = search needs
 
-element-copy-out-link-limits-kept : tie.Need-element-copy-out-link-limits-kept Inv-loop μ-loop
-element-copy-out-link-limits-kept c = search needs
+element-copy-out-link-limits-test : tie.Need-element-copy-out-link-limits-test Inv-loop μ-loop
+element-copy-out-link-limits-test c = search needs
 
-mul-link-limits-kept-2 : tie.Need-mul-link-limits-kept-2 Inv-loop μ-loop
-mul-link-limits-kept-2 c = search needs
+mul-link-limits-test-2 : tie.Need-mul-link-limits-test-2 Inv-loop μ-loop
+mul-link-limits-test-2 c = search needs
 
-element-copy-out-link-limits-kept-2 : tie.Need-element-copy-out-link-limits-kept-2 Inv-loop μ-loop
-element-copy-out-link-limits-kept-2 c = search needs
+element-copy-out-link-limits-test-2 : tie.Need-element-copy-out-link-limits-test-2 Inv-loop μ-loop
+element-copy-out-link-limits-test-2 c = search needs
 
-mul-link-limits-kept-3 : tie.Need-mul-link-limits-kept-3 Inv-loop μ-loop
-mul-link-limits-kept-3 c = search needs
+mul-link-limits-test-3 : tie.Need-mul-link-limits-test-3 Inv-loop μ-loop
+mul-link-limits-test-3 c = search needs
 
-element-copy-out-link-limits-kept-3 : tie.Need-element-copy-out-link-limits-kept-3 Inv-loop μ-loop
-element-copy-out-link-limits-kept-3 c = search needs
+element-copy-out-link-limits-test-3 : tie.Need-element-copy-out-link-limits-test-3 Inv-loop μ-loop
+element-copy-out-link-limits-test-3 c = search needs
 
-link-limits-kept-requires : tie.Need-link-limits-kept-requires Inv-loop μ-loop
-link-limits-kept-requires c κs = search needs
+link-limits-test-requires : tie.Need-link-limits-test-requires Inv-loop μ-loop
+link-limits-test-requires c κs = search needs
 
 -- what the first call has said of the entry
-limits : (c : tie.After-link-limits-kept Inv-loop μ-loop) → let l = c .before .before .before .before .before in let a = l .before .args in
-    c .link-limits-kept .result ≡ linkLimitsAt (a .n) (a .all) (now (a .targets)) (now (a .sources)) (now (a .coefficients)) (l .loop .e)
-limits c = rw (element (c .before .link-limits-kept-arg3 .given)) at (c .link-limits-kept .ensures)
+limits : (c : tie.After-link-limits-test Inv-loop μ-loop) → let l = c .before .before .before .before .before in let a = l .before .args in
+    c .link-limits-test .result ≡ linkLimitsAt (a .n) (a .all) (now (a .targets)) (now (a .sources)) (now (a .coefficients)) (l .loop .e)
+limits c = rw (element (c .before .link-limits-test-arg3 .given)) at (c .link-limits-test .ensures)
 
 returns : tie.Need-returns Inv-loop μ-loop
 unfolding numberOf isClean
 returns c =
     found (c .before .before .before .before .before .before .loop .inv) (omega arith) (λ e. refl) (rw (failed (limits (c .before)) (c .if1 .taken)))
 
-link-ordered-requires : tie.Need-link-ordered-requires Inv-loop μ-loop
-link-ordered-requires c κs = search needs
+link-ascends-requires : tie.Need-link-ascends-requires Inv-loop μ-loop
+link-ascends-requires c κs = search needs
 
 returns-2 : tie.Need-returns-2 Inv-loop μ-loop
 unfolding numberOf isClean
 returns-2 c =
     let kept = c .before .before in
     found (kept .before .before .before .before .before .before .loop .inv) (omega arith) (λ e. refl)
-    (rw (held (limits (kept .before)) (kept .if1 .left)) (failed (c .before .link-ordered .ensures) (c .if2 .taken)))
+    (rw (held (limits (kept .before)) (kept .if1 .left)) (failed (c .before .link-ascends .ensures) (c .if2 .taken)))
 
 add-e : tie.Need-add-e Inv-loop μ-loop
 add-e c = search needs
@@ -72,7 +72,7 @@ loop-again : tie.Need-loop-again Inv-loop μ-loop
 loop-again c =
     let kept = c .before .before in
     passed (kept .before .before .before .before .before .before .loop .inv) (omega arith)
-    (rw (held (limits (kept .before)) (kept .if1 .left)) (held (c .before .link-ordered .ensures) (c .if2 .left)))
+    (rw (held (limits (kept .before)) (kept .if1 .left)) (held (c .before .link-ascends .ensures) (c .if2 .left)))
 
 returns-3 : tie.Need-returns-3 Inv-loop μ-loop
 returns-3 c = none (c .before .loop .inv) (c .loop-test .left)
@@ -84,15 +84,15 @@ check-links-spec =
     Inv-loop
     μ-loop
     loop-holds
-    mul-link-limits-kept
-    element-copy-out-link-limits-kept
-    mul-link-limits-kept-2
-    element-copy-out-link-limits-kept-2
-    mul-link-limits-kept-3
-    element-copy-out-link-limits-kept-3
-    link-limits-kept-requires
+    mul-link-limits-test
+    element-copy-out-link-limits-test
+    mul-link-limits-test-2
+    element-copy-out-link-limits-test-2
+    mul-link-limits-test-3
+    element-copy-out-link-limits-test-3
+    link-limits-test-requires
     returns
-    link-ordered-requires
+    link-ascends-requires
     returns-2
     add-e
     loop-less

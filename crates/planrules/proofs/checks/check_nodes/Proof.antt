@@ -21,46 +21,46 @@ abbrev μ-loop : tie.MeasureT-loop
 loop-holds : tie.Need-loop-holds Inv-loop μ-loop
 loop-holds c = begin _
 
-add-node-kept : tie.Need-add-node-kept Inv-loop μ-loop
-add-node-kept c = search needs
+add-node-test : tie.Need-add-node-test Inv-loop μ-loop
+add-node-test c = search needs
 
-mul-node-kept : tie.Need-mul-node-kept Inv-loop μ-loop
-mul-node-kept c = search needs
+mul-node-test : tie.Need-mul-node-test Inv-loop μ-loop
+mul-node-test c = search needs
 
-element-copy-out-node-kept : tie.Need-element-copy-out-node-kept Inv-loop μ-loop
-element-copy-out-node-kept c = search needs
+element-copy-out-node-test : tie.Need-element-copy-out-node-test Inv-loop μ-loop
+element-copy-out-node-test c = search needs
 
-mul-node-kept-2 : tie.Need-mul-node-kept-2 Inv-loop μ-loop
-mul-node-kept-2 c = search needs
+mul-node-test-2 : tie.Need-mul-node-test-2 Inv-loop μ-loop
+mul-node-test-2 c = search needs
 
-element-copy-out-node-kept-2 : tie.Need-element-copy-out-node-kept-2 Inv-loop μ-loop
-element-copy-out-node-kept-2 c = search needs
+element-copy-out-node-test-2 : tie.Need-element-copy-out-node-test-2 Inv-loop μ-loop
+element-copy-out-node-test-2 c = search needs
 
-mul-node-kept-3 : tie.Need-mul-node-kept-3 Inv-loop μ-loop
-mul-node-kept-3 c = search needs
+mul-node-test-3 : tie.Need-mul-node-test-3 Inv-loop μ-loop
+mul-node-test-3 c = search needs
 
-element-copy-out-node-kept-3 : tie.Need-element-copy-out-node-kept-3 Inv-loop μ-loop
-element-copy-out-node-kept-3 c = search needs
+element-copy-out-node-test-3 : tie.Need-element-copy-out-node-test-3 Inv-loop μ-loop
+element-copy-out-node-test-3 c = search needs
 
-mul-node-kept-4 : tie.Need-mul-node-kept-4 Inv-loop μ-loop
-mul-node-kept-4 c = search needs
+mul-node-test-4 : tie.Need-mul-node-test-4 Inv-loop μ-loop
+mul-node-test-4 c = search needs
 
-element-copy-out-node-kept-4 : tie.Need-element-copy-out-node-kept-4 Inv-loop μ-loop
-element-copy-out-node-kept-4 c = search needs
+element-copy-out-node-test-4 : tie.Need-element-copy-out-node-test-4 Inv-loop μ-loop
+element-copy-out-node-test-4 c = search needs
 
-mul-node-kept-5 : tie.Need-mul-node-kept-5 Inv-loop μ-loop
-mul-node-kept-5 c = search needs
+mul-node-test-5 : tie.Need-mul-node-test-5 Inv-loop μ-loop
+mul-node-test-5 c = search needs
 
-element-copy-out-node-kept-5 : tie.Need-element-copy-out-node-kept-5 Inv-loop μ-loop
-element-copy-out-node-kept-5 c = search needs
+element-copy-out-node-test-5 : tie.Need-element-copy-out-node-test-5 Inv-loop μ-loop
+element-copy-out-node-test-5 c = search needs
 
-node-kept-requires : tie.Need-node-kept-requires Inv-loop μ-loop
-node-kept-requires c κs = search needs
+node-test-requires : tie.Need-node-test-requires Inv-loop μ-loop
+node-test-requires c κs = search needs
 
 -- what the call has said of the entry
-answer : (c : tie.After-node-kept Inv-loop μ-loop) → let l = c .before .before .before .before .before .before .before in let a = l .before .args in
-    c .node-kept .result ≡ nodeAt (a .base) (now (a .kinds)) (now (a .a)) (now (a .b)) (now (a .lows)) (now (a .highs)) (l .loop .j)
-answer c = rw (element (c .before .before .node-kept-arg4 .given), element (c .before .node-kept-arg5 .given)) at (c .node-kept .ensures)
+answer : (c : tie.After-node-test Inv-loop μ-loop) → let l = c .before .before .before .before .before .before .before in let a = l .before .args in
+    c .node-test .result ≡ nodeAt (a .base) (now (a .kinds)) (now (a .a)) (now (a .b)) (now (a .lows)) (now (a .highs)) (l .loop .j)
+answer c = rw (element (c .before .before .node-test-arg4 .given), element (c .before .node-test-arg5 .given)) at (c .node-test .ensures)
 
 returns : tie.Need-returns Inv-loop μ-loop
 unfolding numberOf isClean
@@ -88,18 +88,18 @@ check-nodes-spec =
     Inv-loop
     μ-loop
     loop-holds
-    add-node-kept
-    mul-node-kept
-    element-copy-out-node-kept
-    mul-node-kept-2
-    element-copy-out-node-kept-2
-    mul-node-kept-3
-    element-copy-out-node-kept-3
-    mul-node-kept-4
-    element-copy-out-node-kept-4
-    mul-node-kept-5
-    element-copy-out-node-kept-5
-    node-kept-requires
+    add-node-test
+    mul-node-test
+    element-copy-out-node-test
+    mul-node-test-2
+    element-copy-out-node-test-2
+    mul-node-test-3
+    element-copy-out-node-test-3
+    mul-node-test-4
+    element-copy-out-node-test-4
+    mul-node-test-5
+    element-copy-out-node-test-5
+    node-test-requires
     returns
     add-j
     loop-less

@@ -17,7 +17,7 @@ use Rattle.values.specs.Laws.SourceValues.{values-at, all-nodes}
 use Rattle.rates.specs.Links.{rangesOf}
 use Rattle.rates.specs.Laws.OwnRange.{own-rates}
 use Rattle.entryrules.specs.Laws.Testing.{held, failed}
-use Rattle.unused.specs.Laws.EarlyReturns.{passes, Passed, begin, next, passed-at, fails, last}
+use Rattle.unusedentries.specs.Laws.EarlyReturns.{passes, Passed, begin, next, passed-at, fails, last}
 use Rattle.soundness.specs.Laws.RunningTests.{clauses, running-tests, figuresAt, slopes, sources-ready, rates-ready, figures-ready, figures-same}
 use Rattle.soundness.specs.Laws.RunningTests.{clock-fits, updates-fit}
 use Rattle.soundness.proofs.running.running_sound.Statement.{statement}
@@ -160,11 +160,11 @@ returns-7 c = fails (passed6 (c .before)) all-of (lit< tt) (lt-leb _ _ (c .if7 .
 abbrev passed7 : tie.Else7 → Passed tests 7
 passed7 c = next (passed6 (c .before)) (le-leb _ _ (c .if7 .left))
 
-figures-unused-zero-requires : tie.Need-figures-unused-zero-requires
-figures-unused-zero-requires c κs = search needs
+running-unused-zero-requires : tie.Need-running-unused-zero-requires
+running-unused-zero-requires c κs = search needs
 
 returns-8 : tie.Need-returns-8
-returns-8 c = last (passed7 (c .before)) all-of refl (c .figures-unused-zero .ensures)
+returns-8 c = last (passed7 (c .before)) all-of refl (c .running-unused-zero .ensures)
 
 pub running-sound-spec : {M : Type 1} → statement M
 running-sound-spec =
@@ -186,5 +186,5 @@ running-sound-spec =
     returns-6
     mul-if7
     returns-7
-    figures-unused-zero-requires
+    running-unused-zero-requires
     returns-8)
