@@ -97,7 +97,7 @@ pub fn take_instant<'a>(
         clocks.next,
     );
     let changed = union_shifted(due, commanded.inputs, n);
-    let reached = reached_by(changed, reach);
+    let reached = reached_by(reach, changed);
     work_out_nodes(
         base,
         counts.k,

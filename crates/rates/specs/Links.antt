@@ -40,5 +40,5 @@ pub record RateReady (sources : List ℕ) (coefficients values : List ℤ) (from
   pub sized : (i : ℕ) → ∣ intAt values i ∣ ≤ M
 
 -- of the first n integrators, by the table of ranges
-abbrev pub RatesReady : (n : ℕ) (ranges sources : List ℕ) (coefficients values : List ℤ) → Type 0
-RatesReady n ranges sources coefficients values = (i : ℕ) → i < n → RateReady sources coefficients values (natAt ranges i) (natAt ranges (i + 1))
+abbrev pub RatesReady : (n : ℕ) (sources : List ℕ) (coefficients : List ℤ) (ranges : List ℕ) (values : List ℤ) → Type 0
+RatesReady n sources coefficients ranges values = (i : ℕ) → i < n → RateReady sources coefficients values (natAt ranges i) (natAt ranges (i + 1))

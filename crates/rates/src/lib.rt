@@ -66,12 +66,12 @@ pub fn rate<'a>(
 // The rate of each integrator.
 pub fn rates<'a>(
     n: usize,
-    ranges: &'a [usize; RANGES],
     sources: &'a [usize; LINKS],
     coefficients: &'a [i64; LINKS],
+    ranges: &'a [usize; RANGES],
     values: &'a [i64; SOURCES],
 ) -> [i64; INTEGRATORS]
-    requires { ⌜ (n ≤ mostIntegrators) × RatesReady n (now ranges) (now sources) (now coefficients) (now values) ⌝ }
+    requires { ⌜ (n ≤ mostIntegrators) × RatesReady n (now sources) (now coefficients) (now ranges) (now values) ⌝ }
     ensures { λ r. ⌜ r ≡ row (pos 0) mostIntegrators n (λ i. rangeRate (now (sources .entry)) (now (coefficients .entry)) (now (values .entry))
         (natAt (now (ranges .entry)) i) (natAt (now (ranges .entry)) (i + 1))) ⌝ }
 {

@@ -116,7 +116,7 @@ pub fn reach_table<'a>(
 }
 
 // The entries of the changed sources, joined.
-fn entries_of(changed: u64, table: &[u64; SOURCES]) -> u64
+fn entries_of(table: &[u64; SOURCES], changed: u64) -> u64
     ensures { λ r. ⌜ r ≡ entriesOf (now (table .entry)) changed ⌝ }
 {
     let mut left = changed;
@@ -136,11 +136,11 @@ pub struct Reach {
 }
 
 // What changes of these sources reach: the lower and the upper half of their entries, joined.
-pub fn reached_by(changed: u64, table: &[u64; SOURCES]) -> Reach
+pub fn reached_by(table: &[u64; SOURCES], changed: u64) -> Reach
     ensures integrators { λ r. ⌜ r .integrators ≡ entriesOf (now (table .entry)) changed % 2 ^ 32 ⌝ }
     ensures nodes { λ r. ⌜ r .nodes ≡ entriesOf (now (table .entry)) changed / 2 ^ 32 ⌝ }
 {
-    let entries = entries_of(changed, table);
+    let entries = entries_of(table, changed);
     let integrators = (entries % 4294967296) as u32;
     let nodes = (entries >> FIRST_NODE_BIT) as u32;
     Reach { integrators, nodes }

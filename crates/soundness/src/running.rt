@@ -64,9 +64,9 @@ pub fn running_sound(plan: Plan, run: Running) -> bool
     let ranges = link_ranges(n, plan.counts.links, &plan.links.targets);
     let slopes = rates(
         n,
-        &ranges,
         &plan.links.sources,
         &plan.links.coefficients,
+        &ranges,
         &values,
     );
     if !integrators_sound(

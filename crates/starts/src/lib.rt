@@ -61,9 +61,9 @@ pub fn start(plan: Plan) -> Running
     let ranges = link_ranges(n, plan.counts.links, &plan.links.targets);
     let s = rates(
         n,
-        &ranges,
         &plan.links.sources,
         &plan.links.coefficients,
+        &ranges,
         &values,
     );
     let d = start_dues(n, &plan.integrators.starts, &plan.integrators.quanta, &s);

@@ -14,11 +14,11 @@ use Rattle.rates.proofs.rates.Statement.{statement}
 use Rattle.rates.proofs.rates.Tie as tie
 
 abbrev Inv-loop : tie.InvT-loop
-Inv-loop n ranges sources coefficients values slopes₀ i₀ slopes i =
+Inv-loop n sources coefficients ranges values slopes₀ i₀ slopes i =
     (i ≤ n) × (slopes ≡ row (pos 0) 32 i (λ j. rangeRate sources coefficients values (natAt ranges j) (natAt ranges (j + 1))))
 
 abbrev μ-loop : tie.MeasureT-loop
-μ-loop n ranges sources coefficients values slopes₀ i₀ slopes i = n - i
+μ-loop n sources coefficients ranges values slopes₀ i₀ slopes i = n - i
 
 loop-holds : tie.Need-loop-holds Inv-loop μ-loop
 loop-holds c = (omega arith, row-none (pos 0) 32 _)

@@ -83,7 +83,7 @@ module _ (p : Plan) (rules : PlanRules p) where
   unfolding rangesOf
   ranges-at i h = row-at 0 33 (p .counts .n + 1) (firstLink (p .links .targets) (p .counts .links)) i (omega (arith, count-limits p (rules .counts))) (omega arith)
 
-  pub own-rated : (values : List ℤ) → ((i : ℕ) → ∣ intAt values i ∣ ≤ M) → RatesReady (p .counts .n) (rangesOf p) (p .links .sources) (p .links .coefficients) values
+  pub own-rated : (values : List ℤ) → ((i : ℕ) → ∣ intAt values i ∣ ≤ M) → RatesReady (p .counts .n) (p .links .sources) (p .links .coefficients) (rangesOf p) values
   own-rated values sized i h = rw (ranges-at i (omega arith), ranges-at (i + 1) (omega arith)) rated
     where
       last : (e : ℕ) → e < begin p (i + 1) → e < p .counts .links

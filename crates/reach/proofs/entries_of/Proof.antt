@@ -15,11 +15,11 @@ abbrev join : List ℕ → ℕ → ℕ → ℕ
 join table i entries = union entries (natAt table i)
 
 abbrev Inv-loop : tie.InvT-loop
-Inv-loop changed table left₀ entries₀ left entries =
+Inv-loop table changed left₀ entries₀ left entries =
     (left < 2 ^ 64) × (each (join table) (has left) 64 entries ≡ entriesOf table changed)
 
 abbrev μ-loop : tie.MeasureT-loop
-μ-loop changed table left₀ entries₀ left entries = left
+μ-loop table changed left₀ entries₀ left entries = left
 
 loop-holds : tie.Need-loop-holds Inv-loop μ-loop
 unfolding entriesOf

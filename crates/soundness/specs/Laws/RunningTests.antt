@@ -121,7 +121,7 @@ module _ (p : Plan) (r : Running) where
           let c = count-limits p (rules .counts) in
           (c .n, c .m, nodes-ready p rules _ (first-sized p (r .q) (r .inputs) rules output-size input-size))
 
-      pub rates-ready : (p .counts .n ≤ 32) × RatesReady (p .counts .n) (rangesOf p) (p .links .sources) (p .links .coefficients) (valuesOf p (r .q) (r .inputs))
+      pub rates-ready : (p .counts .n ≤ 32) × RatesReady (p .counts .n) (p .links .sources) (p .links .coefficients) (rangesOf p) (valuesOf p (r .q) (r .inputs))
       rates-ready =
           (count-limits p (rules .counts) .n, own-rated p rules _ (values-sized p (r .q) (r .inputs) rules output-size input-size))
 

@@ -58,7 +58,7 @@ module _ (p : Plan) (rules : PlanRules p) where
     unfolding rangesOf
     ranges-are = found
 
-    pub start-rates-ready : RatesReady (p .counts .n) ranges (p .links .sources) (p .links .coefficients) values
+    pub start-rates-ready : RatesReady (p .counts .n) (p .links .sources) (p .links .coefficients) ranges values
     start-rates-ready = rw (values-are, ranges-are) (own-rated p rules _ (values-sized p (p .integrators .starts) (p .inputs .firsts) rules outputs inputs))
 
     pub start-slopes : {s : List ℤ}
