@@ -3,14 +3,14 @@ use lib.IntN.{ℤ, pos, negsuc}
 use Prim.Native.Nat.{ℕ, suc, _+_}
 
 -- the positive part, and the negative
-abbrev pub up : ℤ → ℕ
-up (pos n) = n
-up (negsuc n) = 0
+abbrev pub positivePart : ℤ → ℕ
+positivePart (pos n) = n
+positivePart (negsuc n) = 0
 
-abbrev pub dn : ℤ → ℕ
-dn (pos n) = 0
-dn (negsuc n) = suc n
+abbrev pub negativePart : ℤ → ℕ
+negativePart (pos n) = 0
+negativePart (negsuc n) = suc n
 
 -- the size, as `omega` reads it; `abs` of Laws/Parts says that it is the library's natAbs
 abbrev pub ∣_∣ : ℤ → ℕ
-∣ z ∣ = up z + dn z
+∣ z ∣ = positivePart z + negativePart z

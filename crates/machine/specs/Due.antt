@@ -6,7 +6,7 @@ use Prim.Native.Nat.{ℕ, _+_, _≤_, max}
 use lib.IntN.{ℤ, pos, _+ℤ_, _-ℤ_, _*ℤ_}
 use lib.Signed.{ltZ, _≤ℤ_, _<ℤ_}
 use lib.Dec.{eqb}
-use Rattle.integers.specs.Parts.{up, ∣_∣}
+use Rattle.integers.specs.Parts.{positivePart, ∣_∣}
 use Rattle.integers.specs.Division.{ceilDiv}
 use Rattle.plan.specs.Numbers.{never}
 use Rattle.plan.specs.Lists.{intAt}
@@ -25,7 +25,7 @@ distance x upper lower s = cond (ltZ (pos 0) s) (upper -ℤ x) (x -ℤ lower)
 
 -- T for a slope that is not 0: the distance by the slope's size, rounded up, a distance below 0 counting as 0, and at least 1
 unfoldable pub ticksTo : (x upper lower s : ℤ) → ℕ
-ticksTo x upper lower s = max 1 (ceilDiv (up (distance x upper lower s)) ∣ s ∣)
+ticksTo x upper lower s = max 1 (ceilDiv (positivePart (distance x upper lower s)) ∣ s ∣)
 
 -- d, from l, x, the levels and s: "for s = 0 d is never"
 unfoldable pub dueTick : (l : ℕ) (x upper lower s : ℤ) → ℕ

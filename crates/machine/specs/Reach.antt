@@ -51,8 +51,8 @@ module _ (p : Plan) (d : List ℕ) (t : ℕ) where
   -- "or a node that depends on one", by A, or by B where its kind uses it
   pub data Depends : ℕ → Type 0 where
     itself : {i : ℕ} → Changed i → Depends i
-    left : {i : ℕ} (j : ℕ) → i ≡ p .counts .n + p .counts .m + j → j < p .counts .k → Depends (natAt (p .nodes .a) j) → Depends i
-    right : {i : ℕ} (j : ℕ) → i ≡ p .counts .n + p .counts .m + j → j < p .counts .k → (natAt (p .nodes .kinds) j ≡ kindLimit → ⊥) → Depends (natAt (p .nodes .b) j) → Depends i
+    by-a : {i : ℕ} (j : ℕ) → i ≡ p .counts .n + p .counts .m + j → j < p .counts .k → Depends (natAt (p .nodes .a) j) → Depends i
+    by-b : {i : ℕ} (j : ℕ) → i ≡ p .counts .n + p .counts .m + j → j < p .counts .k → (natAt (p .nodes .kinds) j ≡ kindLimit → ⊥) → Depends (natAt (p .nodes .b) j) → Depends i
 
   -- "a link of its own names" such a source
   pub data Reached : ℕ → Type 0 where

@@ -58,12 +58,12 @@ module _ (p : Plan) where
 
   pub record NodeRule (j : ℕ) : Type 0 where
     pub kind : natAt (p .nodes .kinds) j ≤ kindComparison
-    pub left : Below j (natAt (p .nodes .a) j)
+    pub a-below : Below j (natAt (p .nodes .a) j)
     -- "B is 0 and names nothing" in kind 2; the others use it
-    pub right : (natAt (p .nodes .kinds) j ≡ kindLimit → ⊥) → Below j (natAt (p .nodes .b) j)
+    pub b-below : (natAt (p .nodes .kinds) j ≡ kindLimit → ⊥) → Below j (natAt (p .nodes .b) j)
     pub unused : natAt (p .nodes .kinds) j ≡ kindLimit → natAt (p .nodes .b) j ≡ 0
     -- kinds 0 and 1 "with lo and hi 0"
-    pub plain : natAt (p .nodes .kinds) j ≤ kindProduct → (intAt (p .nodes .lows) j ≡ pos 0) × (intAt (p .nodes .highs) j ≡ pos 0)
+    pub no-limits : natAt (p .nodes .kinds) j ≤ kindProduct → (intAt (p .nodes .lows) j ≡ pos 0) × (intAt (p .nodes .highs) j ≡ pos 0)
     -- "For kinds 2 and 3 lo and hi lie within ±M."
     pub limits : kindLimit ≤ natAt (p .nodes .kinds) j → Within M (intAt (p .nodes .lows) j) × Within M (intAt (p .nodes .highs) j)
     -- kind 2 is "a limited to lo..hi, lo ≤ hi"

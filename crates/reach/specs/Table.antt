@@ -62,5 +62,5 @@ pub record LinksReady (targets sources : List ℕ) (links : ℕ) : Type 0 where
 
 pub record OperandsReady (a b : List ℕ) (base k : ℕ) : Type 0 where
   pub room : base + k ≤ sourceWidth
-  pub left : (j : ℕ) → j < k → natAt a j < base + j
-  pub right : (j : ℕ) → j < k → natAt b j < base + j
+  pub a-below : (j : ℕ) → j < k → natAt a j < base + j
+  pub b-below : (j : ℕ) → j < k → natAt b j < base + j

@@ -3,13 +3,13 @@
 use Prim.Native.Nat.{ℕ, _+_, _-_, _^_, _≤_, _<_}
 use lib.IntN.{ℤ, pos, _+ℤ_, _-ℤ_, _*ℤ_}
 use lib.Signed.{_≤ℤ_, _<ℤ_}
-use Rattle.integers.specs.Parts.{up, ∣_∣}
+use Rattle.integers.specs.Parts.{positivePart, ∣_∣}
 use Rattle.integers.specs.Division.{ceilDiv}
 use Rattle.plan.specs.Numbers.{M, largestHorizon}
 
 -- `from`, and the ticks that a move of `speed` a tick takes over `distance`
 unfoldable pub tickAt : ℕ → ℤ → ℤ → ℕ
-tickAt from distance speed = from + ceilDiv (up distance) (up speed)
+tickAt from distance speed = from + ceilDiv (positivePart distance) (positivePart speed)
 
 -- a tick up to the largest horizon, a distance below 2^31, a speed below 2^44
 pub record TicksReady (from : ℕ) (distance speed : ℤ) : Type 0 where

@@ -39,8 +39,8 @@ module _ (kinds a b : List ℕ) (lows highs : List ℤ) (base : ℕ) where
 pub record NodesReady (a b : List ℕ) (lows highs values : List ℤ) (base k : ℕ) : Type 0 where
   pub few : k ≤ mostNodes
   pub room : base + k ≤ sourceWidth
-  pub left : (j : ℕ) → j < k → natAt a j < sourceWidth
-  pub right : (j : ℕ) → j < k → natAt b j < sourceWidth
+  pub a-below : (j : ℕ) → j < k → natAt a j < sourceWidth
+  pub b-below : (j : ℕ) → j < k → natAt b j < sourceWidth
   pub low : (j : ℕ) → j < k → ∣ intAt lows j ∣ ≤ M
   pub high : (j : ℕ) → j < k → ∣ intAt highs j ∣ ≤ M
   pub sized : (i : ℕ) → ∣ intAt values i ∣ ≤ M

@@ -8,7 +8,7 @@ use Prim.Native.Nat.{ℕ, _+_, _-_, _*_, _≤_, _<_}
 use lib.IntN.{ℤ, pos, negℤ, _+ℤ_, _-ℤ_, _*ℤ_}
 use lib.Signed.{_≤ℤ_, _<ℤ_}
 use lib.ListN.{length}
-use Rattle.integers.specs.Parts.{up, ∣_∣}
+use Rattle.integers.specs.Parts.{positivePart, ∣_∣}
 use Rattle.integers.specs.Division.{floor65536, Ceil}
 use Rattle.integers.specs.Range.{limited}
 use Rattle.bitset.specs.Counts.{countOf}
@@ -71,7 +71,7 @@ DueLeast = (p : Plan) (q : List ℤ) (i l : ℕ) (x s : ℤ) → DuePromise p q 
 
 -- strictly between the levels, T is the distance rounded up, and moving for t ticks, fewer than T, takes t off it and stays between
 pub record BetweenPromise (x upper lower s : ℤ) : Type 0 where
-  pub rounded : Ceil (up (distance x upper lower s)) ∣ s ∣ (ticksTo x upper lower s)
+  pub rounded : Ceil (positivePart (distance x upper lower s)) ∣ s ∣ (ticksTo x upper lower s)
   pub countdown : (t : ℕ) → t < ticksTo x upper lower s → ticksTo x upper lower s ≡ ticksTo (x +ℤ s *ℤ pos t) upper lower s + t
   pub above : (t : ℕ) → t < ticksTo x upper lower s → lower <ℤ (x +ℤ s *ℤ pos t)
   pub below : (t : ℕ) → t < ticksTo x upper lower s → (x +ℤ s *ℤ pos t) <ℤ upper

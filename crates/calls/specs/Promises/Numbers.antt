@@ -12,6 +12,8 @@ use Rattle.bitset.specs.Counts.{countOf}
 use Rattle.words.specs.Word.{word, signedWord}
 use Rattle.plan.specs.Numbers.{M, never, largestHorizon, largestCoefficient, largestBudget, listingBudget, largestCounts, entrySizes, headerBytes}
 use Rattle.plan.specs.Numbers.{sections, leastCounts, longestFile, listingInput, eventBytes}
+use Rattle.plan.specs.Numbers.{sectionIntegrators, sectionInputs, sectionNodes, sectionLinks, sectionCommands}
+use Rattle.plan.specs.Numbers.{kindDifference, kindProduct, kindLimit, kindComparison}
 use Rattle.plan.specs.Lists.{natAt}
 
 pub record NumbersMean : Type 0 where
@@ -35,9 +37,12 @@ pub record NumbersMean : Type 0 where
   pub header : headerBytes ≡ 44
   pub entries : entrySizes ≡ 8 ∷ 4 ∷ 20 ∷ 12 ∷ 12 ∷ []
   pub section-count : sections ≡ 5
+  pub section-order : sectionIntegrators ∷ sectionInputs ∷ sectionNodes ∷ sectionLinks ∷ sectionCommands ∷ [] ≡ 0 ∷ 1 ∷ 2 ∷ 3 ∷ 4 ∷ []
   pub least-counts : leastCounts ≡ 1 ∷ 0 ∷ 0 ∷ 0 ∷ 0 ∷ []
   pub counts : largestCounts ≡ 32 ∷ 8 ∷ 16 ∷ 256 ∷ 64 ∷ []
   pub longest : longestFile ≡ 44 + 8 * 32 + 4 * 8 + 20 * 16 + 12 * 256 + 12 * 64
+  -- "Node kinds", 0 to 3
+  pub kinds : kindDifference ∷ kindProduct ∷ kindLimit ∷ kindComparison ∷ [] ≡ 0 ∷ 1 ∷ 2 ∷ 3 ∷ []
   -- "reads at most 4,493 bytes of standard input"
   pub listing-input : listingInput ≡ 4493
   -- "12 bytes each: tick, source, signed value"

@@ -8,7 +8,7 @@ use native.Mathlib.Nat.{mul-div-le, lt-mul-div-succ, lt-of-mul-lt-mul-left, mul-
 use mir.Syntax.{w64}
 use mir.Val.{SFits}
 use mir.ValLaws.{sfits-le}
-use Rattle.integers.specs.Parts.{up, dn, ∣_∣}
+use Rattle.integers.specs.Parts.{positivePart, negativePart, ∣_∣}
 use Rattle.integers.specs.Laws.Parts.{sum, prod, mult, self, zs}
 use Rattle.integers.specs.Laws.Order.{≤ℤ-antisym}
 use Rattle.integers.specs.Division.{floorDiv, ceilDiv, Ceil}
@@ -17,8 +17,8 @@ use Rattle.integers.specs.Division.{floorDiv, ceilDiv, Ceil}
 
 -- k r ≤ v < k (r + 1), by parts: the fact by which `omega` reads r = floorDiv v k
 pub record Floor (v : ℤ) (k : ℕ) (r : ℤ) : Type 0 where
-  pub below : k * up r + dn v ≤ up v + k * dn r
-  pub above : up v + k * dn r < k * up r + k + dn v
+  pub below : k * positivePart r + negativePart v ≤ positivePart v + k * negativePart r
+  pub above : positivePart v + k * negativePart r < k * positivePart r + k + negativePart v
 
 pub floor : (v : ℤ) (k : ℕ) → 0 < k → Floor v k (floorDiv v k)
 floor (pos a) k h = omega (arith, mul-div-le a k, lt-mul-div-succ a h)
@@ -33,7 +33,7 @@ floor-law v k h =
 -- a dividend that is not smaller has a quotient that is not smaller
 floor-le : (v w r s : ℤ) (k : ℕ) → Floor v k r → Floor w k s → v ≤ℤ w → r ≤ℤ s
 floor-le v w r s k f g h =
-    let e : k * (up r + dn s) < k * (up s + dn r + 1) = omega (arith, zs) in
+    let e : k * (positivePart r + negativePart s) < k * (positivePart s + negativePart r + 1) = omega (arith, zs) in
     omega (arith, zs, lt-of-mul-lt-mul-left k e)
 
 -- the law determines the quotient

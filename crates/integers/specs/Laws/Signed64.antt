@@ -9,7 +9,7 @@ use native.Mathlib.Omega.{arith}
 use mir.Syntax.{w64}
 use mir.Val.{SFits, Fits, toZ, ofZ, sel}
 use mir.Facts.{toZ-ofZ, fits-natAbs}
-use Rattle.integers.specs.Parts.{up, dn, ∣_∣}
+use Rattle.integers.specs.Parts.{positivePart, negativePart, ∣_∣}
 use Rattle.integers.specs.Laws.Parts.{nonNeg-g, zs}
 use Rattle.integers.specs.Laws.Order.{size-add, size-sub, size-mul}
 
@@ -18,8 +18,8 @@ abbrev pub rd : ℤ → ℤ
 rd z = toZ w64 (ofZ w64 z)
 
 -- for `omega`, beside a term of which only `rd z` is seen
-pub read : {z : ℤ} → SFits w64 z → (up (rd z) ≡ up z) × (dn (rd z) ≡ dn z)
-read f = (ap up (toZ-ofZ f), ap dn (toZ-ofZ f))
+pub read : {z : ℤ} → SFits w64 z → (positivePart (rd z) ≡ positivePart z) × (negativePart (rd z) ≡ negativePart z)
+read f = (ap positivePart (toZ-ofZ f), ap negativePart (toZ-ofZ f))
 
 -- both operands at once, for `simp`: by `toZ-ofZ` alone it stays at x + s * t, where one operand is a local and the other is compound
 rd-both : (op : ℤ → ℤ → ℤ) {x y : ℤ} → SFits w64 x → SFits w64 y → op (rd x) (rd y) ≡ op x y
@@ -45,7 +45,7 @@ any n = go (ltb n (2 ^ 63)) (ltb→lt n (2 ^ 63)) (nltb→le n (2 ^ 63))
     go false f g = record { sfits = omega (arith, g tt) }
 
 -- what a cast to a u64 asks of an integer that is not negative
-pub as-u64 : (z : ℤ) → dn z ≡ 0 → SFits w64 z → T (nonNeg z) × Fits w64 (natAbs z)
+pub as-u64 : (z : ℤ) → negativePart z ≡ 0 → SFits w64 z → T (nonNeg z) × Fits w64 (natAbs z)
 as-u64 z h f = (nonNeg-g z h, fits-natAbs tt f)
 
 -- `==` on signed integers compares their bits

@@ -9,7 +9,7 @@ use lib.IntN.{ℤ, pos, negsuc, _+ℤ_, _-ℤ_, _*ℤ_}
 use lib.Signed.{ltZ, _≤ℤ_, _<ℤ_}
 use lib.Dec.{eqb}
 use borrow.Author.Tests.{eqb-true, eqb-false, ne-eqb}
-use Rattle.integers.specs.Parts.{up, ∣_∣}
+use Rattle.integers.specs.Parts.{positivePart, ∣_∣}
 use Rattle.integers.specs.Laws.Parts.{sum, dif, prod, tight, zs}
 use Rattle.integers.specs.Division.{ceilDiv, Ceil}
 use Rattle.integers.specs.Laws.Division.{ceil, ceil-least, ceil-one}
@@ -76,11 +76,11 @@ level-at x upper lower (negsuc n) t h a =
     let y = x +ℤ negsuc n *ℤ pos t in let f = a .falling (omega (arith, zs)) in omega (arith, zs, dif y lower)
 
 -- which is where t times the slope's size covers the first distance
-covered : (x upper lower s : ℤ) (t : ℕ) → up (distance x upper lower s) ≤ ∣ s ∣ * t → distance (x +ℤ s *ℤ pos t) upper lower s ≤ℤ pos 0
+covered : (x upper lower s : ℤ) (t : ℕ) → positivePart (distance x upper lower s) ≤ ∣ s ∣ * t → distance (x +ℤ s *ℤ pos t) upper lower s ≤ℤ pos 0
 covered x upper lower s t h =
     let d = distance x upper lower s in rw (distance-moved x upper lower s t) (omega (arith, zs, dif d (pos (∣ s ∣ * t))))
 
-covers : (x upper lower s : ℤ) (t : ℕ) → distance (x +ℤ s *ℤ pos t) upper lower s ≤ℤ pos 0 → up (distance x upper lower s) ≤ ∣ s ∣ * t
+covers : (x upper lower s : ℤ) (t : ℕ) → distance (x +ℤ s *ℤ pos t) upper lower s ≤ℤ pos 0 → positivePart (distance x upper lower s) ≤ ∣ s ∣ * t
 covers x upper lower s t h =
     let d = distance x upper lower s in let e = rw (distance-moved x upper lower s t) at h in
     omega (arith, zs, tight d, dif d (pos (∣ s ∣ * t)))
@@ -91,7 +91,7 @@ unfolding ticksTo
 ticks-least x upper lower s h = go (ceilDiv d ∣ s ∣) (ceil d ∣ s ∣ (moving s h))
   where
     d : ℕ
-    d = up (distance x upper lower s)
+    d = positivePart (distance x upper lower s)
 
     go : (r : ℕ) → Ceil d ∣ s ∣ r → LeastTicks x upper lower s (max 1 r)
     go r c =
@@ -122,7 +122,7 @@ distance-positive x upper lower s above below = go (ltZ (pos 0) s)
     go false = omega (arith, zs, dif x lower)
 
 -- a move that does not cover the distance stays between them
-between : (x upper lower s : ℤ) (t : ℕ) → lower <ℤ x → x <ℤ upper → ∣ s ∣ * t < up (distance x upper lower s)
+between : (x upper lower s : ℤ) (t : ℕ) → lower <ℤ x → x <ℤ upper → ∣ s ∣ * t < positivePart (distance x upper lower s)
     → (lower <ℤ (x +ℤ s *ℤ pos t)) × ((x +ℤ s *ℤ pos t) <ℤ upper)
 unfolding distance
 between x upper lower (pos zero) t above below h = omega (arith, zs, prod (pos 0) (pos t), sum x (pos 0 *ℤ pos t))
@@ -132,17 +132,17 @@ between x upper lower (negsuc n) t above below h =
     let s = negsuc n in omega (arith, zs, prod s (pos t), sum x (s *ℤ pos t), dif x lower, tight (x -ℤ lower))
 
 module _ (x upper lower s : ℤ) (above : lower <ℤ x) (below : x <ℤ upper) (moves : s ≡ pos 0 → ⊥) where
-  pub ticks-rounded : Ceil (up (distance x upper lower s)) ∣ s ∣ (ticksTo x upper lower s)
+  pub ticks-rounded : Ceil (positivePart (distance x upper lower s)) ∣ s ∣ (ticksTo x upper lower s)
   unfolding ticksTo
   ticks-rounded =
-      let d = up (distance x upper lower s) in let b = moving s moves in
+      let d = positivePart (distance x upper lower s) in let b = moving s moves in
       rw (one-or-more (ceil-one d ∣ s ∣ b (omega (arith, zs, distance-positive x upper lower s above below)))) (ceil d ∣ s ∣ b)
     where
       one-or-more : {r : ℕ} → 1 ≤ r → max 1 r ≡ r
       one-or-more h = omega arith
 
   module _ (t : ℕ) (early : t < ticksTo x upper lower s) where
-    not-covered : ∣ s ∣ * t < up (distance x upper lower s)
+    not-covered : ∣ s ∣ * t < positivePart (distance x upper lower s)
     not-covered = let c = ticks-rounded in omega (arith, mul-le-mul-left ∣ s ∣ early)
 
     pub stays-above : lower <ℤ (x +ℤ s *ℤ pos t)
@@ -167,9 +167,9 @@ countdown x upper lower s a b m t early =
 -- ---- over due ticks, for every slope
 module _ (l t : ℕ) (x upper lower s : ℤ) (above : lower <ℤ x) (below : x <ℤ upper) (since : l ≤ t) (early : t < dueTick l x upper lower s) where
   -- the move from l to t does not cover the distance
-  not-yet : ∣ s ∣ * (t - l) < up (distance x upper lower s)
+  not-yet : ∣ s ∣ * (t - l) < positivePart (distance x upper lower s)
   not-yet =
-      slope-cases s (∣ s ∣ * (t - l) < up (distance x upper lower s))
+      slope-cases s (∣ s ∣ * (t - l) < positivePart (distance x upper lower s))
       (λ e. rw e (omega (arith, zs, zero-mul (t - l), distance-positive x upper lower (pos 0) above below)))
       (λ m. not-covered x upper lower s above below m (t - l) (ticks-left l t x upper lower s since early m))
 

@@ -8,7 +8,7 @@ use native.Mathlib.Omega.{arith}
 use native.Mathlib.Nat.{div-zero}
 use lib.IntN.{ℤ, pos, _+ℤ_, _-ℤ_}
 use lib.Signed.{ltZ, _≤ℤ_, _<ℤ_}
-use Rattle.integers.specs.Parts.{up, ∣_∣}
+use Rattle.integers.specs.Parts.{positivePart, ∣_∣}
 use Rattle.integers.specs.Laws.Parts.{sum, dif, tight, zs}
 use Rattle.integers.specs.Division.{ceilDiv}
 use Rattle.integers.specs.Laws.Division.{ceil-most}
@@ -29,10 +29,10 @@ ceil-by-zero : (a : ℕ) → ceilDiv a 0 ≡ 0
 unfolding ceilDiv
 ceil-by-zero a = div-zero _
 
-ticks-by-distance : (x upper lower s : ℤ) → pos 1 ≤ℤ distance x upper lower s → ticksTo x upper lower s ≤ up (distance x upper lower s)
+ticks-by-distance : (x upper lower s : ℤ) → pos 1 ≤ℤ distance x upper lower s → ticksTo x upper lower s ≤ positivePart (distance x upper lower s)
 unfolding ticksTo
 ticks-by-distance x upper lower s h =
-    let d = up (distance x upper lower s) in
+    let d = positivePart (distance x upper lower s) in
     slope-cases s (max 1 (ceilDiv d ∣ s ∣) ≤ d)
     (λ e. rw (ap (λ z. ∣ z ∣) e) (omega (arith, zs, ceil-by-zero d)))
     (λ m. omega (arith, zs, ceil-most d ∣ s ∣ (moving s m)))

@@ -7,7 +7,7 @@ use native.Mathlib.Omega.{arith}
 use native.Mathlib.Nat.{mul-le-mul-left, zero-mul}
 use lib.IntN.{ℤ, pos, _*ℤ_}
 use lib.Signed.{_<ℤ_}
-use Rattle.integers.specs.Parts.{up, ∣_∣}
+use Rattle.integers.specs.Parts.{positivePart, ∣_∣}
 use Rattle.integers.specs.Laws.Parts.{sum, prod, tight, zs}
 use Rattle.plan.specs.Numbers.{M, never}
 use Rattle.plan.specs.Lists.{natAt, intAt}
@@ -26,9 +26,9 @@ use Rattle.machine.specs.declared.Running.{Running}
 
 -- up to the due tick, the move is less than one tick's move longer than the distance
 move-most : (l t : ℕ) (x upper lower s : ℤ) → lower <ℤ x → x <ℤ upper → l ≤ t → t ≤ dueTick l x upper lower s
-    → ∣ s ∣ * (t - l) < up (distance x upper lower s) + ∣ s ∣
+    → ∣ s ∣ * (t - l) < positivePart (distance x upper lower s) + ∣ s ∣
 move-most l t x upper lower s above below since early =
-    slope-cases s (∣ s ∣ * (t - l) < up (distance x upper lower s) + ∣ s ∣)
+    slope-cases s (∣ s ∣ * (t - l) < positivePart (distance x upper lower s) + ∣ s ∣)
     (λ e. rw e (omega (arith, zs, zero-mul (t - l), distance-positive x upper lower (pos 0) above below)))
     (λ m.
     let e = rw (due-moving l x upper lower s m) at early in let c = ticks-rounded x upper lower s above below m in

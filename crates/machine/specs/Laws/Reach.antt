@@ -13,7 +13,7 @@ use Rattle.plan.specs.Laws.Searches.{some-found, some-here}
 use Rattle.plan.specs.declared.Plan.{Plan}
 use Rattle.machine.specs.Laws.NodeOrder.{settled-at}
 use Rattle.machine.specs.Reach.{isDue, setsInput, isCommanded, changes, dependsWith, linkReaches, reached}
-use Rattle.machine.specs.Reach.{Changed, due, commanded, Depends, itself, left, right, Reached, link}
+use Rattle.machine.specs.Reach.{Changed, due, commanded, Depends, itself, by-a, by-b, Reached, link}
 
 -- ---- commands
 module _ (p : Plan) (t j : ℕ) where
@@ -73,9 +73,9 @@ module _ (p : Plan) (d : List ℕ) (t : ℕ) where
       go : ((s : ℕ) → dependsWith p d t k s ≡ true → Depends p d t s) → (this : Bool) → eqb i (p .counts .n + p .counts .m + k) ≡ this
           → (onA : Bool) → dependsWith p d t k a ≡ onA → (two : Bool) → eqb (natAt (p .nodes .kinds) k) 2 ≡ two
           → cond this (onA || (not two && dependsWith p d t k b)) (dependsWith p d t k i) ≡ true → Depends p d t i
-      go ih true f true g two u e = left k (eqb-true i (p .counts .n + p .counts .m + k) f) h (ih a g)
+      go ih true f true g two u e = by-a k (eqb-true i (p .counts .n + p .counts .m + k) f) h (ih a g)
       go ih true f false g true u e = absurd (true≢false (sym e))
-      go ih true f false g false u e = right k (eqb-true i (p .counts .n + p .counts .m + k) f) h (eqb-false (natAt (p .nodes .kinds) k) 2 u) (ih b e)
+      go ih true f false g false u e = by-b k (eqb-true i (p .counts .n + p .counts .m + k) f) h (eqb-false (natAt (p .nodes .kinds) k) 2 u) (ih b e)
       go ih false f onA g two u e = ih i e
 
   -- an operand's answer is known where its node is looked at
@@ -87,11 +87,11 @@ module _ (p : Plan) (d : List ℕ) (t : ℕ) where
     depends-here : {i : ℕ} → Depends p d t i → dependsWith p d t (p .counts .k) i ≡ true
     unfolding dependsWith
     depends-here {i} (itself c) = let h = changes-here c in depends-same 0 (p .counts .k) i (omega arith) (omega (arith, h .0)) ∙ h .1
-    depends-here {i} (left j e h l) =
-        let on = operand j (natAt (p .nodes .a) j) h (rules .nodes j h .left) (depends-here l) in
+    depends-here {i} (by-a j e h l) =
+        let on = operand j (natAt (p .nodes .a) j) h (rules .nodes j h .a-below) (depends-here l) in
         depends-same (suc j) (p .counts .k) i h (omega arith) ∙ rw (eq-eqb i (p .counts .n + p .counts .m + j) e, on)
-    depends-here {i} (right j e h kind r) =
-        let on = operand j (natAt (p .nodes .b) j) h (rules .nodes j h .right kind) (depends-here r) in
+    depends-here {i} (by-b j e h kind r) =
+        let on = operand j (natAt (p .nodes .b) j) h (rules .nodes j h .b-below kind) (depends-here r) in
         depends-same (suc j) (p .counts .k) i h (omega arith)
         ∙ rw (eq-eqb i (p .counts .n + p .counts .m + j) e, ne-eqb (natAt (p .nodes .kinds) j) 2 kind, on, or-true (dependsWith p d t j (natAt (p .nodes .a) j)))
 

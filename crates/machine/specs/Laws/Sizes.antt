@@ -48,7 +48,7 @@ operands-most p rules j h = go (count-limits p (rules .counts)) (rules .nodes j 
   where
     go : CountLimits p → NodeRule p j → (b : Bool) → eqb (natAt (p .nodes .kinds) j) 2 ≡ b → (natAt (p .nodes .a) j ≤ 54) × (natAt (p .nodes .b) j ≤ 54)
     go c r true e = omega (arith, r .unused (eqb-true (natAt (p .nodes .kinds) j) 2 e))
-    go c r false e = omega (arith, r .right (eqb-false (natAt (p .nodes .kinds) j) 2 e))
+    go c r false e = omega (arith, r .b-below (eqb-false (natAt (p .nodes .kinds) j) 2 e))
 
 limits-size : (p : Plan) (j : ℕ) → NodeRule p j → (∣ intAt (p .nodes .lows) j ∣ ≤ M) × (∣ intAt (p .nodes .highs) j ∣ ≤ M)
 limits-size p j r =

@@ -70,10 +70,10 @@ module _ (p : Plan) (q u : List ℤ) where
     worked-out = node-at (p .counts .n + p .counts .m) (valueWith p q u) _ (λ j i. refl) j (p .counts .k) h
 
     left : valueWith p q u j (natAt (p .nodes .a) j) ≡ a
-    left = sym (value-settled j (natAt (p .nodes .a) j) (omega arith) (rules .nodes j h .left))
+    left = sym (value-settled j (natAt (p .nodes .a) j) (omega arith) (rules .nodes j h .a-below))
 
     right : (natAt (p .nodes .kinds) j ≡ 2 → ⊥) → valueWith p q u j (natAt (p .nodes .b) j) ≡ b
-    right n = sym (value-settled j (natAt (p .nodes .b) j) (omega arith) (rules .nodes j h .right n))
+    right n = sym (value-settled j (natAt (p .nodes .b) j) (omega arith) (rules .nodes j h .b-below n))
 
     pub difference-node : natAt (p .nodes .kinds) j ≡ 0 → valueOf p q u own ≡ limited (negℤ (pos M)) (pos M) (a -ℤ b)
     unfolding nodeValue

@@ -76,42 +76,42 @@ module _ (p : Plan) where
           let all = both (ltb-means a own) (both (both (ltb-means b own) (zero-means lo)) (zero-means hi)) in (
             λ t. let h = all .0 t in record {
               kind = omega arith;
-              left = h .0;
-              right = λ q. h .1 .0 .0;
+              a-below = h .0;
+              b-below = λ q. h .1 .0 .0;
               unused = λ q. absurd (omega arith);
-              plain = λ q. (h .1 .0 .1, h .1 .1);
+              no-limits = λ q. (h .1 .0 .1, h .1 .1);
               limits = λ q. absurd (omega arith);
               order = λ q. absurd (omega arith);
             },
-            λ r. let z = r .plain low in all .1 (r .left, ((r .right (λ q. omega arith), z .0), z .1)),
+            λ r. let z = r .no-limits low in all .1 (r .a-below, ((r .b-below (λ q. omega arith), z .0), z .1)),
           )
       go false true e d =
           let is = eqb-true kind 2 d in
           let all = both (ltb-means a own) (both limits (both (eqb-means b 0) (leZ-true lo hi))) in (
             λ t. let h = all .0 t in record {
               kind = omega arith;
-              left = h .0;
-              right = λ q. absurd (q is);
+              a-below = h .0;
+              b-below = λ q. absurd (q is);
               unused = λ q. h .1 .1 .0;
-              plain = λ q. absurd (omega arith);
+              no-limits = λ q. absurd (omega arith);
               limits = λ q. h .1 .0;
               order = λ q. h .1 .1 .1;
             },
-            λ r. all .1 (r .left, (r .limits (omega arith), (r .unused is, r .order is))),
+            λ r. all .1 (r .a-below, (r .limits (omega arith), (r .unused is, r .order is))),
           )
       go false false e d =
           let high = leb-false kind 1 e in let not = eqb-false kind 2 d in
           let all = both (ltb-means a own) (both limits (both (eqb-means kind 3) (ltb-means b own))) in (
             λ t. let h = all .0 t in record {
               kind = omega (arith, h .1 .1 .0);
-              left = h .0;
-              right = λ q. h .1 .1 .1;
+              a-below = h .0;
+              b-below = λ q. h .1 .1 .1;
               unused = λ q. absurd (not q);
-              plain = λ q. absurd (omega arith);
+              no-limits = λ q. absurd (omega arith);
               limits = λ q. h .1 .0;
               order = λ q. absurd (not q);
             },
-            λ r. all .1 (r .left, (r .limits high, (omega (arith, r .kind), r .right not))),
+            λ r. all .1 (r .a-below, (r .limits high, (omega (arith, r .kind), r .b-below not))),
           )
 
   pub link-kept : (e : ℕ) → Means (linkLimitsKept p e && linkOrdered p e) (LinkRule p e)

@@ -67,13 +67,13 @@ module _ (p : Plan) (j : ℕ) (r : NodeRule p j) where
     where
       go : (b : Bool) → eqb (natAt (p .nodes .kinds) j) 2 ≡ b → natAt (p .nodes .b) j ≤ p .counts .n + p .counts .m + j
       go true e = omega (arith, r .unused (eqb-true (natAt (p .nodes .kinds) j) 2 e))
-      go false e = omega (arith, r .right (eqb-false (natAt (p .nodes .kinds) j) 2 e))
+      go false e = omega (arith, r .b-below (eqb-false (natAt (p .nodes .kinds) j) 2 e))
 
   pub node-limits : Within M (intAt (p .nodes .lows) j) × Within M (intAt (p .nodes .highs) j)
   node-limits = go (leb (natAt (p .nodes .kinds) j) 1) refl
     where
       go : (b : Bool) → leb (natAt (p .nodes .kinds) j) 1 ≡ b → Within M (intAt (p .nodes .lows) j) × Within M (intAt (p .nodes .highs) j)
-      go true e = omega (arith, zs, neg (pos M), r .plain (leb-true (natAt (p .nodes .kinds) j) 1 e))
+      go true e = omega (arith, zs, neg (pos M), r .no-limits (leb-true (natAt (p .nodes .kinds) j) 1 e))
       go false e = r .limits (leb-false (natAt (p .nodes .kinds) j) 1 e)
 
 -- ---- the words of each part

@@ -40,7 +40,7 @@ module _ (t : ℕ) where
   follow-down-requires c κs =
       let w = c .before .before .before .before .pre .1 .1 in (
         omega arith,
-        (omega arith, record { room = omega (arith, w .room); left = λ j l. w .left j (omega arith); right = λ j l. w .right j (omega arith) }),
+        (omega arith, record { room = omega (arith, w .room); a-below = λ j l. w .a-below j (omega arith); b-below = λ j l. w .b-below j (omega arith) }),
       )
 
   returns : lts.Need-returns (claims t) (follow-down-at t) follow-down.Post

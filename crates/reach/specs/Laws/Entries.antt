@@ -104,8 +104,8 @@ module _ (kinds a b : List ℕ) (base : ℕ) where
   unfolding addedToOperands
   operands-entries k wired table sources bit j len h out =
       let l = natAt a j in let r = natAt b j in let entry = natAt table (base + j) in let left = addedTo table l entry in
-      let one = added-entries table sources bit l entry len (omega (arith, wired .room, wired .left j h)) in
-      let two = added-entries left sources bit r entry (length-set table l _ ∙ len) (omega (arith, wired .room, wired .right j h)) in
+      let one = added-entries table sources bit l entry len (omega (arith, wired .room, wired .a-below j h)) in
+      let two = added-entries left sources bit r entry (length-set table l _ ∙ len) (omega (arith, wired .room, wired .b-below j h)) in
       go (eqb (natAt kinds j) 2) left (addedTo left r entry) (inEntries table sources bit) (sources l) (sources r) (has entry bit) one
       (two ∙ ap (λ x. x || (sources r && has entry bit)) one)
       ∙ sym (with-source table sources bit (base + j) _ (omega (arith, wired .room)) out)

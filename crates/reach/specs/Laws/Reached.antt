@@ -41,13 +41,13 @@ module _ (p : Plan) (rules : PlanRules p) where
   table-wired =
       record {
         room = omega (arith, count-limits p (rules .counts));
-        left = λ j h. rules .nodes j h .left;
-        right = λ j h. below j h (eqb (natAt (p .nodes .kinds) j) 2) refl;
+        a-below = λ j h. rules .nodes j h .a-below;
+        b-below = λ j h. below j h (eqb (natAt (p .nodes .kinds) j) 2) refl;
       }
     where
       below : (j : ℕ) → j < p .counts .k → (two : Bool) → eqb (natAt (p .nodes .kinds) j) 2 ≡ two → natAt (p .nodes .b) j < p .counts .n + p .counts .m + j
       below j h true e = omega (arith, count-limits p (rules .counts) .n-least, rules .nodes j h .unused (eqb-true (natAt (p .nodes .kinds) j) 2 e))
-      below j h false e = rules .nodes j h .right (eqb-false (natAt (p .nodes .kinds) j) 2 e)
+      below j h false e = rules .nodes j h .b-below (eqb-false (natAt (p .nodes .kinds) j) 2 e)
 
   pub table-linked : LinksReady (p .links .targets) (p .links .sources) (p .counts .links)
   table-linked =

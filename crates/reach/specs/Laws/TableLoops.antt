@@ -17,7 +17,7 @@ link-inside l e h = (omega (arith, l .target e h), l .source e h)
 
 pub operands-inside : {a b : List ℕ} {base k : ℕ} → OperandsReady a b base k → (j : ℕ) → j < k
     → (natAt a j < 64) × (natAt b j < 64)
-operands-inside w j h = (omega (arith, w .room, w .left j h), omega (arith, w .room, w .right j h))
+operands-inside w j h = (omega (arith, w .room, w .a-below j h), omega (arith, w .room, w .b-below j h))
 
 -- ---- turns: one more bit set
 pub marked-more : (place bit : ℕ → ℕ) (table so-far : List ℕ) (e v : ℕ) → so-far ≡ marked place bit table e

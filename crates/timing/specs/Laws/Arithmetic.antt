@@ -8,7 +8,7 @@ use lib.Signed.{ltZ, nonNeg}
 use lib.Dec.{T}
 use mir.Syntax.{w64}
 use mir.Val.{SFits, Fits}
-use Rattle.integers.specs.Parts.{up, ∣_∣}
+use Rattle.integers.specs.Parts.{positivePart, ∣_∣}
 use Rattle.integers.specs.Laws.Parts.{sum, dif, abs, tight, zs}
 use Rattle.integers.specs.Division.{ceilDiv}
 use Rattle.integers.specs.Laws.Division.{ceil-one, ceil-most}
@@ -38,10 +38,10 @@ module _ (from : ℕ) (distance speed : ℤ) (ready : TicksReady from distance s
   pub speed-positive : 0 < natAbs speed
   speed-positive = omega (arith, zs, abs speed)
 
-  distance-same : natAbs distance ≡ up distance
+  distance-same : natAbs distance ≡ positivePart distance
   distance-same = omega (arith, zs, abs distance, tight distance)
 
-  speed-same : natAbs speed ≡ up speed
+  speed-same : natAbs speed ≡ positivePart speed
   speed-same = omega (arith, zs, abs speed, tight speed)
 
   pub tick-is : {ticks : ℕ} → ticks ≡ ceilDiv (natAbs distance) (natAbs speed) → from + ticks ≡ tickAt from distance speed
@@ -82,17 +82,17 @@ module _ (from : ℕ) (x q quantum s : ℤ) (ready : DueReady from x q quantum s
   pub due-rise : ltZ (pos 0) s ≡ true → tickAt from ((q +ℤ quantum) -ℤ x) s ≡ dueTick from x (q +ℤ quantum) (q -ℤ quantum) s
   unfolding tickAt distance ticksTo
   due-rise e =
-      let r = rise-ready e in let size : ∣ s ∣ ≡ up s = omega (arith, zs, tight s) in
+      let r = rise-ready e in let size : ∣ s ∣ ≡ positivePart s = omega (arith, zs, tight s) in
       sym (due-moving from x (q +ℤ quantum) (q -ℤ quantum) s (λ z. omega (arith, zs))
-      ∙ rw (e, size, quotient-least (up ((q +ℤ quantum) -ℤ x)) (up s) (omega (arith, zs)) (omega (arith, zs))))
+      ∙ rw (e, size, quotient-least (positivePart ((q +ℤ quantum) -ℤ x)) (positivePart s) (omega (arith, zs)) (omega (arith, zs))))
 
   pub due-fall : ltZ s (pos 0) ≡ true → tickAt from (x -ℤ (q -ℤ quantum)) (pos 0 -ℤ s) ≡ dueTick from x (q +ℤ quantum) (q -ℤ quantum) s
   unfolding tickAt distance ticksTo
   due-fall e =
-      let r = fall-ready e in let size : ∣ s ∣ ≡ up (pos 0 -ℤ s) = omega (arith, zs, dif (pos 0) s, tight s) in
+      let r = fall-ready e in let size : ∣ s ∣ ≡ positivePart (pos 0 -ℤ s) = omega (arith, zs, dif (pos 0) s, tight s) in
       let falls : ltZ (pos 0) s ≡ false = omega (arith, zs) in
       sym (due-moving from x (q +ℤ quantum) (q -ℤ quantum) s (λ z. omega (arith, zs))
-      ∙ rw (falls, size, quotient-least (up (x -ℤ (q -ℤ quantum))) (up (pos 0 -ℤ s)) (omega (arith, zs)) (omega (arith, zs))))
+      ∙ rw (falls, size, quotient-least (positivePart (x -ℤ (q -ℤ quantum))) (positivePart (pos 0 -ℤ s)) (omega (arith, zs)) (omega (arith, zs))))
 
   pub due-never : ltZ (pos 0) s ≡ false → ltZ s (pos 0) ≡ false → never ≡ dueTick from x (q +ℤ quantum) (q -ℤ quantum) s
   due-never e f = sym (due-still from x (q +ℤ quantum) (q -ℤ quantum) s (omega (arith, zs)))

@@ -23,7 +23,7 @@ module _ (s : tie.Start) where
   right = natAt (s .args .b .now) j
 
   operands : (left < 64) × (right < 64)
-  operands = (s .pre .1 .left j (s .pre .0), s .pre .1 .right j (s .pre .0))
+  operands = (s .pre .1 .a-below j (s .pre .0), s .pre .1 .b-below j (s .pre .0))
 
   -- what is read back from the bits
   value : (i : ℕ) → rd (intAt (s .args .values .now) i) ≡ intAt (s .args .values .now) i

@@ -46,8 +46,8 @@ module _ (kinds a b : List ℕ) (lows highs : List ℤ) (base j : ℕ) (values :
       record {
         few = r .few;
         room = r .room;
-        left = r .left;
-        right = r .right;
+        a-below = r .a-below;
+        b-below = r .b-below;
         low = r .low;
         high = r .high;
         sized = set-holds (λ v. ∣ v ∣ ≤ M) values (base + j) _ (pos 0) (node-size _ _ _ _ _ (r .low j h) (r .high j h)) (r .sized);

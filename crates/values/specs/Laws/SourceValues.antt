@@ -42,8 +42,8 @@ operands-below p rules j h = go (count-limits p (rules .counts)) (rules .nodes j
   where
     go : CountLimits p → NodeRule p j → (b : Bool) → eqb (natAt (p .nodes .kinds) j) 2 ≡ b
         → (natAt (p .nodes .a) j < p .counts .n + p .counts .m + j) × (natAt (p .nodes .b) j < p .counts .n + p .counts .m + j)
-    go c r true e = (r .left, omega (arith, r .unused (eqb-true (natAt (p .nodes .kinds) j) 2 e)))
-    go c r false e = (r .left, r .right (eqb-false (natAt (p .nodes .kinds) j) 2 e))
+    go c r true e = (r .a-below, omega (arith, r .unused (eqb-true (natAt (p .nodes .kinds) j) 2 e)))
+    go c r false e = (r .a-below, r .b-below (eqb-false (natAt (p .nodes .kinds) j) 2 e))
 
 -- ---- what the code asks
 pub nodes-ready : (p : Plan) → PlanRules p → (values : List ℤ) → ((i : ℕ) → ∣ intAt values i ∣ ≤ M)
@@ -52,8 +52,8 @@ nodes-ready p rules values sized =
     record {
       few = count-limits p (rules .counts) .k;
       room = room p rules;
-      left = λ j h. omega (arith, operands-below p rules j h .0, room p rules);
-      right = λ j h. omega (arith, operands-below p rules j h .1, room p rules);
+      a-below = λ j h. omega (arith, operands-below p rules j h .0, room p rules);
+      b-below = λ j h. omega (arith, operands-below p rules j h .1, room p rules);
       low = λ j h. within-size M (intAt (p .nodes .lows) j) .0 (node-limits p j (rules .nodes j h) .0);
       high = λ j h. within-size M (intAt (p .nodes .highs) j) .0 (node-limits p j (rules .nodes j h) .1);
       sized = sized;
