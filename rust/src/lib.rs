@@ -6,8 +6,8 @@
 //!   statuses and the plan as plain data;
 //! - [`mod@file`]: the plan file, its refusals 1 to 9, the section view and the encoding;
 //! - [`engine`]: the lazy and the eager engine;
-//! - [`plain`]: the plain machine, naive on purpose, which shares no code with the engines, with an
-//!   observer of what each of them moves;
+//! - [`plain`]: the plain machine, naive on purpose, which shares nothing with the engines but the
+//!   names of the two, with an observer of what each of them moves;
 //! - [`raw`], [`sound`], [`calls`]: the state as a struct of arrays, its soundness, the public calls;
 //! - [`fast`]: the lazy engine once more, written for speed, to time the proved one against;
 //! - [`listing`]: the listing program as a function;

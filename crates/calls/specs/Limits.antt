@@ -9,7 +9,7 @@ use lib.Dec.{eqb}
 use lib.ListN.{length}
 use Rattle.integers.specs.Parts.{∣_∣}
 use Rattle.bitset.specs.Counts.{countOf}
-use Rattle.plan.specs.Numbers.{M, largestHorizon, never, largestBudget, listingBudget, mostIntegrators, mostCommands, longestFile}
+use Rattle.plan.specs.Numbers.{M, never}
 use Rattle.plan.specs.Format.{offsetIn, lengthIn}
 use Rattle.plan.specs.Lists.{natAt, intAt}
 use Rattle.plan.specs.Refusals.{sectionOf, sectionStart}
@@ -91,7 +91,7 @@ module _ (p : Plan) (r : Running) where
     pub above : (t : ℕ) → r .clocks .clock ≤ t → t < natAt (r .d) i → lowerLevel p (r .q) i <ℤ positionAt r t i
     pub below : (t : ℕ) → r .clocks .clock ≤ t → t < natAt (r .d) i → positionAt r t i <ℤ upperLevel p (r .q) i
     pub slope : ∣ intAt (r .s) i ∣ ≤ 56 * 2 ^ 38
-    pub due : (natAt (r .d) i ≡ never) ⊎ (natAt (r .d) i ≤ largestHorizon + (2 ^ 31 - 1))
+    pub due : (natAt (r .d) i ≡ never) ⊎ (natAt (r .d) i ≤ 2000000000 + (2 ^ 31 - 1))
     -- of one that moves: a tick, which never is not
     pub moving : (intAt (r .s) i ≡ pos 0 → ⊥) → natAt (r .d) i < never
     -- up to the due tick
@@ -112,12 +112,12 @@ module _ (p : Plan) (r : Running) where
     pub rates : RateLimits p (r .q) (r .inputs)
     pub integrators : (i : ℕ) → i < p .counts .n → IntegratorLimits i
     pub tick : statusOf p r ≡ Paused → (r .clocks .clock < nextTickOf p r) × (nextTickOf p r ≤ p .horizon)
-    pub next : r .clocks .next ≤ mostCommands
-    pub instants : r .clocks .instants ≤ largestHorizon
-    pub updates : r .clocks .updates ≤ mostIntegrators * largestHorizon
+    pub next : r .clocks .next ≤ 64
+    pub instants : r .clocks .instants ≤ 2000000000
+    pub updates : r .clocks .updates ≤ 32 * 2000000000
     -- the bytes of an instant's events, of a run's, and of the listing program's runs
     pub instant : length (eventsOf p r) ≤ 480
     pub bytes : (engine : Engine) (budget : ℕ) → length (eventsOfRun p engine budget r) ≤ bytesNeeded p budget
-    pub room : (budget : ℕ) → budget ≤ largestBudget → bytesNeeded p budget ≤ 491520
-    pub listing : bytesNeeded p listingBudget ≤ 30720
+    pub room : (budget : ℕ) → budget ≤ 1024 → bytesNeeded p budget ≤ 491520
+    pub listing : bytesNeeded p 64 ≤ 30720
     pub printed : PrintedLimits

@@ -7,7 +7,7 @@ use Prim.Native.Nat.{ℕ, suc, _+_, _%_, _≤_, _<_}
 use lib.IntN.{ℤ, pos, negℤ}
 use lib.Signed.{_≤ℤ_}
 use lib.ListN.{length, getD}
-use Rattle.plan.specs.Numbers.{M, largestCoefficient, largestHorizon, sections, entrySizes, leastCounts, largestCounts, headerBytes, sectionIntegrators, refusedCommand, kindProduct, kindLimit, kindComparison}
+use Rattle.plan.specs.Numbers.{M, largestCoefficient, largestHorizon, sections, entrySizes, leastCounts, largestCounts, headerBytes, sectionIntegrators, kindProduct, kindLimit, kindComparison}
 use Rattle.plan.specs.Lists.{natAt, intAt}
 use Rattle.plan.specs.Format.{offsetIn, lengthIn}
 use Rattle.plan.specs.Format.{countIn, planIn}
@@ -125,7 +125,7 @@ module _ (file : List ℕ) where
 
 -- what number and entry mean, by the rules as propositions
 pub record Answered (file : List ℕ) (number entry : ℕ) : Type 0 where
-  pub known : number ≤ refusedCommand
+  pub known : number ≤ 9
   -- number 0: every entry keeps every rule, and the entry is 0
   pub accepts : number ≡ 0 → ((rule : ℕ) → Holds file rule) × (entry ≡ 0)
   -- any other: the rules of lower numbers hold; the entry is one of its rule's, those below it keep the rule, and it breaks it

@@ -61,7 +61,7 @@ fn run_by(engine: Engine, state: State, budget: u64, buffer: &mut [u8]) -> Ran
     }
 }
 
-// "The lazy engine moves those due or state_after".
+// "The lazy engine moves those due or reached".
 pub fn run_lazy(state: State, budget: u64, buffer: &mut [u8]) -> Ran
     ensures answer { λ r. ⌜ r ≡ runOf Lazy state budget (now (buffer .entry)) ⌝ }
     ensures buffer { λ _. ⌜ now (buffer .exit) ≡ bufferOfRun Lazy state budget (now (buffer .entry)) ⌝ }

@@ -1,6 +1,6 @@
 //! The lazy and the eager engine.
 //!
-//! They keep the state that document 01 names and share no code with the plain machine. What an
+//! They keep the state that document 01 names and share nothing with the plain machine but the names of the two. What an
 //! instant does is written once; the rules that a known error would replace are reached through
 //! the table [`Rules`], so that a [`Mutant`] can exchange one of them and a test see the comparison fail.
 

@@ -1,4 +1,4 @@
-//! ReaderRules a plan file and viewing its sections.
+//! Reading a plan file and viewing its sections.
 
 use super::cause::{Cause, Refusal};
 use super::reader_rules::ReaderRules;
