@@ -1,5 +1,4 @@
--- Each reader is handed a section, its count and arrays of zeros, so each column that it fills is the plan's.
-use mathlib.Core.Path.{refl}
+-- Each reader is handed a section and its count, so each column that it hands back is the plan's.
 use native.Mathlib.Omega.{arith}
 use lib.IntN.{pos}
 use Rattle.words.specs.Word.{word, signedWord}
@@ -14,19 +13,19 @@ abbrev start : tie.After-count-in5 → tie.Start
 start c = c .before .before .before .before .before .before
 
 abbrev counted : tie.After-read-integrators → tie.After-count-in5
-counted c = c .before .before .before .before
+counted c = c .before .before
 
 abbrev behind-0 : tie.After-read-inputs → tie.After-read-integrators
-behind-0 c = c .before .before .before
+behind-0 c = c .before .before
 
 abbrev behind-1 : tie.After-read-nodes → tie.After-read-inputs
-behind-1 c = c .before .before .before .before .before .before .before
+behind-1 c = c .before .before
 
 abbrev behind-2 : tie.After-read-links → tie.After-read-nodes
-behind-2 c = c .before .before .before .before .before
+behind-2 c = c .before .before
 
 abbrev behind-3 : tie.After-read-commands → tie.After-read-links
-behind-3 c = c .before .before .before .before .before
+behind-3 c = c .before .before
 
 count-in-requires : tie.Need-count-in-requires
 count-in-requires c κs = search needs
@@ -44,60 +43,50 @@ count-in-requires-5 : tie.Need-count-in-requires-5
 count-in-requires-5 c κs = search needs
 
 section-in-requires : tie.Need-section-in-requires
-section-in-requires c κs = (start c .pre, omega arith)
+section-in-requires c κs = search needs
 
 read-integrators-requires : tie.Need-read-integrators-requires
 read-integrators-requires c κs =
-    let all = c .before .before .before in
-    let count = all .before .before .before .before .count-in .ensures in
-    let part = c .before .before .section-in .ensures .0 in
-    (section-room _ 0 count part (start all .pre) (omega arith), (refl, refl))
+    let all = c .before in
+    section-room _ 0 (all .before .before .before .before .count-in .ensures) (c .section-in .ensures .0) (start all .pre) (omega arith)
 
 section-in-requires-2 : tie.Need-section-in-requires-2
-section-in-requires-2 c κs = (start (counted c) .pre, omega arith)
+section-in-requires-2 c κs = search needs
 
 read-inputs-requires : tie.Need-read-inputs-requires
 read-inputs-requires c κs =
-    let all = counted (c .before .before) in
-    let count = all .before .before .before .count-in2 .ensures in
-    let part = c .before .section-in2 .ensures .0 in
-    (section-room _ 1 count part (start all .pre) (omega arith), refl)
+    let all = counted (c .before) in
+    section-room _ 1 (all .before .before .before .count-in2 .ensures) (c .section-in2 .ensures .0) (start all .pre) (omega arith)
 
 section-in-requires-3 : tie.Need-section-in-requires-3
-section-in-requires-3 c κs = (start (counted (behind-0 c)) .pre, omega arith)
+section-in-requires-3 c κs = search needs
 
 read-nodes-requires : tie.Need-read-nodes-requires
 read-nodes-requires c κs =
-    let all = counted (behind-0 (c .before .before .before .before .before .before)) in
-    let count = all .before .before .count-in3 .ensures in
-    let part = c .before .before .before .before .before .section-in3 .ensures .0 in
-    (section-room _ 2 count part (start all .pre) (omega arith), (refl, refl, refl, refl, refl))
+    let all = counted (behind-0 (c .before)) in
+    section-room _ 2 (all .before .before .count-in3 .ensures) (c .section-in3 .ensures .0) (start all .pre) (omega arith)
 
 section-in-requires-4 : tie.Need-section-in-requires-4
 section-in-requires-4 c κs = (start (counted (behind-0 (behind-1 c))) .pre, omega arith)
 
 read-links-requires : tie.Need-read-links-requires
 read-links-requires c κs =
-    let all = counted (behind-0 (behind-1 (c .before .before .before .before))) in
-    let count = all .before .count-in4 .ensures in
-    let part = c .before .before .before .section-in4 .ensures .0 in
-    (section-room _ 3 count part (start all .pre) (omega arith), (refl, refl, refl))
+    let all = counted (behind-0 (behind-1 (c .before))) in
+    section-room _ 3 (all .before .count-in4 .ensures) (c .section-in4 .ensures .0) (start all .pre) (omega arith)
 
 section-in-requires-5 : tie.Need-section-in-requires-5
 section-in-requires-5 c κs = (start (counted (behind-0 (behind-1 (behind-2 c)))) .pre, omega arith)
 
 read-commands-requires : tie.Need-read-commands-requires
 read-commands-requires c κs =
-    let all = counted (behind-0 (behind-1 (behind-2 (c .before .before .before .before)))) in
-    let count = all .count-in5 .ensures in
-    let part = c .before .before .before .section-in5 .ensures .0 in
-    (section-room _ 4 count part (start all .pre) (omega arith), (refl, refl, refl))
+    let all = counted (behind-0 (behind-1 (behind-2 (c .before)))) in
+    section-room _ 4 (all .count-in5 .ensures) (c .section-in5 .ensures .0) (start all .pre) (omega arith)
 
 read-u32-requires : tie.Need-read-u32-requires
 read-u32-requires c κs = let d = start (counted (behind-0 (behind-1 (behind-2 (behind-3 c))))) .pre in omega (arith, d .long)
 
-cast-t42 : tie.Need-cast-t42
-cast-t42 c = search needs
+cast-t18 : tie.Need-cast-t18
+cast-t18 c = search needs
 
 returns : tie.Need-returns
 unfolding planIn horizonIn
@@ -113,11 +102,11 @@ returns c =
     let k = all .before .before .count-in3 .ensures in
     let l = all .before .count-in4 .ensures in
     let e = all .count-in5 .ensures in
-    let part-0 = integrators .before .before .before .section-in .ensures .0 in
-    let part-1 = inputs .before .before .section-in2 .ensures .0 in
-    let part-2 = nodes .before .before .before .before .before .before .section-in3 .ensures .0 in
-    let part-3 = links .before .before .before .before .section-in4 .ensures .0 in
-    let part-4 = commands .before .before .before .before .section-in5 .ensures .0 in
+    let part-0 = integrators .before .section-in .ensures .0 in
+    let part-1 = inputs .before .section-in2 .ensures .0 in
+    let part-2 = nodes .before .section-in3 .ensures .0 in
+    let part-3 = links .before .section-in4 .ensures .0 in
+    let part-4 = commands .before .section-in5 .ensures .0 in
     λ i. record {
       horizon = c .read-u32 .ensures .0 i;
       counts = record { n = n i; m = m i; k = k i; links = l i; commands = e i };
@@ -148,5 +137,5 @@ decode-spec =
     section-in-requires-5
     read-commands-requires
     read-u32-requires
-    cast-t42
+    cast-t18
     returns)

@@ -1,4 +1,4 @@
--- Before the turn of entry e each array is its column with e entries used. A tick is below 2 ^ 32, so the cast keeps it.
+-- Before the turn of entry e each column has e entries used.
 use mathlib.Core.Path.{_≡_}
 use Prim.Native.Nat.{_-_, _≤_}
 use native.Mathlib.Omega.{arith}
@@ -9,11 +9,11 @@ use Rattle.planfile.proofs.readers.read_commands.Statement.{statement}
 use Rattle.planfile.proofs.readers.read_commands.Tie as tie
 
 abbrev Inv-loop : tie.InvT-loop
-Inv-loop part commands ticks₀ inputs₀ values₀ e₀ ticks inputs values e =
-    (e ≤ commands) × (ticks ≡ wordsOf 64 12 e part 0) × (inputs ≡ wordsOf 64 12 e part 1) × (values ≡ signedsOf 64 12 e part 2)
+Inv-loop part commands read₀ e₀ read e =
+    (e ≤ commands) × (read .ticks ≡ wordsOf 64 12 e part 0) × (read .inputs ≡ wordsOf 64 12 e part 1) × (read .values ≡ signedsOf 64 12 e part 2)
 
 abbrev μ-loop : tie.MeasureT-loop
-μ-loop part commands ticks₀ inputs₀ values₀ e₀ ticks inputs values e = commands - e
+μ-loop part commands read₀ e₀ read e = commands - e
 
 loop-holds : tie.Need-loop-holds Inv-loop μ-loop
 loop-holds c = search (needs, column-none)
@@ -24,14 +24,8 @@ mul-read-u32 c = search needs
 read-u32-requires : tie.Need-read-u32-requires Inv-loop μ-loop
 read-u32-requires c κs = search needs
 
-cast-ticks : tie.Need-cast-ticks Inv-loop μ-loop
-cast-ticks c = search needs
-
-mul-ticks : tie.Need-mul-ticks Inv-loop μ-loop
-mul-ticks c = search needs
-
-element-write-ticks : tie.Need-element-write-ticks Inv-loop μ-loop
-element-write-ticks c = search needs
+cast-tick : tie.Need-cast-tick Inv-loop μ-loop
+cast-tick c = search needs
 
 mul-read-u32-2 : tie.Need-mul-read-u32-2 Inv-loop μ-loop
 mul-read-u32-2 c = search needs
@@ -42,12 +36,6 @@ add-read-u32 c = search needs
 read-u32-requires-2 : tie.Need-read-u32-requires-2 Inv-loop μ-loop
 read-u32-requires-2 c κs = search needs
 
-mul-inputs : tie.Need-mul-inputs Inv-loop μ-loop
-mul-inputs c = search needs
-
-element-write-inputs : tie.Need-element-write-inputs Inv-loop μ-loop
-element-write-inputs c = search needs
-
 mul-read-i32 : tie.Need-mul-read-i32 Inv-loop μ-loop
 mul-read-i32 c = search needs
 
@@ -57,11 +45,23 @@ add-read-i32 c = search needs
 read-i32-requires : tie.Need-read-i32-requires Inv-loop μ-loop
 read-i32-requires c κs = search needs
 
-mul-t14 : tie.Need-mul-t14 Inv-loop μ-loop
-mul-t14 c = search needs
+mul-read : tie.Need-mul-read Inv-loop μ-loop
+mul-read c = search needs
 
-element-set-from-values : tie.Need-element-set-from-values Inv-loop μ-loop
-element-set-from-values c = search needs
+element-write-read : tie.Need-element-write-read Inv-loop μ-loop
+element-write-read c = search needs
+
+mul-read-2 : tie.Need-mul-read-2 Inv-loop μ-loop
+mul-read-2 c = search needs
+
+element-write-read-2 : tie.Need-element-write-read-2 Inv-loop μ-loop
+element-write-read-2 c = search needs
+
+mul-value : tie.Need-mul-value Inv-loop μ-loop
+mul-value c = search needs
+
+element-set-from-value : tie.Need-element-set-from-value Inv-loop μ-loop
+element-set-from-value c = search needs
 
 add-e : tie.Need-add-e Inv-loop μ-loop
 add-e c = search needs
@@ -90,19 +90,19 @@ read-commands-spec =
     loop-holds
     mul-read-u32
     read-u32-requires
-    cast-ticks
-    mul-ticks
-    element-write-ticks
+    cast-tick
     mul-read-u32-2
     add-read-u32
     read-u32-requires-2
-    mul-inputs
-    element-write-inputs
     mul-read-i32
     add-read-i32
     read-i32-requires
-    mul-t14
-    element-set-from-values
+    mul-read
+    element-write-read
+    mul-read-2
+    element-write-read-2
+    mul-value
+    element-set-from-value
     add-e
     loop-less
     loop-again

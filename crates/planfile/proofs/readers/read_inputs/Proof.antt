@@ -1,4 +1,4 @@
--- Before the turn of entry j the array is its column with j entries used.
+-- Before the turn of entry j the column has j entries used.
 use mathlib.Core.Path.{_≡_}
 use Prim.Native.Nat.{_-_, _≤_}
 use native.Mathlib.Omega.{arith}
@@ -9,11 +9,11 @@ use Rattle.planfile.proofs.readers.read_inputs.Statement.{statement}
 use Rattle.planfile.proofs.readers.read_inputs.Tie as tie
 
 abbrev Inv-loop : tie.InvT-loop
-Inv-loop part m firsts₀ j₀ firsts j =
-    (j ≤ m) × (firsts ≡ signedsOf 8 4 j part 0)
+Inv-loop part m read₀ j₀ read j =
+    (j ≤ m) × (read .firsts ≡ signedsOf 8 4 j part 0)
 
 abbrev μ-loop : tie.MeasureT-loop
-μ-loop part m firsts₀ j₀ firsts j = m - j
+μ-loop part m read₀ j₀ read j = m - j
 
 loop-holds : tie.Need-loop-holds Inv-loop μ-loop
 loop-holds c = search (needs, column-none)
@@ -24,11 +24,11 @@ mul-read-i32 c = search needs
 read-i32-requires : tie.Need-read-i32-requires Inv-loop μ-loop
 read-i32-requires c κs = search needs
 
-mul-t8 : tie.Need-mul-t8 Inv-loop μ-loop
-mul-t8 c = search needs
+mul-first : tie.Need-mul-first Inv-loop μ-loop
+mul-first c = search needs
 
-element-set-from-firsts : tie.Need-element-set-from-firsts Inv-loop μ-loop
-element-set-from-firsts c = search needs
+element-set-from-first : tie.Need-element-set-from-first Inv-loop μ-loop
+element-set-from-first c = search needs
 
 add-j : tie.Need-add-j Inv-loop μ-loop
 add-j c = search needs
@@ -53,8 +53,8 @@ read-inputs-spec =
     loop-holds
     mul-read-i32
     read-i32-requires
-    mul-t8
-    element-set-from-firsts
+    mul-first
+    element-set-from-first
     add-j
     loop-less
     loop-again

@@ -1,4 +1,4 @@
--- Before the turn of entry i each array is its column with i entries used. A quantum is below 2 ^ 32, so the cast keeps it.
+-- Before the turn of entry i each column has i entries used.
 use mathlib.Core.Path.{_≡_}
 use Prim.Native.Nat.{_-_, _≤_}
 use native.Mathlib.Omega.{arith}
@@ -9,11 +9,11 @@ use Rattle.planfile.proofs.readers.read_integrators.Statement.{statemen
 use Rattle.planfile.proofs.readers.read_integrators.Tie as tie
 
 abbrev Inv-loop : tie.InvT-loop
-Inv-loop part n starts₀ quanta₀ i₀ starts quanta i =
-    (i ≤ n) × (starts ≡ signedsOf 32 8 i part 0) × (quanta ≡ unsignedsOf 32 8 i part 1)
+Inv-loop part n read₀ i₀ read i =
+    (i ≤ n) × (read .starts ≡ signedsOf 32 8 i part 0) × (read .quanta ≡ unsignedsOf 32 8 i part 1)
 
 abbrev μ-loop : tie.MeasureT-loop
-μ-loop part n starts₀ quanta₀ i₀ starts quanta i = n - i
+μ-loop part n read₀ i₀ read i = n - i
 
 loop-holds : tie.Need-loop-holds Inv-loop μ-loop
 loop-holds c = search (needs, column-none)
@@ -24,12 +24,6 @@ mul-read-i32 c = search needs
 read-i32-requires : tie.Need-read-i32-requires Inv-loop μ-loop
 read-i32-requires c κs = search needs
 
-mul-quanta : tie.Need-mul-quanta Inv-loop μ-loop
-mul-quanta c = search needs
-
-element-set-from-quanta : tie.Need-element-set-from-quanta Inv-loop μ-loop
-element-set-from-quanta c = search needs
-
 mul-read-u32 : tie.Need-mul-read-u32 Inv-loop μ-loop
 mul-read-u32 c = search needs
 
@@ -39,14 +33,20 @@ add-read-u32 c = search needs
 read-u32-requires : tie.Need-read-u32-requires Inv-loop μ-loop
 read-u32-requires c κs = search needs
 
-cast-quanta : tie.Need-cast-quanta Inv-loop μ-loop
-cast-quanta c = search needs
+cast-quantum : tie.Need-cast-quantum Inv-loop μ-loop
+cast-quantum c = search needs
 
-mul-t13 : tie.Need-mul-t13 Inv-loop μ-loop
-mul-t13 c = search needs
+mul-start : tie.Need-mul-start Inv-loop μ-loop
+mul-start c = search needs
 
-element-set-from-quanta-2 : tie.Need-element-set-from-quanta-2 Inv-loop μ-loop
-element-set-from-quanta-2 c = search needs
+element-set-from-start : tie.Need-element-set-from-start Inv-loop μ-loop
+element-set-from-start c = search needs
+
+mul-quantum : tie.Need-mul-quantum Inv-loop μ-loop
+mul-quantum c = search needs
+
+element-set-from-quantum : tie.Need-element-set-from-quantum Inv-loop μ-loop
+element-set-from-quantum c = search needs
 
 add-i : tie.Need-add-i Inv-loop μ-loop
 add-i c = search needs
@@ -74,14 +74,14 @@ read-integrators-spec =
     loop-holds
     mul-read-i32
     read-i32-requires
-    mul-quanta
-    element-set-from-quanta
     mul-read-u32
     add-read-u32
     read-u32-requires
-    cast-quanta
-    mul-t13
-    element-set-from-quanta-2
+    cast-quantum
+    mul-start
+    element-set-from-start
+    mul-quantum
+    element-set-from-quantum
     add-i
     loop-less
     loop-again

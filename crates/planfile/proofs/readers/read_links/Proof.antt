@@ -1,4 +1,4 @@
--- Before the turn of entry e each array is its column with e entries used.
+-- Before the turn of entry e each column has e entries used.
 use mathlib.Core.Path.{_≡_}
 use Prim.Native.Nat.{_-_, _≤_}
 use native.Mathlib.Omega.{arith}
@@ -9,11 +9,11 @@ use Rattle.planfile.proofs.readers.read_links.Statement.{statement}
 use Rattle.planfile.proofs.readers.read_links.Tie as tie
 
 abbrev Inv-loop : tie.InvT-loop
-Inv-loop part links targets₀ sources₀ coefficients₀ e₀ targets sources coefficients e =
-    (e ≤ links) × (targets ≡ wordsOf 256 12 e part 0) × (sources ≡ wordsOf 256 12 e part 1) × (coefficients ≡ signedsOf 256 12 e part 2)
+Inv-loop part links read₀ e₀ read e =
+    (e ≤ links) × (read .targets ≡ wordsOf 256 12 e part 0) × (read .sources ≡ wordsOf 256 12 e part 1) × (read .coefficients ≡ signedsOf 256 12 e part 2)
 
 abbrev μ-loop : tie.MeasureT-loop
-μ-loop part links targets₀ sources₀ coefficients₀ e₀ targets sources coefficients e = links - e
+μ-loop part links read₀ e₀ read e = links - e
 
 loop-holds : tie.Need-loop-holds Inv-loop μ-loop
 loop-holds c = search (needs, column-none)
@@ -24,12 +24,6 @@ mul-read-u32 c = search needs
 read-u32-requires : tie.Need-read-u32-requires Inv-loop μ-loop
 read-u32-requires c κs = search needs
 
-mul-targets : tie.Need-mul-targets Inv-loop μ-loop
-mul-targets c = search needs
-
-element-write-targets : tie.Need-element-write-targets Inv-loop μ-loop
-element-write-targets c = search needs
-
 mul-read-u32-2 : tie.Need-mul-read-u32-2 Inv-loop μ-loop
 mul-read-u32-2 c = search needs
 
@@ -38,12 +32,6 @@ add-read-u32 c = search needs
 
 read-u32-requires-2 : tie.Need-read-u32-requires-2 Inv-loop μ-loop
 read-u32-requires-2 c κs = search needs
-
-mul-sources : tie.Need-mul-sources Inv-loop μ-loop
-mul-sources c = search needs
-
-element-write-sources : tie.Need-element-write-sources Inv-loop μ-loop
-element-write-sources c = search needs
 
 mul-read-i32 : tie.Need-mul-read-i32 Inv-loop μ-loop
 mul-read-i32 c = search needs
@@ -54,11 +42,23 @@ add-read-i32 c = search needs
 read-i32-requires : tie.Need-read-i32-requires Inv-loop μ-loop
 read-i32-requires c κs = search needs
 
-mul-t9 : tie.Need-mul-t9 Inv-loop μ-loop
-mul-t9 c = search needs
+mul-read : tie.Need-mul-read Inv-loop μ-loop
+mul-read c = search needs
 
-element-set-from-coefficients : tie.Need-element-set-from-coefficients Inv-loop μ-loop
-element-set-from-coefficients c = search needs
+element-write-read : tie.Need-element-write-read Inv-loop μ-loop
+element-write-read c = search needs
+
+mul-read-2 : tie.Need-mul-read-2 Inv-loop μ-loop
+mul-read-2 c = search needs
+
+element-write-read-2 : tie.Need-element-write-read-2 Inv-loop μ-loop
+element-write-read-2 c = search needs
+
+mul-coefficient : tie.Need-mul-coefficient Inv-loop μ-loop
+mul-coefficient c = search needs
+
+element-set-from-coefficient : tie.Need-element-set-from-coefficient Inv-loop μ-loop
+element-set-from-coefficient c = search needs
 
 add-e : tie.Need-add-e Inv-loop μ-loop
 add-e c = search needs
@@ -87,18 +87,18 @@ read-links-spec =
     loop-holds
     mul-read-u32
     read-u32-requires
-    mul-targets
-    element-write-targets
     mul-read-u32-2
     add-read-u32
     read-u32-requires-2
-    mul-sources
-    element-write-sources
     mul-read-i32
     add-read-i32
     read-i32-requires
-    mul-t9
-    element-set-from-coefficients
+    mul-read
+    element-write-read
+    mul-read-2
+    element-write-read-2
+    mul-coefficient
+    element-set-from-coefficient
     add-e
     loop-less
     loop-again

@@ -1,4 +1,4 @@
--- Before the turn of entry j each array is its column with j entries used.
+-- Before the turn of entry j each column has j entries used.
 use mathlib.Core.Path.{_≡_}
 use Prim.Native.Nat.{_-_, _≤_}
 use native.Mathlib.Omega.{arith}
@@ -9,12 +9,12 @@ use Rattle.planfile.proofs.readers.read_nodes.Statement.{statement}
 use Rattle.planfile.proofs.readers.read_nodes.Tie as tie
 
 abbrev Inv-loop : tie.InvT-loop
-Inv-loop part k kinds₀ a₀ b₀ lows₀ highs₀ j₀ kinds a b lows highs j =
-    (j ≤ k) × (kinds ≡ wordsOf 16 20 j part 0) × (a ≡ wordsOf 16 20 j part 1) × (b ≡ wordsOf 16 20 j part 2)
-    × (lows ≡ signedsOf 16 20 j part 3) × (highs ≡ signedsOf 16 20 j part 4)
+Inv-loop part k read₀ j₀ read j =
+    (j ≤ k) × (read .kinds ≡ wordsOf 16 20 j part 0) × (read .a ≡ wordsOf 16 20 j part 1) × (read .b ≡ wordsOf 16 20 j part 2)
+    × (read .lows ≡ signedsOf 16 20 j part 3) × (read .highs ≡ signedsOf 16 20 j part 4)
 
 abbrev μ-loop : tie.MeasureT-loop
-μ-loop part k kinds₀ a₀ b₀ lows₀ highs₀ j₀ kinds a b lows highs j = k - j
+μ-loop part k read₀ j₀ read j = k - j
 
 loop-holds : tie.Need-loop-holds Inv-loop μ-loop
 loop-holds c = search (needs, column-none)
@@ -25,12 +25,6 @@ mul-read-u32 c = search needs
 read-u32-requires : tie.Need-read-u32-requires Inv-loop μ-loop
 read-u32-requires c κs = search needs
 
-mul-kinds : tie.Need-mul-kinds Inv-loop μ-loop
-mul-kinds c = search needs
-
-element-write-kinds : tie.Need-element-write-kinds Inv-loop μ-loop
-element-write-kinds c = search needs
-
 mul-read-u32-2 : tie.Need-mul-read-u32-2 Inv-loop μ-loop
 mul-read-u32-2 c = search needs
 
@@ -39,12 +33,6 @@ add-read-u32 c = search needs
 
 read-u32-requires-2 : tie.Need-read-u32-requires-2 Inv-loop μ-loop
 read-u32-requires-2 c κs = search needs
-
-mul-a : tie.Need-mul-a Inv-loop μ-loop
-mul-a c = search needs
-
-element-write-a : tie.Need-element-write-a Inv-loop μ-loop
-element-write-a c = search needs
 
 mul-read-u32-3 : tie.Need-mul-read-u32-3 Inv-loop μ-loop
 mul-read-u32-3 c = search needs
@@ -55,12 +43,6 @@ add-read-u32-2 c = search needs
 read-u32-requires-3 : tie.Need-read-u32-requires-3 Inv-loop μ-loop
 read-u32-requires-3 c κs = search needs
 
-mul-b : tie.Need-mul-b Inv-loop μ-loop
-mul-b c = search needs
-
-element-write-b : tie.Need-element-write-b Inv-loop μ-loop
-element-write-b c = search needs
-
 mul-read-i32 : tie.Need-mul-read-i32 Inv-loop μ-loop
 mul-read-i32 c = search needs
 
@@ -69,12 +51,6 @@ add-read-i32 c = search needs
 
 read-i32-requires : tie.Need-read-i32-requires Inv-loop μ-loop
 read-i32-requires c κs = search needs
-
-mul-highs : tie.Need-mul-highs Inv-loop μ-loop
-mul-highs c = search needs
-
-element-set-from-highs : tie.Need-element-set-from-highs Inv-loop μ-loop
-element-set-from-highs c = search needs
 
 mul-read-i32-2 : tie.Need-mul-read-i32-2 Inv-loop μ-loop
 mul-read-i32-2 c = search needs
@@ -85,11 +61,35 @@ add-read-i32-2 c = search needs
 read-i32-requires-2 : tie.Need-read-i32-requires-2 Inv-loop μ-loop
 read-i32-requires-2 c κs = search needs
 
-mul-t16 : tie.Need-mul-t16 Inv-loop μ-loop
-mul-t16 c = search needs
+mul-read : tie.Need-mul-read Inv-loop μ-loop
+mul-read c = search needs
 
-element-set-from-highs-2 : tie.Need-element-set-from-highs-2 Inv-loop μ-loop
-element-set-from-highs-2 c = search needs
+element-write-read : tie.Need-element-write-read Inv-loop μ-loop
+element-write-read c = search needs
+
+mul-read-2 : tie.Need-mul-read-2 Inv-loop μ-loop
+mul-read-2 c = search needs
+
+element-write-read-2 : tie.Need-element-write-read-2 Inv-loop μ-loop
+element-write-read-2 c = search needs
+
+mul-read-3 : tie.Need-mul-read-3 Inv-loop μ-loop
+mul-read-3 c = search needs
+
+element-write-read-3 : tie.Need-element-write-read-3 Inv-loop μ-loop
+element-write-read-3 c = search needs
+
+mul-low : tie.Need-mul-low Inv-loop μ-loop
+mul-low c = search needs
+
+element-set-from-low : tie.Need-element-set-from-low Inv-loop μ-loop
+element-set-from-low c = search needs
+
+mul-high : tie.Need-mul-high Inv-loop μ-loop
+mul-high c = search needs
+
+element-set-from-high : tie.Need-element-set-from-high Inv-loop μ-loop
+element-set-from-high c = search needs
 
 add-j : tie.Need-add-j Inv-loop μ-loop
 add-j c = search needs
@@ -124,28 +124,28 @@ read-nodes-spec =
     loop-holds
     mul-read-u32
     read-u32-requires
-    mul-kinds
-    element-write-kinds
     mul-read-u32-2
     add-read-u32
     read-u32-requires-2
-    mul-a
-    element-write-a
     mul-read-u32-3
     add-read-u32-2
     read-u32-requires-3
-    mul-b
-    element-write-b
     mul-read-i32
     add-read-i32
     read-i32-requires
-    mul-highs
-    element-set-from-highs
     mul-read-i32-2
     add-read-i32-2
     read-i32-requires-2
-    mul-t16
-    element-set-from-highs-2
+    mul-read
+    element-write-read
+    mul-read-2
+    element-write-read-2
+    mul-read-3
+    element-write-read-3
+    mul-low
+    element-set-from-low
+    mul-high
+    element-set-from-high
     add-j
     loop-less
     loop-again
