@@ -15,6 +15,9 @@ pub mod machine;
 pub mod measure;
 pub mod state;
 
+pub use cup_check::engine::Engine;
+pub use cup_check::limits;
+
 use cup_check::limits::{
     ACCEPTED, REFUSED_BUDGET, REFUSED_COMMAND, REFUSED_HORIZON, REFUSED_INPUT, REFUSED_INTEGRATOR,
     REFUSED_INTEGRATOR_NUMBER, REFUSED_LINK, REFUSED_NODE, REFUSED_OFFSETS, REFUSED_RUN_BUFFER,
@@ -78,7 +81,7 @@ pub fn rewrite(file: &[u8], buffer: &mut [u8]) -> Rewritten {
     Rewritten { number, length }
 }
 
-/// What a number of document 01 means, in the words of the repository's README.
+/// What a number of document 01 means, in the words of docs/FORMAT.md.
 pub fn meaning(number: usize) -> &'static str {
     match number {
         ACCEPTED => "accepted",

@@ -2,7 +2,7 @@
 
 use cup_bridge::machine::{instant, load, position, run, sound, tables};
 use cup_bridge::state::{State, Tables};
-use cup_bridge::{meaning, read, rewrite, section, Answer, Rewritten};
+use cup_bridge::{read, rewrite, section, Answer, Rewritten};
 use cup_check::engine::Engine;
 use cup_check::file::read::place_in;
 use cup_check::samples;
@@ -185,45 +185,4 @@ fn a_sound_state_has_tables_and_another_has_none() {
     state.run.clocks.updates = u64::MAX;
     assert!(!sound(&state));
     assert_eq!(*tables(&state), Tables::NONE);
-}
-
-/// The table in the repository's README has the same words.
-#[test]
-fn every_number_means_what_the_readme_says() {
-    let readme = String::from_utf8(repository_file("README.md")).expect("text");
-    let (_, table) = readme
-        .split_once("## What each refusal means")
-        .expect("the table of refusals");
-    let rows = table
-        .lines()
-        .map(|line| line.split('|').map(str::trim).collect::<Vec<_>>());
-    let mut next = 0;
-    for row in rows.filter(|row| row.len() == 5) {
-        if row[1].parse() == Ok(next) {
-            assert_eq!(meaning(next), row[2], "{next}");
-            next += 1;
-        }
-    }
-    assert_eq!(next, 15);
-    assert_eq!(meaning(15), meaning(usize::MAX));
-}
-
-/// So has the C header, above the name of each number.
-#[test]
-fn every_number_means_what_the_header_says() {
-    let header = String::from_utf8(repository_file("include/cup.h")).expect("text");
-    let words: Vec<&str> = header
-        .split_whitespace()
-        .filter(|word| *word != "*")
-        .collect();
-    let header = words.join(" ");
-    for number in 0..=14 {
-        let words = format!(" /* {} */ #define CUP_", meaning(number));
-        let (_, defined) = header.split_once(&words).expect(&words);
-        assert_eq!(
-            defined.split(' ').nth(1),
-            Some(&*number.to_string()),
-            "{words}"
-        );
-    }
 }

@@ -48,14 +48,20 @@ pub fn root() -> PathBuf {
     Path::new(env!("CARGO_MANIFEST_DIR")).join("../..")
 }
 
-/// Compiles a program of this folder and answers where it is. Warnings are errors, in the header
-/// too.
+/// Compiles a program of this folder and answers where it is.
 pub fn compiled(name: &str) -> PathBuf {
+    let folder = Path::new(env!("CARGO_MANIFEST_DIR")).join("tests");
+    compiled_file(&folder.join(name).with_extension("c"))
+}
+
+/// Compiles a program in C and answers where it is. Warnings are errors, in the header too.
+pub fn compiled_file(source: &Path) -> PathBuf {
+    let name = source.file_stem().expect("a program has a name");
     let program = Path::new(env!("CARGO_TARGET_TMPDIR")).join(name);
-    let source = Path::new(env!("CARGO_MANIFEST_DIR")).join(format!("tests/{name}.c"));
     let strict = ["-std=c11", "-pedantic", "-Wall", "-Wextra", "-Werror"];
     let status = Command::new("cc")
         .args(strict)
+        .arg("-pthread")
         .arg("-I")
         .arg(root().join("include"))
         .arg(source)
@@ -66,4 +72,15 @@ pub fn compiled(name: &str) -> PathBuf {
         .expect("cc starts");
     assert!(status.success(), "{status}");
     program
+}
+
+/// A file of the repository as text.
+pub fn text_of(place: &str) -> String {
+    let path = root().join(place);
+    std::fs::read_to_string(&path).unwrap_or_else(|error| panic!("{}: {error}", path.display()))
+}
+
+/// Words with one space between them, however they were laid out.
+pub fn in_one_line(text: &str) -> String {
+    text.split_whitespace().collect::<Vec<_>>().join(" ")
 }
