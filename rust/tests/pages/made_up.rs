@@ -1,0 +1,244 @@
+//! Each check on short made-up pages: it finds what is wrong, and nothing in what is right.
+
+use crate::markdown::Page;
+use crate::repository::Repository;
+use crate::{file_names, layout, links, names};
+
+/// Files that the pages can speak of.
+const FILES: [(&str, &str); 10] = [
+    ("crates.txt", "machine:\nrates: machine\n"),
+    (
+        "crates/machine/specs/Due.antt",
+        "-- elapsed ticks\npub distance : ℤ\nticksTo = max 1 distance\n",
+    ),
+    (
+        "crates/machine/specs/Laws/Levels.antt",
+        "pub record Between where\n  pub upper-size : Size\n",
+    ),
+    (
+        "crates/machine/must-fail/definitions_1.edit",
+        "wrong: nearer_level\nlaw: Laws/Levels upper-size\n",
+    ),
+    ("crates/machine/must-fail/m_one_less.edit", "old: 1\n"),
+    (
+        "crates/rates/src/lib.rt",
+        "pub fn rate() {\n    sum_of(links)\n",
+    ),
+    ("crates/rates/proofs/+fold/Proof.antt", ""),
+    ("rust/bridge/tests/calls.rs", "fn a_call_is_declined() {\n"),
+    ("include/cup.h", "CupRan cup_run(void);\n"),
+    (
+        "docs/OTHER.md",
+        "# Other\n\n## The `first` one, again\n\n## The first one, again\n",
+    ),
+];
+
+fn repository() -> Repository {
+    with_pages(&[])
+}
+
+fn with_pages(pages: &[(&str, &str)]) -> Repository {
+    let files = FILES.iter().chain(pages);
+    let files = files.map(|(path, text)| (path.to_string(), text.to_string()));
+    Repository::of(files.collect())
+}
+
+fn page(text: &str) -> Page {
+    Page::new("docs/PAGE.md", text)
+}
+
+/// Compares with what is said of the page behind its name.
+fn assert_faults(faults: Vec<String>, expected: &[&str]) {
+    let expected = expected
+        .iter()
+        .map(|fault| format!("docs/PAGE.md, {fault}"));
+    assert_eq!(faults, expected.collect::<Vec<_>>());
+}
+
+fn assert_links(text: &str, expected: &[&str]) {
+    assert_faults(
+        links::faults(&page(text), &with_pages(&[("docs/PAGE.md", text)])),
+        expected,
+    );
+}
+
+fn assert_file_names(text: &str, expected: &[&str]) {
+    assert_faults(file_names::faults(&page(text), &repository()), expected);
+}
+
+fn assert_places(text: &str, expected: &[&str]) {
+    assert_faults(names::misplaced(&page(text), &repository()), expected);
+}
+
+#[test]
+fn links_to_files_folders_and_headings_are_right() {
+    let text = "# Own\n\n[a](OTHER.md), [`b`](../rust/bridge), [c](#own) and\n\
+                [d](OTHER.md#the-first-one-again), [e](./OTHER.md#the-first-one-again-1)\n";
+    assert_links(text, &[]);
+}
+
+#[test]
+fn links_in_code_are_none() {
+    let fenced = "```\n[a](NONE.md)\n```\n";
+    let indented = "1. Text\n    of an item\n\n       [a](OTHER.md)\n\nText\n\n    [a](NONE.md)\n";
+    assert_links(&format!("`[a](NONE.md)`\n\n{fenced}\n{indented}"), &[]);
+}
+
+#[test]
+fn a_broken_link_is_found() {
+    let fault = "line 2: the link to 'NONE.md' leads to no file";
+    assert_links("Text\n[a](NONE.md)\n", &[fault]);
+    assert_links("[a]\n[a]: NONE.md\n", &[fault]);
+}
+
+#[test]
+fn a_link_to_a_missing_heading_is_found() {
+    let here = "line 3: the link to '#other' leads to no heading";
+    let there = "line 4: the link to 'OTHER.md#none' leads to no heading";
+    assert_links("# Own\n\n[a](#other)\n[b](OTHER.md#none)\n", &[here, there]);
+}
+
+#[test]
+fn an_outside_address_is_found() {
+    let site = "line 1: the link to 'https://a.b/c' leads out of the repository";
+    assert_links("[a](https://a.b/c)\n", &[site]);
+    assert_links("<https://a.b/c>\n", &[site]);
+    let above = "line 1: the link to '../../a' leads out of the repository";
+    assert_links("[a](../../a)\n", &[above]);
+}
+
+#[test]
+fn a_page_that_nothing_links_to_is_found() {
+    let linked = with_pages(&[
+        ("README.md", "[a](docs/A.md), [b](docs/NONE.md)\n"),
+        ("docs/A.md", "[b](OTHER.md)\n"),
+    ]);
+    assert_eq!(links::unreached(&linked), [""; 0]);
+    let alone = with_pages(&[("README.md", "`docs/OTHER.md`\n")]);
+    let fault = "docs/OTHER.md, line 1: no links lead here from README.md";
+    assert_eq!(links::unreached(&alone), [fault]);
+}
+
+#[test]
+fn file_names_are_looked_up_where_pages_leave_the_beginning_out() {
+    let text = "`OTHER.md`, `crates/machine/specs`, `rates/src/lib.rt`, `rates/proofs/fold`,\n\
+                `machine/Due`, `machine/Laws`, `calls.rs`, `target/bin/listing`,\n\
+                `machine/nearer_level`, `machine/m_one_less`, `a / b`, `cargo test`, `nodes.a`\n";
+    assert_file_names(text, &[]);
+}
+
+#[test]
+fn wildcards_and_placeholders_have_to_match_something() {
+    let right = "`machine/Laws/Lev*`, `crates/CRATE/specs/FILE.antt`, `CRATE/TITLE`,\n\
+                 `crates/CRATE/must-fail/definitions_K.edit`\n";
+    assert_file_names(right, &[]);
+    let wrong = "`machine/Laws/X*`\n`crates/CRATE/NAME.toml`\n";
+    let faults = [
+        "line 1: `machine/Laws/X*` is no file and no edit",
+        "line 2: `crates/CRATE/NAME.toml` is no file and no edit",
+    ];
+    assert_file_names(wrong, &faults);
+}
+
+#[test]
+fn a_missing_file_and_an_unknown_edit_are_found() {
+    let faults = [
+        "line 1: `machine/None` is no file and no edit",
+        "line 1: `none.rs` is no file and no edit",
+        "line 2: `rates/nearer_level` is no file and no edit",
+    ];
+    assert_file_names("`machine/None`, `none.rs`\n`rates/nearer_level`\n", &faults);
+}
+
+#[test]
+fn a_span_without_an_end_is_found() {
+    let text = "`a`\n`b\n\n    `c\n";
+    assert_faults(
+        layout::open_spans(&page(text)),
+        &["line 2: an odd number of backticks"],
+    );
+}
+
+#[test]
+fn names_that_follow_their_place_are_right() {
+    let text = "`machine/Due` `distance`,\n`ticksTo`; `machine/Laws` `Between` and `upper-size`.\n\
+                `rates` `rate`, `rates::rate`, `include/cup.h` `cup_run`; `Between` `upper-size`;\n\
+                `machine/nearer_level`, `m_one_less`; `calls.rs` `a_call_is_declined`\n";
+    assert_places(text, &[]);
+}
+
+#[test]
+fn a_name_that_its_file_does_not_declare_is_found() {
+    let text = "`machine/Due` `distance`, `upper-size`\n\n`machine/Due` `elapsed`\n\n\
+                `Between` `lower-size`\n";
+    let faults = [
+        "line 1: `upper-size` does not stand in `machine/Due`",
+        "line 3: `elapsed` does not stand in `machine/Due`",
+        "line 5: `lower-size` does not stand in `Between`",
+    ];
+    assert_places(text, &faults);
+}
+
+#[test]
+fn a_function_that_its_crate_does_not_have_is_found() {
+    let faults = [
+        "line 1: `links` does not stand in `rates`",
+        "line 2: `fold` does not stand in `rates`",
+    ];
+    assert_places("`rates` `rate`, `links`\n`rates::fold`\n", &faults);
+}
+
+#[test]
+fn an_edit_of_another_crate_in_a_list_is_found() {
+    let fault = "line 1: `any_clock` does not stand in `machine/nearer_level`";
+    assert_places(
+        "`machine/nearer_level`, `m_one_less`, `any_clock`\n",
+        &[fault],
+    );
+}
+
+#[test]
+fn an_unknown_name_is_found() {
+    let text = "`ticksTo`, `sum_of`, `m_one_less`, `upper-size`, `a b`, `lower-size`\n";
+    let fault = "line 1: `lower-size` stands nowhere";
+    assert_faults(names::unknown(&page(text), &repository()), &[fault]);
+}
+
+#[test]
+fn long_lines_and_long_pages_are_found() {
+    let longest = "±".repeat(100) + "\n";
+    assert_faults(layout::too_long(&page(&longest.repeat(400))), &[]);
+    assert_faults(
+        layout::too_long(&page(&"a".repeat(101))),
+        &["line 1: 101 characters"],
+    );
+    let pages = ["line 401: the page may have 400 lines"];
+    assert_faults(layout::too_long(&page(&longest.repeat(401))), &pages);
+    let readme = layout::too_long(&Page::new("README.md", &longest.repeat(121)));
+    assert_eq!(readme, ["README.md, line 121: the page may have 120 lines"]);
+}
+
+#[test]
+fn a_landing_note_unlike_the_template_is_found() {
+    let template = (
+        "docs/landings/TEMPLATE.md",
+        "# Landing\n\n## What\n\n## Why\n",
+    );
+    let right = (
+        "docs/landings/01.md",
+        "# The first\n\n## What\nText\n## Why\n",
+    );
+    assert_eq!(
+        layout::unlike_the_template(&with_pages(&[template, right])),
+        [""; 0]
+    );
+    let short = ("docs/landings/2.md", "## Why\n\n    ## What\n");
+    let faults = [
+        "docs/landings/2.md, line 1: the name of a note is two digits",
+        "docs/landings/2.md, line 1: the headings of a note are [\"## What\", \"## Why\"]",
+    ];
+    assert_eq!(
+        layout::unlike_the_template(&with_pages(&[template, short])),
+        faults
+    );
+}

@@ -1,0 +1,72 @@
+//! Reads every page of the repository, and fails for a link, a file name or a name that leads
+//! nowhere, so that no page goes on naming what was renamed or removed.
+
+mod file_names;
+mod layout;
+mod links;
+mod made_up;
+mod markdown;
+mod names;
+mod repository;
+
+use markdown::Page;
+use repository::Repository;
+use std::path::Path;
+use std::sync::LazyLock;
+
+static REPOSITORY: LazyLock<Repository> =
+    LazyLock::new(|| Repository::read(&Path::new(env!("CARGO_MANIFEST_DIR")).join("..")));
+
+#[test]
+fn every_link_leads_somewhere() {
+    assert_none(on_pages("", |page| links::faults(page, &REPOSITORY)));
+}
+
+#[test]
+fn every_span_of_code_ends_on_its_line() {
+    assert_none(on_pages("", layout::open_spans));
+}
+
+#[test]
+fn every_page_is_reached_from_the_readme() {
+    assert_none(links::unreached(&REPOSITORY));
+}
+
+#[test]
+fn every_file_name_is_that_of_a_file_or_an_edit() {
+    assert_none(on_pages("", |page| file_names::faults(page, &REPOSITORY)));
+}
+
+#[test]
+fn every_name_stands_where_a_page_says() {
+    assert_none(on_pages("docs/", |page| {
+        names::misplaced(page, &REPOSITORY)
+    }));
+}
+
+#[test]
+fn every_name_stands_somewhere() {
+    assert_none(on_pages("docs/", |page| names::unknown(page, &REPOSITORY)));
+}
+
+#[test]
+fn no_line_and_no_page_is_too_long() {
+    assert_none(on_pages("", layout::too_long));
+}
+
+#[test]
+fn every_landing_note_has_the_headings_of_the_template() {
+    assert_none(layout::unlike_the_template(&REPOSITORY));
+}
+
+/// The faults of all pages whose paths begin so, of which there have to be some.
+fn on_pages(beginning: &str, faults: impl Fn(&Page) -> Vec<String>) -> Vec<String> {
+    let mut pages = REPOSITORY.pages();
+    pages.retain(|page| page.path.starts_with(beginning));
+    assert!(pages.len() > 1, "no pages were found");
+    pages.iter().flat_map(faults).collect()
+}
+
+fn assert_none(faults: Vec<String>) {
+    assert!(faults.is_empty(), "faults:\n{}", faults.join("\n"));
+}
