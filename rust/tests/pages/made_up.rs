@@ -2,7 +2,7 @@
 
 use crate::markdown::Page;
 use crate::repository::Repository;
-use crate::{file_names, layout, links, names};
+use crate::{file_names, layout, links, names, whole_lists};
 
 /// Files that the pages can speak of.
 const FILES: [(&str, &str); 10] = [
@@ -241,4 +241,46 @@ fn a_landing_note_unlike_the_template_is_found() {
         layout::unlike_the_template(&with_pages(&[template, short])),
         faults
     );
+}
+
+#[test]
+fn what_a_list_leaves_out_is_found() {
+    let record = "pub record EveryPromise : Type 0 where\n  pub due-least : DueLeast\n\nLater";
+    let other = "pub record ListingPromise : Type 0 where\n  pub turns-end : TurnsEnd\n";
+    let repository = with_pages(&[
+        ("docs/CRATES.md", "`machine`\n"),
+        (
+            "docs/PROMISES.md",
+            "`DueLeast`, `plan/Format`, `calls/Promises`\n",
+        ),
+        ("plans/README.md", "`sample`\n"),
+        ("plans/sample.plan", ""),
+        ("plans/chain.plan", ""),
+        (
+            "crates/plan/specs/Format.antt",
+            "-- Binding definition: a\n",
+        ),
+        (
+            "crates/plan/specs/Rules.antt",
+            "-- The same as a proposition: a\n",
+        ),
+        ("crates/plan/specs/Model.antt", "-- Model of the code: a\n"),
+        ("crates/calls/specs/Promises.antt", record),
+        ("crates/calls/specs/Promises/Files.antt", "-- Promise: a\n"),
+        ("crates/listingturns/specs/Promises.antt", other),
+    ]);
+    let crates = whole_lists::unnamed_crates(&repository);
+    assert_eq!(crates, ["docs/CRATES.md, line 1: `rates` is not named"]);
+    let promises = whole_lists::unnamed_promises(&repository);
+    assert_eq!(
+        promises,
+        ["docs/PROMISES.md, line 1: `TurnsEnd` is not named"]
+    );
+    let beliefs = whole_lists::unnamed_beliefs(&repository);
+    assert_eq!(
+        beliefs,
+        ["docs/PROMISES.md, line 1: `plan/Rules` is not named"]
+    );
+    let plans = whole_lists::unnamed_plans(&repository);
+    assert_eq!(plans, ["plans/README.md, line 1: `chain` is not named"]);
 }

@@ -8,6 +8,7 @@ mod made_up;
 mod markdown;
 mod names;
 mod repository;
+mod whole_lists;
 
 use markdown::Page;
 use repository::Repository;
@@ -19,12 +20,12 @@ static REPOSITORY: LazyLock<Repository> =
 
 #[test]
 fn every_link_leads_somewhere() {
-    assert_none(on_pages("", |page| links::faults(page, &REPOSITORY)));
+    assert_none(on_pages(|page| links::faults(page, &REPOSITORY)));
 }
 
 #[test]
 fn every_span_of_code_ends_on_its_line() {
-    assert_none(on_pages("", layout::open_spans));
+    assert_none(on_pages(layout::open_spans));
 }
 
 #[test]
@@ -34,24 +35,27 @@ fn every_page_is_reached_from_the_readme() {
 
 #[test]
 fn every_file_name_is_that_of_a_file_or_an_edit() {
-    assert_none(on_pages("", |page| file_names::faults(page, &REPOSITORY)));
+    assert_none(on_pages(|page| file_names::faults(page, &REPOSITORY)));
 }
 
 #[test]
 fn every_name_stands_where_a_page_says() {
-    assert_none(on_pages("docs/", |page| {
+    let mut pages = REPOSITORY.pages();
+    // There a module of Rust can bear the name of a crate.
+    pages.retain(|page| page.path != "rust/README.md");
+    assert_none(faults_of(&pages, |page| {
         names::misplaced(page, &REPOSITORY)
     }));
 }
 
 #[test]
 fn every_name_stands_somewhere() {
-    assert_none(on_pages("docs/", |page| names::unknown(page, &REPOSITORY)));
+    assert_none(on_pages(|page| names::unknown(page, &REPOSITORY)));
 }
 
 #[test]
 fn no_line_and_no_page_is_too_long() {
-    assert_none(on_pages("", layout::too_long));
+    assert_none(on_pages(layout::too_long));
 }
 
 #[test]
@@ -59,10 +63,24 @@ fn every_landing_note_has_the_headings_of_the_template() {
     assert_none(layout::unlike_the_template(&REPOSITORY));
 }
 
-/// The faults of all pages whose paths begin so, of which there have to be some.
-fn on_pages(beginning: &str, faults: impl Fn(&Page) -> Vec<String>) -> Vec<String> {
-    let mut pages = REPOSITORY.pages();
-    pages.retain(|page| page.path.starts_with(beginning));
+#[test]
+fn every_crate_promise_and_plan_is_on_its_page() {
+    assert_none(whole_lists::unnamed_crates(&REPOSITORY));
+    assert_none(whole_lists::unnamed_promises(&REPOSITORY));
+    assert_none(whole_lists::unnamed_plans(&REPOSITORY));
+}
+
+#[test]
+fn every_file_that_must_be_believed_is_on_its_page() {
+    assert_none(whole_lists::unnamed_beliefs(&REPOSITORY));
+}
+
+fn on_pages(faults: impl Fn(&Page) -> Vec<String>) -> Vec<String> {
+    faults_of(&REPOSITORY.pages(), faults)
+}
+
+/// The faults of some pages, of which there have to be more than one.
+fn faults_of(pages: &[Page], faults: impl Fn(&Page) -> Vec<String>) -> Vec<String> {
     assert!(pages.len() > 1, "no pages were found");
     pages.iter().flat_map(faults).collect()
 }

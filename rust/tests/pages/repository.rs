@@ -49,6 +49,12 @@ impl Repository {
         pages.filter_map(|path| self.page(path)).collect()
     }
 
+    /// The text of a file that has to be there.
+    pub fn text(&self, path: &str) -> &str {
+        let file = self.files.get(path);
+        &file.unwrap_or_else(|| panic!("{path} is missing")).text
+    }
+
     pub fn page(&self, path: &str) -> Option<Page> {
         let file = self.files.get(path)?;
         Some(Page::new(path, &file.text))
