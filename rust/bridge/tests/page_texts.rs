@@ -77,10 +77,12 @@ fn block_of<'a>(page: &'a str, language: &str) -> &'a str {
     behind.split_once("```").expect("the block's end").0
 }
 
+/// The example in C reads the plan from standard input, that in Rust by its name.
 fn printed(program: &Path, plan: &str) -> String {
-    let plan = File::open(root().join("plans").join(plan)).expect("a sample plan");
+    let plan = root().join("plans").join(plan);
     let output = Command::new(program)
-        .stdin(plan)
+        .arg(&plan)
+        .stdin(File::open(plan).expect("a sample plan"))
         .output()
         .expect("the program starts");
     String::from_utf8(output.stdout).expect("text")
@@ -89,15 +91,17 @@ fn printed(program: &Path, plan: &str) -> String {
 #[test]
 fn the_readmes_examples_are_those_of_the_folder_and_run() {
     let page = text_of("README.md");
-    for (language, ending) in [("c", "c"), ("rust", "rs")] {
-        let file = text_of(&format!("examples/sample.{ending}"));
-        assert_eq!(block_of(&page, language), file);
-    }
+    assert_eq!(block_of(&page, "c"), text_of("examples/sample.c"));
+    assert_eq!(block_of(&page, "rust"), text_of("examples/sample.rs"));
     let in_c = compiled_file(&root().join("examples/sample.c"));
     let in_rust = Path::new(env!("CARGO_BIN_EXE_sample"));
-    let expected = "status 1, 24 bytes of events\ncup 0 holds 18 grains\n";
-    assert_eq!(printed(&in_c, "sample.plan"), expected);
-    assert_eq!(printed(in_rust, "sample.plan"), expected);
+    let sample = "status 1, 24 bytes of events\ncup 0 holds 18 grains\n";
+    let chain = "status 0, 864 bytes of events\nstatus 1, 468 bytes of events\n\
+                 cup 0 holds -210747 grains\n";
+    for (plan, expected) in [("sample.plan", sample), ("chain.plan", chain)] {
+        assert_eq!(printed(&in_c, plan), expected);
+        assert_eq!(printed(in_rust, plan), expected);
+    }
     assert_eq!(printed(&in_c, "refused.plan"), "refusal 8, entry 4\n");
     let refused = format!("entry 4: {}\n", meaning(8));
     assert_eq!(printed(in_rust, "refused.plan"), refused);
@@ -116,4 +120,23 @@ fn the_readme_shows_the_listing_of_the_sample() {
     for line in listing.lines() {
         assert!(page.contains(&format!("\n- `{line}`: ")), "{line}");
     }
+}
+
+/// The bytes at the beginning of each line of a block, in hexadecimal.
+fn bytes_of(block: &str) -> Vec<u8> {
+    let lines = block.lines().map(str::split_whitespace);
+    let bytes = lines.flat_map(|words| {
+        let words = words.take_while(|word| word.len() == 2);
+        words.map(|word| u8::from_str_radix(word, 16).expect("a byte"))
+    });
+    bytes.collect()
+}
+
+#[test]
+fn the_page_has_the_sample_plan_byte_by_byte() {
+    let page = text_of("docs/FORMAT.md");
+    let (_, block) = page.split_once("byte by byte:\n\n").expect("the block");
+    let (block, _) = block.split_once("\n\n").expect("the block's end");
+    let plan = std::fs::read(root().join("plans/sample.plan")).expect("the sample plan");
+    assert_eq!(bytes_of(block), plan);
 }
