@@ -6,8 +6,10 @@ static uint8_t file[CUP_LONGEST_FILE + 1], events[CUP_RUN_BYTES(64)];
 int main(void)
 {
     CupLoaded cup = cup_load(file, fread(file, 1, sizeof file, stdin));
-    if (cup.number != CUP_ACCEPTED)
-        return printf("refusal %zu, entry %zu\n", cup.number, cup.entry), 1;
+    if (cup.number != CUP_ACCEPTED) {
+        printf("refusal %zu, entry %zu\n", cup.number, cup.entry);
+        return 1;
+    }
     CupRan run = { .state = cup.state };
     do {
         run = cup_run_lazy(run.state, 64, events, sizeof events);

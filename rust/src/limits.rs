@@ -76,35 +76,40 @@ pub const COMMANDS: usize = 64;
 /// Entries of a table by source number. A plan has at most 56 sources.
 pub const SOURCES: usize = 64;
 
+/// The longest buffer that a run with a budget can ask for, as `CUP_RUN_BYTES` of the header.
+pub const fn run_bytes(budget: usize) -> usize {
+    budget * (INTEGRATORS + INPUTS) * EVENT_BYTES
+}
+
 /// The number of an accepted call.
 pub const ACCEPTED: usize = 0;
-/// The file is shorter than 44 bytes.
+/// Refusal of a short file. The words of all refusals are in docs/FORMAT.md.
 pub const REFUSED_SHORT: usize = 1;
-/// A pair breaks the offset rule.
+/// Refusal of the pairs of offset and length.
 pub const REFUSED_OFFSETS: usize = 2;
-/// A section is no whole number of entries, or its count is outside its limits.
+/// Refusal of a section's length.
 pub const REFUSED_SIZES: usize = 3;
-/// The horizon is outside its limits.
+/// Refusal of the horizon.
 pub const REFUSED_HORIZON: usize = 4;
-/// An integrator entry breaks its rule.
+/// Refusal of an integrator.
 pub const REFUSED_INTEGRATOR: usize = 5;
-/// An input entry breaks its rule.
+/// Refusal of an input.
 pub const REFUSED_INPUT: usize = 6;
-/// A node has a kind above 3 or breaks its kind's rule.
+/// Refusal of a node.
 pub const REFUSED_NODE: usize = 7;
-/// A link breaks its rule, order included.
+/// Refusal of a link.
 pub const REFUSED_LINK: usize = 8;
-/// A command breaks its rule, order included.
+/// Refusal of a command.
 pub const REFUSED_COMMAND: usize = 9;
-/// The state is not sound.
+/// Refusal of a state.
 pub const REFUSED_UNSOUND: usize = 10;
-/// A run's budget is above 1,024.
+/// Refusal of a budget.
 pub const REFUSED_BUDGET: usize = 11;
-/// A run's buffer is shorter than budget × (n + m) × 12 bytes.
+/// Refusal of a run's buffer.
 pub const REFUSED_RUN_BUFFER: usize = 12;
-/// The plan writer's buffer is shorter than the file.
+/// Refusal of the plan writer's buffer.
 pub const REFUSED_WRITE_BUFFER: usize = 13;
-/// The position call's integrator number is n or more.
+/// Refusal of an integrator number.
 pub const REFUSED_INTEGRATOR_NUMBER: usize = 14;
 
 /// The status of a state whose next instant can be taken.

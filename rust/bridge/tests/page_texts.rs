@@ -51,8 +51,11 @@ fn page_header_and_rust_have_the_same_words_for_every_refusal() {
     for (number, words) in &page {
         assert_eq!(meaning(*number), words, "{number}");
     }
-    // No number has words in Rust alone.
-    assert_eq!(meaning(page.len()), meaning(usize::MAX));
+    // No other number has words in Rust.
+    let others = page.len()..=page.len() + 1000;
+    assert!(others
+        .into_iter()
+        .all(|number| meaning(number) == meaning(usize::MAX)));
     assert!(page.iter().all(|(_, words)| words != meaning(usize::MAX)));
 }
 

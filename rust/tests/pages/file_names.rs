@@ -12,6 +12,14 @@ const ENDINGS: [&str; 12] = [
 /// Words of a name that stand for any.
 const PLACEHOLDERS: [&str; 5] = ["CRATE", "FILE", "NAME", "TITLE", "K"];
 
+/// What `rt` makes, as far as pages name it.
+const BUILT: [&str; 4] = [
+    "target/bin/listing",
+    "target/staticlib/libcup.a",
+    "target/rlib",
+    "target/stamp",
+];
+
 /// What a name leads to.
 pub enum Found<'r> {
     /// The file, or all files of a folder.
@@ -41,7 +49,7 @@ pub fn faults(page: &Page, repository: &Repository) -> Vec<String> {
 
 /// Looks in the page's folder, then where the pages of this repository leave the beginning out.
 pub fn found<'r>(page: &Page, name: &str, repository: &'r Repository) -> Option<Found<'r>> {
-    if name.starts_with("target/") {
+    if BUILT.contains(&name) {
         return Some(Found::Built);
     }
     let name = with_wildcards(name);

@@ -29,12 +29,17 @@ pub fn faults(page: &Page, repository: &Repository) -> Vec<String> {
 }
 
 fn reason(page: &Page, target: &str, repository: &Repository) -> Option<&'static str> {
-    if target.contains(':') {
-        return Some("leads out of the repository");
+    let outside = Some("leads out of the repository");
+    if target.is_empty() {
+        return Some("leads nowhere");
+    }
+    if target.contains(':') || target.starts_with('/') {
+        return outside;
     }
     let Some(path) = path_of(page, target) else {
-        return Some("leads out of the repository");
+        return outside;
     };
+    // In a link a '*' is no wildcard.
     if path.contains('*') || repository.matching(&path).is_empty() {
         return Some("leads to no file");
     }
@@ -46,9 +51,9 @@ fn reason(page: &Page, target: &str, repository: &Repository) -> Option<&'static
 
 /// The path that a link names, from the root; that of its own page where it is an anchor alone.
 fn path_of(page: &Page, target: &str) -> Option<String> {
-    match target.split('#').next() {
-        None | Some("") => Some(page.path.clone()),
-        Some(path) => joined(page.folder(), path),
+    match target.split_once('#').map_or(target, |(path, _)| path) {
+        "" => Some(page.path.clone()),
+        path => joined(page.folder(), path),
     }
 }
 

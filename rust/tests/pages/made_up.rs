@@ -105,6 +105,9 @@ fn an_outside_address_is_found() {
     assert_links("<https://a.b/c>\n", &[site]);
     let above = "line 1: the link to '../../a' leads out of the repository";
     assert_links("[a](../../a)\n", &[above]);
+    let root = "line 1: the link to '/docs/OTHER.md' leads out of the repository";
+    assert_links("[a](/docs/OTHER.md)\n", &[root]);
+    assert_links("[a]()\n", &["line 1: the link to '' leads nowhere"]);
 }
 
 #[test]
@@ -151,12 +154,20 @@ fn a_missing_file_and_an_unknown_edit_are_found() {
 }
 
 #[test]
-fn a_span_without_an_end_is_found() {
-    let text = "`a`\n`b\n\n    `c\n";
-    assert_faults(
-        layout::open_spans(&page(text)),
-        &["line 2: an odd number of backticks"],
-    );
+fn what_the_checks_could_not_read_is_found() {
+    let read = "# Title\n`a`, [b](OTHER.md)\n\n    `c\n";
+    assert_faults(layout::unread(&page(read)), &[]);
+    let open = "# Title\n`b\n";
+    let fault = "line 2: an odd number of backticks";
+    assert_faults(layout::unread(&page(open)), &[fault]);
+    for form in ["``a``", "[a][b]", "<a href='NONE.md'>", "[a]("] {
+        let fault = "line 2: code or a link in a form that is not read";
+        let text = format!("# Title\n{form}\n");
+        assert_faults(layout::unread(&page(&text)), &[fault]);
+    }
+    let fault = "line 1: the page has no title";
+    assert_faults(layout::unread(&page("")), &[fault]);
+    assert_faults(layout::unread(&page("Text\n")), &[fault]);
 }
 
 #[test]
@@ -174,7 +185,7 @@ fn a_name_that_its_file_does_not_declare_is_found() {
     let faults = [
         "line 1: `upper-size` does not stand in `machine/Due`",
         "line 3: `elapsed` does not stand in `machine/Due`",
-        "line 5: `lower-size` does not stand in `Between`",
+        "line 5: `lower-size` does not stand in the file of `Between`",
     ];
     assert_places(text, &faults);
 }
@@ -184,13 +195,16 @@ fn a_function_that_its_crate_does_not_have_is_found() {
     let faults = [
         "line 1: `links` does not stand in `rates`",
         "line 2: `fold` does not stand in `rates`",
+        "line 3: `sum_of` does not stand in `rates`",
     ];
-    assert_places("`rates` `rate`, `links`\n`rates::fold`\n", &faults);
+    // It calls sum_of, and has none.
+    let text = "`rates` `rate`, `links`\n`rates::fold`\n`rates::sum_of`\n";
+    assert_places(text, &faults);
 }
 
 #[test]
 fn an_edit_of_another_crate_in_a_list_is_found() {
-    let fault = "line 1: `any_clock` does not stand in `machine/nearer_level`";
+    let fault = "line 1: `any_clock` does not stand in the crate of `machine/nearer_level`";
     assert_places(
         "`machine/nearer_level`, `m_one_less`, `any_clock`\n",
         &[fault],
@@ -214,28 +228,33 @@ fn long_lines_and_long_pages_are_found() {
     );
     let pages = ["line 401: the page may have 400 lines"];
     assert_faults(layout::too_long(&page(&longest.repeat(401))), &pages);
-    let readme = layout::too_long(&Page::new("README.md", &longest.repeat(126)));
-    assert_eq!(readme, ["README.md, line 126: the page may have 125 lines"]);
+    let readme = layout::too_long(&Page::new("README.md", &longest.repeat(131)));
+    assert_eq!(readme, ["README.md, line 131: the page may have 130 lines"]);
 }
 
 #[test]
 fn a_landing_note_unlike_the_template_is_found() {
     let template = (
         "docs/landings/TEMPLATE.md",
-        "# Landing\n\n## What\n\n## Why\n",
+        "# Request NN\n\n## What\n\nText\n\n## Why\n\nText\n",
     );
     let right = (
         "docs/landings/01.md",
-        "# The first\n\n## What\nText\n## Why\n",
+        "# Request 01: readings\n\nText\n\n## What\n\nText\n\n## Why\n\nText\n",
     );
     assert_eq!(
         layout::unlike_the_template(&with_pages(&[template, right])),
         [""; 0]
     );
-    let short = ("docs/landings/2.md", "## Why\n\n    ## What\n");
+    let short = (
+        "docs/landings/2.md",
+        "# Request 2\n\n## Why\n\n    ## What\n",
+    );
     let faults = [
         "docs/landings/2.md, line 1: the name of a note is two digits",
+        "docs/landings/2.md, line 1: the title of the note begins with '# Request 2: '",
         "docs/landings/2.md, line 1: the headings of a note are [\"## What\", \"## Why\"]",
+        "docs/landings/2.md, line 1: no text below the heading",
     ];
     assert_eq!(
         layout::unlike_the_template(&with_pages(&[template, short])),
@@ -243,39 +262,47 @@ fn a_landing_note_unlike_the_template_is_found() {
     );
 }
 
+/// What the pages with whole lists speak of.
+const LISTED: [(&str, &str); 10] = [
+    ("docs/CRATES.md", "`machine`\n"),
+    (
+        "docs/PROMISES.md",
+        "`DueLeast`, `plan/Format`, `calls/Promises`\n",
+    ),
+    ("plans/README.md", "`sample`\n"),
+    ("plans/sample.plan", ""),
+    ("plans/chain.plan", ""),
+    (
+        "crates/plan/specs/Format.antt",
+        "-- Binding definition: a\n",
+    ),
+    (
+        "crates/plan/specs/Rules.antt",
+        "-- The same as a proposition: a\n",
+    ),
+    (
+        "crates/calls/specs/Promises.antt",
+        "pub record EveryPromise : Type 0 where\n  pub due-least : DueLeast\n  -- of a list\n  \
+         pub list-ends : ListEnds\n\nLater",
+    ),
+    ("crates/calls/specs/Promises/Files.antt", "-- Promise: a\n"),
+    (
+        "crates/listingturns/specs/Promises.antt",
+        "pub record ListingPromise : Type 0 where\n  pub turns-end : TurnsEnd\n",
+    ),
+];
+
 #[test]
 fn what_a_list_leaves_out_is_found() {
-    let record = "pub record EveryPromise : Type 0 where\n  pub due-least : DueLeast\n\nLater";
-    let other = "pub record ListingPromise : Type 0 where\n  pub turns-end : TurnsEnd\n";
-    let repository = with_pages(&[
-        ("docs/CRATES.md", "`machine`\n"),
-        (
-            "docs/PROMISES.md",
-            "`DueLeast`, `plan/Format`, `calls/Promises`\n",
-        ),
-        ("plans/README.md", "`sample`\n"),
-        ("plans/sample.plan", ""),
-        ("plans/chain.plan", ""),
-        (
-            "crates/plan/specs/Format.antt",
-            "-- Binding definition: a\n",
-        ),
-        (
-            "crates/plan/specs/Rules.antt",
-            "-- The same as a proposition: a\n",
-        ),
-        ("crates/plan/specs/Model.antt", "-- Model of the code: a\n"),
-        ("crates/calls/specs/Promises.antt", record),
-        ("crates/calls/specs/Promises/Files.antt", "-- Promise: a\n"),
-        ("crates/listingturns/specs/Promises.antt", other),
-    ]);
+    let repository = with_pages(&LISTED);
     let crates = whole_lists::unnamed_crates(&repository);
     assert_eq!(crates, ["docs/CRATES.md, line 1: `rates` is not named"]);
     let promises = whole_lists::unnamed_promises(&repository);
-    assert_eq!(
-        promises,
-        ["docs/PROMISES.md, line 1: `TurnsEnd` is not named"]
-    );
+    let faults = [
+        "docs/PROMISES.md, line 1: `ListEnds` is not named",
+        "docs/PROMISES.md, line 1: `TurnsEnd` is not named",
+    ];
+    assert_eq!(promises, faults);
     let beliefs = whole_lists::unnamed_beliefs(&repository);
     assert_eq!(
         beliefs,
@@ -283,4 +310,21 @@ fn what_a_list_leaves_out_is_found() {
     );
     let plans = whole_lists::unnamed_plans(&repository);
     assert_eq!(plans, ["plans/README.md, line 1: `chain` is not named"]);
+}
+
+#[test]
+fn a_definition_that_does_not_say_what_it_is_is_found() {
+    let files = [
+        ("crates/plan/specs/Lib.antt", "-- All.\n"),
+        ("crates/plan/specs/Model.antt", "-- Model of the code: a\n"),
+        ("crates/plan/specs/Other.antt", "-- Definition.\n"),
+        ("crates/plan/specs/Laws/Some.antt", "-- A law.\n"),
+    ];
+    let found = whole_lists::of_no_kind(&with_pages(&files));
+    let others = [
+        "crates/machine/specs/Due.antt",
+        "crates/plan/specs/Other.antt",
+    ];
+    let faults = others.map(|path| format!("{path}: the first line names no kind"));
+    assert_eq!(found, faults);
 }

@@ -24,8 +24,8 @@ fn every_link_leads_somewhere() {
 }
 
 #[test]
-fn every_span_of_code_ends_on_its_line() {
-    assert_none(on_pages(layout::open_spans));
+fn every_page_has_a_title_and_forms_that_are_read() {
+    assert_none(on_pages(layout::unread));
 }
 
 #[test]
@@ -73,6 +73,7 @@ fn every_crate_promise_and_plan_is_on_its_page() {
 #[test]
 fn every_file_that_must_be_believed_is_on_its_page() {
     assert_none(whole_lists::unnamed_beliefs(&REPOSITORY));
+    assert_none(whole_lists::of_no_kind(&REPOSITORY));
 }
 
 fn on_pages(faults: impl Fn(&Page) -> Vec<String>) -> Vec<String> {

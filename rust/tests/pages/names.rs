@@ -2,10 +2,12 @@
 
 use crate::file_names::{found, is_file_name, Found};
 use crate::markdown::{Page, Span};
-use crate::repository::{is_in_a_name, Repository};
+use crate::repository::{is_in_a_name, starts_large, Repository};
 
-/// What joins a name to the one in front of it, both being of the same place.
-const JOINTS: [&str; 4] = [" ", ", ", " and ", " to "];
+/// What stands between a place and the first name of it.
+const BEGINS: &str = " ";
+/// What stands between that name and the others of the same place.
+const GOES_ON: [&str; 4] = [BEGINS, ", ", " and ", " to "];
 
 /// Where names have to be declared that follow in a list: `machine/Due` `distance`, `ticksTo`.
 struct Place<'r> {
@@ -58,14 +60,23 @@ impl<'r> Place<'r> {
     }
 
     fn is_joined_to(&self, span: &Span) -> bool {
-        let joints = if self.is_begun { 4 } else { 1 };
-        JOINTS[..joints].contains(&span.before.as_str())
+        let before = span.before.as_str();
+        before == BEGINS || (self.is_begun && GOES_ON.contains(&before))
+    }
+
+    fn in_words(&self) -> String {
+        let shown = &self.shown;
+        match self.holder {
+            Holder::Files(_) => format!("`{shown}`"),
+            Holder::Declaring(_) => format!("the file of `{shown}`"),
+            Holder::EditsOf(_) => format!("the crate of `{shown}`"),
+        }
     }
 
     /// Whether a span that is joined to the place has to stand in it. In a list behind a record's
     /// name another record can follow.
     fn wants(&self, span: &Span) -> bool {
-        let is_record = span.before != " " && span.text.starts_with(char::is_uppercase);
+        let is_record = span.before != BEGINS && starts_large(&span.text);
         is_name(&span.text) && !(is_record && matches!(self.holder, Holder::Declaring(_)))
     }
 }
@@ -76,21 +87,17 @@ pub fn misplaced(page: &Page, repository: &Repository) -> Vec<String> {
     let mut place: Option<Place> = None;
     for span in single_names(page, repository) {
         let name = &span.text;
-        let joined = place.take().filter(|place| place.is_joined_to(&span));
-        let joined = match joined {
-            Some(held) if held.holder.has(name, repository) => {
-                place = Some(Place {
-                    is_begun: true,
-                    ..held
-                });
+        let own = Holder::of_file_or_crate(page, name, repository);
+        if let Some(mut joined) = place.take().filter(|place| place.is_joined_to(&span)) {
+            if joined.holder.has(name, repository) {
+                joined.is_begun = true;
+                place = Some(joined);
                 continue;
             }
-            joined => joined,
-        };
-        let own = Holder::of_file_or_crate(page, name, repository);
-        if let Some(place) = joined.filter(|place| own.is_none() && place.wants(&span)) {
-            let words = format!("`{name}` does not stand in `{}`", place.shown);
-            faults.push(page.fault(span.line, &words));
+            if own.is_none() && joined.wants(&span) {
+                let words = format!("`{name}` does not stand in {}", joined.in_words());
+                faults.push(page.fault(span.line, &words));
+            }
         }
         let declaring = || Holder::Declaring(repository.files_declaring(name));
         let holder = own.or_else(|| is_name(name).then(declaring));

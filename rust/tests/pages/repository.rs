@@ -114,12 +114,11 @@ impl File {
         let lines = text.lines().map(str::trim_start);
         for line in lines.filter(|line| !line.starts_with("--") && !line.starts_with("//")) {
             let own = words_of(line);
-            let first = own.iter().position(|word| !KEYWORDS.contains(word));
-            let last = match is_code && !line.starts_with("pub use ") {
-                true => first.map_or(0, |first| first + 1),
-                false => own.len(),
+            let names = match is_code && !line.starts_with("pub use ") {
+                true => Vec::from_iter(declared_by(line, &own, path.ends_with(".antt"))),
+                false => own.clone(),
             };
-            declared.extend(own[..last].iter().map(|word| word.to_string()));
+            declared.extend(names.into_iter().map(str::to_string));
             words.extend(own.into_iter().map(str::to_string));
         }
         File {
@@ -128,6 +127,21 @@ impl File {
             declared,
         }
     }
+}
+
+/// The name that a line declares. In a definition's file it is the first that is no keyword. In code it
+/// follows a keyword, or it is a field, with a colon, or a case, with a comma or in capitals.
+fn declared_by<'l>(line: &str, words: &[&'l str], is_definition: bool) -> Option<&'l str> {
+    let first = words.iter().position(|word| !KEYWORDS.contains(word))?;
+    let name = words[first];
+    let after = line.strip_prefix(name).unwrap_or_default();
+    let is_field = after.starts_with(':') && !after.starts_with("::");
+    let is_case = after.starts_with(',') || (after.starts_with('(') && starts_large(name));
+    (is_definition || first > 0 || is_field || is_case).then_some(name)
+}
+
+pub fn starts_large(name: &str) -> bool {
+    name.starts_with(char::is_uppercase)
 }
 
 /// Pages, edits and the made-up pages of this test hold names that need not be there.
@@ -140,18 +154,21 @@ fn is_page(path: &str) -> bool {
     path.ends_with(".md") && !path.starts_with('.')
 }
 
-/// Puts the files below a folder behind the others. What a build made is left out, and every folder
-/// whose name begins with a dot but that of the gate, which pages name.
+/// Adds the files below a folder. What a build made is left out, and so is all whose name begins with a
+/// dot, but for the folder of the gate, which pages name.
 fn walk(folder: &Path, before: &str, files: &mut Vec<(String, String)>) {
     for entry in fs::read_dir(folder).expect("a folder of the repository") {
-        let path = entry.expect("an entry of a folder").path();
-        let own = path.file_name().unwrap_or_default().to_string_lossy();
+        let entry = entry.expect("an entry of a folder");
+        let own = entry.file_name().to_string_lossy().to_string();
         let whole = format!("{before}{own}");
-        if !path.is_dir() {
-            let bytes = fs::read(&path).expect("a file of the repository");
+        let kind = entry.file_type().expect("a file or a folder");
+        if own == "target" || (own.starts_with('.') && own != ".ci") {
+            continue;
+        } else if kind.is_dir() {
+            walk(&entry.path(), &(whole + "/"), files);
+        } else if kind.is_file() {
+            let bytes = fs::read(entry.path()).unwrap_or_else(|error| panic!("{whole}: {error}"));
             files.push((whole, String::from_utf8_lossy(&bytes).to_string()));
-        } else if own != "target" && (!own.starts_with('.') || own == ".ci") {
-            walk(&path, &(whole + "/"), files);
         }
     }
 }

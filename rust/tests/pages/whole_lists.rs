@@ -10,6 +10,16 @@ const BELIEVED: [&str; 3] = [
     "-- Promise: ",
 ];
 
+/// The same of the other files that stand in `specs` itself.
+const OTHERS: [&str; 3] = [
+    "-- Model of the code: ",
+    "-- Worked examples, ",
+    "-- For worked examples, ",
+];
+
+/// Files that only lead to others, and that which has all proofs.
+const INDEXES: [&str; 3] = ["Lib.antt", "Laws.antt", "Proofs.antt"];
+
 /// The crates that docs/CRATES.md does not name.
 pub fn unnamed_crates(repository: &Repository) -> Vec<String> {
     let listed = repository.text("crates.txt").lines();
@@ -33,11 +43,12 @@ pub fn unnamed_promises(repository: &Repository) -> Vec<String> {
 fn field_types<'t>(text: &'t str, record: &str) -> Vec<&'t str> {
     let head = format!("pub record {record} ");
     let (_, fields) = text.split_once(&head).expect("the record");
-    let fields = fields.lines().skip(1).map_while(|line| {
-        let field = line.strip_prefix("  pub ")?;
-        field.split_once(" : ").map(|(_, its_type)| its_type)
-    });
-    fields.collect()
+    let fields = fields
+        .lines()
+        .skip(1)
+        .take_while(|line| line.starts_with("  "));
+    let fields = fields.filter_map(|line| line.strip_prefix("  pub ")?.split_once(" : "));
+    fields.map(|(_, its_type)| its_type).collect()
 }
 
 /// The files with definitions or promises, by their first line, that docs/PROMISES.md does not name. Those of
@@ -58,6 +69,21 @@ pub fn unnamed_beliefs(repository: &Repository) -> Vec<String> {
         "docs/PROMISES.md",
         names.iter().map(String::as_str),
     )
+}
+
+/// Files that stand in `specs` itself and whose first line does not say what they are, so that they could be
+/// left out of what must be believed.
+pub fn of_no_kind(repository: &Repository) -> Vec<String> {
+    let mut files = repository.matching("crates/*/specs/*.antt");
+    files.retain(|path| !INDEXES.iter().any(|name| path.ends_with(name)));
+    files.retain(|path| {
+        let mut kinds = BELIEVED.iter().chain(&OTHERS);
+        !kinds.any(|beginning| repository.text(path).starts_with(beginning))
+    });
+    let faults = files
+        .iter()
+        .map(|path| format!("{path}: the first line names no kind"));
+    faults.collect()
 }
 
 /// The sample plans that plans/README.md does not name.

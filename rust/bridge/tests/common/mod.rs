@@ -1,4 +1,4 @@
-//! What the tests over campaigns and the tests with a program in C need.
+//! What the tests over campaigns, with a program in C and of the pages need.
 
 // Each test file is a program of its own and uses a part of these.
 #![allow(dead_code)]
