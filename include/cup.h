@@ -219,7 +219,7 @@ size_t cup_read(const uint8_t *file, size_t file_length, size_t *entry);
 
 /* The section view: returns the length of a part of the file, and *offset becomes where in the file
  * it starts. The number is one of CUP_SECTION_INTEGRATORS to CUP_SECTION_COMMANDS. A section that has no
- * entry is empty and starts where the next one does. If the file would be refused or the number is
+ * entry is empty and starts where the one before it ends. If the file would be refused or the number is
  * above those, length and offset are 0. */
 size_t cup_section(const uint8_t *file, size_t file_length, size_t number, size_t *offset);
 
