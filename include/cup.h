@@ -79,8 +79,8 @@ extern "C" {
 #define CUP_SECTION_COMMANDS 4
 #define CUP_SECTIONS 5
 
-/* The kinds of a node, with a and b the values of A and B: a - b; a * b / 65,536, rounded down; a limited
- * to lo..hi; and hi if a >= b, else lo. The first two are clipped to M in size. */
+/* The kinds of a node, with a and b the values of A and B: a - b; a * b / 65,536, rounded towards minus
+ * infinity; a limited to lo..hi; and hi if a >= b, else lo. The first two are clipped to M in size. */
 #define CUP_KIND_DIFFERENCE 0
 #define CUP_KIND_PRODUCT 1
 #define CUP_KIND_LIMIT 2

@@ -98,15 +98,13 @@ fn the_readmes_examples_are_those_of_the_folder_and_run() {
     assert_eq!(block_of(&page, "rust"), text_of("examples/sample.rs"));
     let in_c = compiled_file(&root().join("examples/sample.c"));
     let in_rust = Path::new(env!("CARGO_BIN_EXE_sample"));
-    let sample = "status 1, 24 bytes of events\ncup 0 holds 18 grains\n";
-    let chain = "status 0, 864 bytes of events\nstatus 1, 468 bytes of events\n\
-                 cup 0 holds -210747 grains\n";
-    for (plan, expected) in [("sample.plan", sample), ("chain.plan", chain)] {
-        assert_eq!(printed(&in_c, plan), expected);
-        assert_eq!(printed(in_rust, plan), expected);
-    }
-    assert_eq!(printed(&in_c, "refused.plan"), "refusal 8, entry 4\n");
-    let refused = format!("entry 4: {}\n", meaning(8));
+    let sample = "load 0, entry 0\nrun 0, status 1, 24 bytes\nposition 0, 18 grains\n";
+    assert_eq!(printed(&in_c, "sample.plan"), sample);
+    assert_eq!(printed(&in_c, "refused.plan"), "load 8, entry 4\n");
+    let sample = "load: accepted, entry 0\nrun: accepted, status 1\n\
+                  position: accepted, 18 grains\n";
+    assert_eq!(printed(in_rust, "sample.plan"), sample);
+    let refused = format!("load: {}, entry 4\n", meaning(8));
     assert_eq!(printed(in_rust, "refused.plan"), refused);
 }
 

@@ -5,7 +5,7 @@ use crate::repository::Repository;
 
 const LONGEST_LINE: usize = 100;
 const LONGEST_PAGE: usize = 400;
-const LONGEST_README: usize = 130;
+const LONGEST_README: usize = 125;
 
 const NOTES: &str = "docs/landings";
 

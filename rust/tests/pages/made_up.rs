@@ -228,8 +228,8 @@ fn long_lines_and_long_pages_are_found() {
     );
     let pages = ["line 401: the page may have 400 lines"];
     assert_faults(layout::too_long(&page(&longest.repeat(401))), &pages);
-    let readme = layout::too_long(&Page::new("README.md", &longest.repeat(131)));
-    assert_eq!(readme, ["README.md, line 131: the page may have 130 lines"]);
+    let readme = layout::too_long(&Page::new("README.md", &longest.repeat(126)));
+    assert_eq!(readme, ["README.md, line 126: the page may have 125 lines"]);
 }
 
 #[test]
