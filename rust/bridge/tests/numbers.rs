@@ -86,9 +86,10 @@ fn every_number_in_c_is_the_documents() {
 
 #[test]
 fn the_figures_that_c_does_not_have_are_the_documents() {
-    use cup_check::limits::{GRAINS_PER_ML, LISTING_BUDGET, LISTING_INPUT};
+    use cup_check::limits::{run_bytes, GRAINS_PER_ML, LISTING_BUDGET, LISTING_INPUT};
     assert_eq!(GRAINS_PER_ML, 65_536);
     assert_eq!((LISTING_INPUT, LISTING_BUDGET), (4_493, 64));
+    assert_eq!((run_bytes(64), run_bytes(1_024)), (30_720, 491_520));
 }
 
 /// The same name in C, in Rust and in the proved code, whose contracts fix the numbers there.
