@@ -246,7 +246,7 @@ bool cup_sound(CupState state);
 /* Hands the state back, sound or not. */
 CupState cup_echo(CupState state);
 
-/* The tables that a run works out once. This call is for tests: its contract is that these are the
+/* The tables that a run starts with. This call is for tests: its contract is that these are the
  * tables that the run itself works with; what follows describes their entries.
  *
  * ranges[i] is the first link whose target is i or above, or the number of links if there is none,

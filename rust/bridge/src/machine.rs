@@ -36,7 +36,7 @@ pub fn echo(state: &State) -> Box<State> {
     Box::new(unsafe { header::cup_echo(state.clone()) })
 }
 
-/// The tables that a run works out once; all 0 for a state that is not sound.
+/// The tables that a run starts with; all 0 for a state that is not sound.
 #[allow(unsafe_code)]
 pub fn tables(state: &State) -> Box<Tables> {
     // SAFETY: the function is given a copy of the state and nothing else.
