@@ -1,7 +1,7 @@
 -- Binding definition: node kinds, the values of sources, and "Rate".
 use mathlib.Core.Bool.{cond}
 use mathlib.Core.List.{List}
-use Prim.Native.Nat.{ℕ, zero, suc, _+_, _-_}
+use Prim.Native.Nat.{ℕ, zero, suc, _+_, _-_, _*_, _^_}
 use lib.IntN.{ℤ, pos, negℤ, _+ℤ_, _-ℤ_, _*ℤ_}
 use lib.Signed.{leZ}
 use lib.Dec.{ltb, eqb}
@@ -49,3 +49,19 @@ module _ (p : Plan) (q u : List ℤ) where
   -- "s = floor(sum of coefficient × source value over its links / 65,536)"
   unfoldable pub rateOf : ℕ → ℤ
   rateOf i = floor65536 (sumOver i (p .counts .links))
+
+-- ---- how large a rate and a slope may be, under the rules of a plan and with outputs and inputs within ±M
+-- a rate's size at most: 56 sources of size 2^30, each by a coefficient of size 2^24, over 2^16
+abbrev pub rateMost : ℕ
+rateMost = 56 * 2 ^ 38
+
+-- a power of two above it
+abbrev pub rateLimit : ℕ
+rateLimit = 2 ^ 44
+
+-- a slope is a rate
+abbrev pub slopeMost : ℕ
+slopeMost = rateMost
+
+abbrev pub slopeLimit : ℕ
+slopeLimit = rateLimit

@@ -2,13 +2,14 @@
 -- `soundness`, Laws/RunningTests.
 use mathlib.Core.Bool.{Bool, _&&_}
 use mathlib.Core.List.{List}
-use Prim.Native.Nat.{ℕ, _^_, _≤_, _<_}
+use Prim.Native.Nat.{ℕ, _≤_, _<_}
 use lib.IntN.{ℤ, pos, _+ℤ_, _-ℤ_}
 use lib.Signed.{ltZ, _≤ℤ_}
 use lib.Dec.{leb, ltb, eqb}
 use Rattle.integers.specs.Parts.{∣_∣}
 use Rattle.plan.specs.Numbers.{M, largestHorizon}
 use Rattle.plan.specs.Lists.{intAt}
+use Rattle.machine.specs.Values.{rateLimit}
 use Rattle.machine.specs.Due.{dueTick}
 
 -- all but "|q| ≤ M" of `integratorSound`, for an integrator whose links make `rate`
@@ -24,7 +25,7 @@ pub record FiguresReady (quantum rate : ℤ) (clock : ℕ) (q : ℤ) : Type 0 wh
   pub early : clock ≤ largestHorizon
   pub least : pos 1 ≤ℤ quantum
   pub most : quantum ≤ℤ pos M
-  pub slow : ∣ rate ∣ < 2 ^ 44
+  pub slow : ∣ rate ∣ < rateLimit
   pub output : ∣ q ∣ ≤ M
 
 abbrev pub IntegratorsReady : (n : ℕ) (quanta rates : List ℤ) (clock : ℕ) (q : List ℤ) → Type 0

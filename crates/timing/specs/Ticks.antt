@@ -6,18 +6,19 @@ use lib.Signed.{_≤ℤ_, _<ℤ_}
 use Rattle.integers.specs.Parts.{positivePart, ∣_∣}
 use Rattle.integers.specs.Division.{ceilDiv}
 use Rattle.plan.specs.Numbers.{M, largestHorizon}
+use Rattle.machine.specs.Values.{slopeLimit}
 
 -- `from`, and the ticks that a move of `speed` a tick takes over `distance`
 unfoldable pub tickAt : ℕ → ℤ → ℤ → ℕ
 tickAt from distance speed = from + ceilDiv (positivePart distance) (positivePart speed)
 
--- a tick up to the largest horizon, a distance below 2^31, a speed below 2^44
+-- a tick up to the largest horizon, a distance below 2^31, a speed below the limit of slopes
 pub record TicksReady (from : ℕ) (distance speed : ℤ) : Type 0 where
   pub early : from ≤ largestHorizon
   pub ahead : pos 1 ≤ℤ distance
   pub near : distance <ℤ pos (2 ^ 31)
   pub moving : pos 1 ≤ℤ speed
-  pub slow : speed <ℤ pos (2 ^ 44)
+  pub slow : speed <ℤ pos slopeLimit
 
 -- x strictly between the levels of q
 pub record DueReady (from : ℕ) (x q quantum s : ℤ) : Type 0 where
@@ -27,10 +28,10 @@ pub record DueReady (from : ℕ) (x q quantum s : ℤ) : Type 0 where
   pub most : quantum ≤ℤ pos M
   pub above : (q -ℤ quantum) <ℤ x
   pub below : x <ℤ (q +ℤ quantum)
-  pub slow : ∣ s ∣ < 2 ^ 44
+  pub slow : ∣ s ∣ < slopeLimit
 
 -- a move up to the due tick
 pub record PositionReady (x s : ℤ) (l t : ℕ) : Type 0 where
   pub since : l ≤ t
   pub small : ∣ x ∣ ≤ 2 ^ 31
-  pub move : ∣ s *ℤ pos (t - l) ∣ ≤ 2 ^ 32 + 2 ^ 44
+  pub move : ∣ s *ℤ pos (t - l) ∣ ≤ 2 ^ 32 + slopeLimit
