@@ -4,11 +4,11 @@
 -- lies at `sectionStart`.
 use mathlib.Core.Bool.{cond}
 use mathlib.Core.List.{List, _++_}
-use Prim.Native.Nat.{ℕ, _+_, _*_}
+use Prim.Native.Nat.{ℕ}
 use lib.IntN.{pos}
 use lib.Dec.{leb, ltb, eqb}
 use lib.ListN.{length, drop}
-use Rattle.plan.specs.Numbers.{largestBudget, eventBytes, acceptance, refusedUnsound, refusedBudget, refusedRunBuffer}
+use Rattle.plan.specs.Numbers.{largestBudget, acceptance, refusedUnsound, refusedBudget, refusedRunBuffer}
 use Rattle.plan.specs.Numbers.{refusedWriteBuffer, refusedIntegratorNumber}
 use Rattle.plan.specs.Format.{planIn}
 use Rattle.plan.specs.Refusals.{numberOf, entryOf, findingOf, accepted}
@@ -16,7 +16,7 @@ use Rattle.plan.specs.Encoding.{fileLength, encode}
 use Rattle.plan.specs.declared.Plan.{Plan}
 use Rattle.machine.specs.Start.{startState, idleState}
 use Rattle.machine.specs.Status.{statusNumber, statusIntegrator, statusOf}
-use Rattle.machine.specs.Runs.{afterRun, eventsOfRun, positionOf}
+use Rattle.machine.specs.Runs.{afterRun, eventsOfRun, roomOf, positionOf}
 use Rattle.machine.specs.SoundTest.{isSound}
 use Rattle.machine.specs.declared.State.{State}
 use Rattle.machine.specs.declared.Engine.{Engine}
@@ -55,13 +55,9 @@ unfoldable pub bufferOfWrite : State → List ℕ → List ℕ
 bufferOfWrite st buffer = cond (eqb (writeNumber st (length buffer)) acceptance) (writtenOver (encode (st .plan)) buffer) buffer
 
 -- ---- runs: 10, 11, 12
--- "A run's buffer is shorter than budget×(n+m)×12 bytes": the room that a run asks
-unfoldable pub bytesNeeded : Plan → ℕ → ℕ
-bytesNeeded p budget = budget * (p .counts .n + p .counts .m) * eventBytes
-
 -- what is left to decline once the state is sound: "A run's budget is above 1,024", then the buffer
 unfoldable pub runNumberIfSound : Plan → ℕ → ℕ → ℕ
-runNumberIfSound p budget room = cond (leb budget largestBudget) (cond (leb (bytesNeeded p budget) room) acceptance refusedRunBuffer) refusedBudget
+runNumberIfSound p budget room = cond (leb budget largestBudget) (cond (leb (roomOf p budget) room) acceptance refusedRunBuffer) refusedBudget
 
 unfoldable pub runNumber : State → ℕ → ℕ → ℕ
 runNumber st budget room = cond (isSound st) (runNumberIfSound (st .plan) budget room) refusedUnsound

@@ -18,12 +18,12 @@ use Rattle.machine.specs.Values.{valueOf, sumOver, rateOf}
 use Rattle.machine.specs.Due.{upperLevel, lowerLevel, distance, ticksTo}
 use Rattle.machine.specs.Instant.{positionAt, nextTickOf, eventsOf}
 use Rattle.machine.specs.Status.{statusOf}
-use Rattle.machine.specs.Runs.{eventsOfRun, positionOf}
+use Rattle.machine.specs.Runs.{eventsOfRun, roomOf, positionOf}
 use Rattle.machine.specs.declared.Running.{Running}
 use Rattle.machine.specs.declared.State.{State}
 use Rattle.machine.specs.declared.Engine.{Engine}
 use Rattle.machine.specs.declared.Status.the-variants.{Paused}
-use Rattle.calls.specs.Calls.{loadOf, writeOf, bytesNeeded, runOf, positionedOf}
+use Rattle.calls.specs.Calls.{loadOf, writeOf, runOf, positionedOf}
 use Rattle.calls.specs.declared.Ran.{Ran}
 
 -- of what a run answers
@@ -117,7 +117,7 @@ module _ (p : Plan) (r : Running) where
     pub updates : r .clocks .updates ≤ 32 * 2000000000
     -- the bytes of an instant's events, of a run's, and of the listing program's runs
     pub instant : length (eventsOf p r) ≤ 480
-    pub bytes : (engine : Engine) (budget : ℕ) → length (eventsOfRun p engine budget r) ≤ bytesNeeded p budget
-    pub room : (budget : ℕ) → budget ≤ 1024 → bytesNeeded p budget ≤ 491520
-    pub listing : bytesNeeded p 64 ≤ 30720
+    pub bytes : (engine : Engine) (budget : ℕ) → length (eventsOfRun p engine budget r) ≤ roomOf p budget
+    pub room : (budget : ℕ) → budget ≤ 1024 → roomOf p budget ≤ 491520
+    pub listing : roomOf p 64 ≤ 30720
     pub printed : PrintedLimits

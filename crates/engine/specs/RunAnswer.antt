@@ -1,10 +1,9 @@
 -- Model of the code: what a run answers, in the words of `machine/Runs`, and what it asks.
-use Prim.Native.Nat.{ℕ, _+_, _*_, _≤_}
+use Prim.Native.Nat.{ℕ, _≤_}
 use lib.ListN.{length}
-use Rattle.plan.specs.Numbers.{eventBytes}
 use Rattle.plan.specs.declared.Plan.{Plan}
 use Rattle.machine.specs.Status.{statusOf}
-use Rattle.machine.specs.Runs.{afterRun, eventsOfRun}
+use Rattle.machine.specs.Runs.{afterRun, eventsOfRun, roomOf}
 use Rattle.machine.specs.Sound.{Sound}
 use Rattle.machine.specs.declared.Running.{Running}
 use Rattle.machine.specs.declared.State.{State}
@@ -23,4 +22,4 @@ endedOf p engine budget r =
 -- a sound state, and room for the events of each instant
 pub record RunReady (st : State) (budget size : ℕ) : Type 0 where
   pub sound : Sound st
-  pub room : budget * (st .plan .counts .n + st .plan .counts .m) * eventBytes ≤ size
+  pub room : roomOf (st .plan) budget ≤ size

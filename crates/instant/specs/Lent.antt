@@ -13,6 +13,7 @@ use Rattle.plan.specs.declared.Plan.{Plan}
 use Rattle.machine.specs.Reach.{isDue}
 use Rattle.machine.specs.Instant.{nextTickOf, instant, eventsOf}
 use Rattle.machine.specs.Status.{runningPaused}
+use Rattle.machine.specs.Runs.{eventsMost}
 use Rattle.machine.specs.Sound.{SoundRunning, RunningWidths}
 use Rattle.machine.specs.declared.Clocks.{Clocks}
 use Rattle.machine.specs.declared.Running.{Running}
@@ -72,7 +73,7 @@ pub record InstantReady (p : Plan) (ranges reach : List ℕ) (t due : ℕ) (r : 
   pub ranges-are : ranges ≡ rangesOf p
   pub reach-is : reach ≡ reachTable p
   pub values-are : values ≡ valuesOf p (r .q) (r .inputs)
-  pub room : at + (p .counts .n + p .counts .m) * eventBytes ≤ size
+  pub room : at + eventsMost p * eventBytes ≤ size
 
 -- what it leaves: the machine's figures after the instant, the values of all sources by these, the events from byte `at` on and nothing else changed in the buffer, and
 -- the place behind the events

@@ -30,7 +30,7 @@ use Rattle.machine.specs.Reach.{isDue, setsInput, isCommanded, changes, depends
 use Rattle.machine.specs.Instant.{positionAt, inputThen, inputsThen, moves, bytesOfEvent, eventsAt, outputsThen, slopeThen, xThen, dueThen}
 use Rattle.machine.specs.Instant.{figuresAfter, nextTickOf, instant, eventsOf}
 use Rattle.machine.specs.Status.{statusNumber, statusIntegrator, isPaused, bars, barring, statusBy, statusAt, statusOf, runningPaused}
-use Rattle.machine.specs.Runs.{afterRun, eventsOfRun, positionOf}
+use Rattle.machine.specs.Runs.{afterRun, eventsOfRun, eventsMost, roomOf, positionOf}
 use Rattle.machine.specs.Plain.{withRatesAndDues, plainStart, plainNextTick, plainPosition, plainOutputs, plainInstant, plainEventsOf, plainStatus}
 use Rattle.machine.specs.Plain.{lazyCount, plainFrom, plainEventsFrom, plainAfter, plainEvents}
 use Rattle.plan.specs.Unused.{natsZeroFrom, intsZeroFrom, planUnusedZero}
@@ -38,7 +38,7 @@ use Rattle.machine.specs.SoundTest.{planSound, runningUnusedZero, integratorSou
 use Rattle.machine.specs.declared.State.{State}
 use Rattle.machine.specs.declared.Engine.{Engine}
 use Rattle.machine.specs.declared.Engine.the-variants.{Lazy, Eager}
-use Rattle.calls.specs.Calls.{loadOf, writeNumber, writeOf, bufferOfWrite, bytesNeeded, runNumberIfSound, runNumber, ranState, ranEvents}
+use Rattle.calls.specs.Calls.{loadOf, writeNumber, writeOf, bufferOfWrite, runNumberIfSound, runNumber, ranState, ranEvents}
 use Rattle.calls.specs.Calls.{runOf, bufferOfRun, positionNumber, positionedOf}
 use Rattle.calls.specs.Lists.{Call, answerOf, bufferOf, acceptedBudget, afterCalls, budgetSum, joinedBytes, engineAt, cutAt, restAt, allBy}
 use Rattle.machine.specs.Updates.{growth, growthUpTo, isEager, eagerInstants, lazyGrowth, movedNow}
@@ -185,7 +185,7 @@ unfolding examples ceilDiv limited within countOf numberAt bytesOf signedOf unsi
     dueThen figuresAfter nextTickOf instant eventsOf bars barring statusNumber statusIntegrator isPaused statusBy statusAt statusOf runningPaused afterRun eventsOfRun
     positionOf withRatesAndDues plainStart plainNextTick plainPosition plainOutputs plainInstant plainEventsOf plainStatus
     lazyCount plainFrom plainEventsFrom plainAfter plainEvents natsZeroFrom intsZeroFrom planUnusedZero planSound runningUnusedZero
-    integratorSound runningSound isSound loadOf writeNumber writeOf bufferOfWrite bytesNeeded runNumberIfSound runNumber ranState ranEvents
+    integratorSound runningSound isSound loadOf writeNumber writeOf bufferOfWrite roomOf eventsMost runNumberIfSound runNumber ranState ranEvents
     runOf bufferOfRun positionNumber positionedOf answerOf bufferOf acceptedBudget afterCalls budgetSum joinedBytes engineAt cutAt restAt allBy
     growth growthUpTo isEager eagerInstants lazyGrowth movedNow
 examples-right =

@@ -30,13 +30,13 @@ use Rattle.machine.specs.Reach.{isDue, setsInput, isCommanded, changes, depends
 use Rattle.machine.specs.Instant.{positionAt, inputThen, inputsThen, moves, bytesOfEvent, eventsAt, outputsThen, slopeThen, xThen, dueThen, figuresAfter}
 use Rattle.machine.specs.Instant.{nextTickOf, instant, eventsOf}
 use Rattle.machine.specs.Status.{statusNumber, isPaused, bars, barring, statusBy, statusAt, statusOf, runningPaused}
-use Rattle.machine.specs.Runs.{afterRun, eventsOfRun, positionOf}
+use Rattle.machine.specs.Runs.{afterRun, eventsOfRun, eventsMost, roomOf, positionOf}
 use Rattle.machine.specs.SoundTest.{planSound, runningUnusedZero, integratorSound, runningSound, isSound}
 use Rattle.machine.specs.declared.Engine.{Engine}
 use Rattle.machine.specs.declared.Engine.the-variants.{Lazy, Eager}
 use Rattle.listingtext.specs.Decimal.{digitsIn, decimal, signedDecimal}
 use Rattle.listingtext.specs.Lines.{eventLine, endLine, lineAt, linesOf}
-use Rattle.calls.specs.Calls.{loadOf, bytesNeeded, runNumberIfSound, runNumber, ranState, ranEvents, runOf, bufferOfRun, positionNumber, positionedOf}
+use Rattle.calls.specs.Calls.{loadOf, runNumberIfSound, runNumber, ranState, ranEvents, runOf, bufferOfRun, positionNumber, positionedOf}
 use Rattle.calls.specs.declared.Ran.{Ran}
 use Rattle.listingturns.specs.Listing.{eventLines, endLineOf, listingOfRun, listingOf}
 use Rattle.listingturns.specs.Turns.{turnState, turnMore, turnText, beginText, turnsFrom, printedIn}
@@ -220,7 +220,7 @@ unfolding p1-to-p9 ceilDiv limited within countOf numberAt bytesOf signedOf unsi
     startSlope startDue startOf startState isDue setsInput isCommanded changes dependsWith linkReaches reached positionAt inputThen
     inputsThen moves bytesOfEvent eventsAt outputsThen slopeThen xThen dueThen figuresAfter nextTickOf instant eventsOf bars barring statusNumber isPaused statusBy statusAt statusOf
     runningPaused afterRun eventsOfRun positionOf planSound runningUnusedZero integratorSound runningSound isSound digitsIn decimal signedDecimal eventLine
-    endLine lineAt linesOf loadOf bytesNeeded runNumberIfSound runNumber ranState ranEvents runOf bufferOfRun positionNumber positionedOf eventLines
+    endLine lineAt linesOf loadOf roomOf eventsMost runNumberIfSound runNumber ranState ranEvents runOf bufferOfRun positionNumber positionedOf eventLines
     endLineOf listingOfRun listingOf turnState turnMore turnText beginText turnsFrom printedIn
 p1-to-p9-right =
     refl & refl & refl & refl & refl & refl & refl & refl & refl & refl & refl & refl & refl & refl & refl & refl & refl & refl & refl & refl &

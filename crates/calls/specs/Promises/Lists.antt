@@ -13,6 +13,7 @@ use Rattle.plan.specs.declared.Plan.{Plan}
 use Rattle.machine.specs.Next.{nextTick}
 use Rattle.machine.specs.Instant.{moves, eventsOf}
 use Rattle.machine.specs.Status.{statusNumber, statusIntegrator, statusOf}
+use Rattle.machine.specs.Runs.{roomOf}
 use Rattle.machine.specs.Plain.{Plain, plainAfter, plainEvents, plainStatus, lazyCount}
 use Rattle.machine.specs.Updates.{growth, growthUpTo, eagerInstants, lazyGrowth, movedNow}
 use Rattle.machine.specs.declared.State.{State}
@@ -24,10 +25,10 @@ use Rattle.calls.specs.declared.Ran.{Ran}
 
 -- what a call of a list answers in itself, and the buffer that it leaves
 pub record CallPromise (p : Plan) (st : State) (call : Call) (answer : Ran) (buffer : List ℕ) : Type 0 where
-  -- "There a call is declined by 11 or 12 only", and by these exactly as they are named; never by 10
+  -- "There a call is declined by 11 or 12 only", and by these exactly as they are named; never by 10. What the room is in figures: Promises/Calls
   pub above : 1024 < call .budget → answer .number ≡ 11
-  pub short : call .budget ≤ 1024 → length (call .buffer) < call .budget * (p .counts .n + p .counts .m) * 12 → answer .number ≡ 12
-  pub accepted : call .budget ≤ 1024 → call .budget * (p .counts .n + p .counts .m) * 12 ≤ length (call .buffer) → answer .number ≡ 0
+  pub short : call .budget ≤ 1024 → length (call .buffer) < roomOf p (call .budget) → answer .number ≡ 12
+  pub accepted : call .budget ≤ 1024 → roomOf p (call .budget) ≤ length (call .buffer) → answer .number ≡ 0
   -- "Each accepted call answers the status and integrator of the state it returns."
   pub status : answer .number ≡ 0 → answer .status ≡ statusNumber (statusOf p (answer .state .run))
   pub integrator : answer .number ≡ 0 → answer .integrator ≡ statusIntegrator (statusOf p (answer .state .run))

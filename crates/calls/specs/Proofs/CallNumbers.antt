@@ -8,11 +8,12 @@ use lib.Dec.{leb, ltb, eqb}
 use borrow.Author.Tests.{leb-true, ltb-true, eqb-true}
 use Rattle.plan.specs.Encoding.{fileLength}
 use Rattle.plan.specs.Laws.TestMeanings.{means-false}
+use Rattle.machine.specs.Runs.{roomOf}
 use Rattle.machine.specs.Sound.{Sound}
 use Rattle.machine.specs.SoundTest.{isSound}
 use Rattle.machine.specs.Laws.SoundTest.{sound-means}
 use Rattle.machine.specs.declared.State.{State}
-use Rattle.calls.specs.Calls.{writeNumber, bytesNeeded, runNumberIfSound, runNumber, positionNumber}
+use Rattle.calls.specs.Calls.{writeNumber, runNumberIfSound, runNumber, positionNumber}
 
 -- a figure of an accepted call, or what stands for it in a declined one
 pub accept-cases {ℓ} : {A : Type ℓ} (P : A → Type 0) (number : ℕ) {x y : A} → (number ≡ 0 → P x) → P y → P (cond (eqb number 0) x y)
@@ -56,12 +57,12 @@ module _ (st : State) where
   unfolding runNumber runNumberIfSound
   run-most budget room =
       most (isSound st)
-      (most (leb budget 1024) (most (leb (bytesNeeded (st .plan) budget) room) (omega arith) (omega arith)) (omega arith)) (omega arith)
+      (most (leb budget 1024) (most (leb (roomOf (st .plan) budget) room) (omega arith) (omega arith)) (omega arith)) (omega arith)
 
-  pub run-zero : (budget room : ℕ) → runNumber st budget room ≡ 0 → Sound st × (budget ≤ 1024) × (bytesNeeded (st .plan) budget ≤ room)
+  pub run-zero : (budget room : ℕ) → runNumber st budget room ≡ 0 → Sound st × (budget ≤ 1024) × (roomOf (st .plan) budget ≤ room)
   unfolding runNumber runNumberIfSound
   run-zero budget room e =
-      let asked = bytesNeeded (st .plan) budget in
+      let asked = roomOf (st .plan) budget in
       let a = passes (isSound st) (omega arith) e in
       let b = passes (leb budget 1024) (omega arith) (a .1) in
       let c = passes (leb asked room) (omega arith) (b .1) in

@@ -15,16 +15,16 @@ use Rattle.words.specs.Laws.Flat.{bytes-flat}
 use Rattle.words.specs.Laws.Reading.{bytes-append, bytes-drop}
 use Rattle.plan.specs.Laws.Layout.{length-encode}
 use Rattle.machine.specs.Instant.{positionAt}
-use Rattle.machine.specs.Runs.{positionOf}
+use Rattle.machine.specs.Runs.{eventsMost, roomOf, positionOf}
 use Rattle.machine.specs.Laws.Lengths.{run-bytes, events-are-bytes}
 use Rattle.machine.specs.Laws.SoundTest.{sound-means}
-use Rattle.calls.specs.Calls.{writtenOver, writeNumber, writeOf, bufferOfWrite, bytesNeeded, runNumberIfSound, runNumber, ranState, ranEvents, runOf}
+use Rattle.calls.specs.Calls.{writtenOver, writeNumber, writeOf, bufferOfWrite, runNumberIfSound, runNumber, ranState, ranEvents, runOf}
 use Rattle.calls.specs.Calls.{bufferOfRun, positionNumber, positionedOf}
 use Rattle.calls.specs.Promises.Calls.{EveryNumber, Accepted, EveryBuffer, Declined}
 use Rattle.calls.specs.Proofs.CallNumbers.{accept-cases, figure-most, unsound-test, write-zero, run-zero}
 
 pub every-number : EveryNumber
-unfolding writeOf writeNumber runOf runNumber runNumberIfSound bytesNeeded positionedOf positionNumber
+unfolding writeOf writeNumber runOf runNumber runNumberIfSound roomOf eventsMost positionedOf positionNumber
 every-number st buffer =
     record {
       write-unsound = λ u. rw (unsound-test st u);
@@ -60,7 +60,7 @@ bytes-then number bytes buffer b c =
     accept-cases {A = List ℕ} (λ s. Bytes s) number (λ e. bytes-append b (bytes-drop (length bytes) c)) c
 
 pub every-buffer : EveryBuffer
-unfolding writeOf bufferOfWrite runOf bufferOfRun ranEvents bytesNeeded encode
+unfolding writeOf bufferOfWrite runOf bufferOfRun ranEvents roomOf eventsMost encode
 every-buffer st buffer =
     let room = length buffer in let size = length-encode (st .plan) in record {
       write-fits = figure-most (writeNumber st room) room (λ e. write-zero st room e .1);

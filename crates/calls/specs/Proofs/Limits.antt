@@ -15,6 +15,7 @@ use Rattle.plan.specs.Laws.Layout.{file-least, file-most}
 use Rattle.plan.specs.Laws.Parts.{offset-lt, length-lt, section-end, length-most, file-limits}
 use Rattle.plan.specs.Laws.View.{length-shown, start-shown}
 use Rattle.machine.specs.Instant.{positionAt, nextTickOf}
+use Rattle.machine.specs.Runs.{eventsMost, roomOf}
 use Rattle.machine.specs.Sound.{Sound}
 use Rattle.machine.specs.Status.{statusOf}
 use Rattle.machine.specs.Laws.Lengths.{run-bytes}
@@ -22,7 +23,7 @@ use Rattle.machine.specs.Laws.Positions.{position-size}
 use Rattle.machine.specs.Laws.Status.{number-most, integrator-most}
 use Rattle.machine.specs.declared.State.{State}
 use Rattle.machine.specs.declared.Engine.{Engine}
-use Rattle.calls.specs.Calls.{loadOf, writeNumber, writeOf, bytesNeeded, runNumber, ranState, ranEvents, runOf, positionNumber}
+use Rattle.calls.specs.Calls.{loadOf, writeNumber, writeOf, runNumber, ranState, ranEvents, runOf, positionNumber}
 use Rattle.calls.specs.Calls.{positionedOf}
 use Rattle.calls.specs.Limits.{RunLimits, AcceptedLimits, FileLimits, AnswerLimits}
 use Rattle.calls.specs.Promises.Limits.{LimitPromise}
@@ -60,7 +61,7 @@ module _ (st : State) where
   counts-by s = count-limits (st .plan) (s .plan .counts)
 
   run-limits : (engine : Engine) (budget : ℕ) (buffer : List ℕ) → RunLimits (runOf engine st budget buffer)
-  unfolding runOf statusOf bytesNeeded ranEvents
+  unfolding runOf statusOf roomOf eventsMost ranEvents
   run-limits engine budget buffer =
       let p = st .plan in let r = ranState engine st budget .run in let t = nextTickOf p r in
       let number = runNumber st budget (length buffer) in let tested = run-zero st budget (length buffer) in record {

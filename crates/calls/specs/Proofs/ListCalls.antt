@@ -8,6 +8,7 @@ use lib.ListN.{length, drop}
 use lib.Seq.{drop-append-seam}
 use borrow.Author.Tests.{eq-eqb}
 use Rattle.plan.specs.declared.Plan.{Plan}
+use Rattle.machine.specs.Runs.{eventsMost, roomOf}
 use Rattle.machine.specs.Sound.{SoundRunning}
 use Rattle.machine.specs.declared.Running.{Running}
 use Rattle.calls.specs.Calls.{writtenOver, runNumber, ranState, ranEvents, runOf, bufferOfRun}
@@ -18,7 +19,7 @@ use Rattle.calls.specs.Proofs.Schedule.{at}
 
 module _ (p : Plan) (r : Running) (ok : SoundRunning p r) where
   pub call-promise : (c : Call) → CallPromise p (at p r) c (answerOf (at p r) c) (bufferOf (at p r) c)
-  unfolding answerOf bufferOf runOf ranState bufferOfRun
+  unfolding answerOf bufferOf runOf ranState bufferOfRun roomOf eventsMost
   call-promise c =
       let numbers = every-number (at p r) (c .buffer) in
       record {

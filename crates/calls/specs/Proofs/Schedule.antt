@@ -3,21 +3,21 @@
 use mathlib.Core.Path.{_≡_, refl, ap, _∙_}
 use mathlib.Core.Bool.{Bool, true, false, cond}
 use mathlib.Core.List.{List, [], _∷_, _++_}
-use Prim.Native.Nat.{ℕ, _+_, _*_, _≤_}
+use Prim.Native.Nat.{ℕ, _+_, _≤_}
 use native.Mathlib.Omega.{arith}
 use lib.Dec.{leb, eqb}
 use lib.ListN.{length, take, drop, replicate, length-append, length-replicate}
 use lib.Seq.{take-append-seam}
 use borrow.Author.Tests.{leb-true, le-leb}
 use Rattle.plan.specs.declared.Plan.{Plan}
-use Rattle.machine.specs.Runs.{afterRun, eventsOfRun}
+use Rattle.machine.specs.Runs.{afterRun, eventsOfRun, eventsMost, roomOf}
 use Rattle.machine.specs.Sound.{SoundRunning, Sound}
 use Rattle.machine.specs.Laws.SoundTest.{sound-means}
 use Rattle.machine.specs.Laws.Runs.{afterBy, eventsBy, after-by, events-by, after-append, events-append, run-sound}
 use Rattle.machine.specs.declared.Running.{Running}
 use Rattle.machine.specs.declared.State.{State}
 use Rattle.machine.specs.declared.Engine.{Engine}
-use Rattle.calls.specs.Calls.{writtenOver, bytesNeeded, runNumberIfSound, runNumber, ranState, ranEvents, runOf, bufferOfRun}
+use Rattle.calls.specs.Calls.{writtenOver, runNumberIfSound, runNumber, ranState, ranEvents, runOf, bufferOfRun}
 use Rattle.calls.specs.Lists.{Call, answerOf, bufferOf, acceptedBudget, afterCalls, budgetSum, joinedBytes}
 
 -- a state of plan p
@@ -65,24 +65,24 @@ run-number st c ok = rw (sound-means st .1 ok)
 
 -- a smaller budget is accepted where a larger one is
 pub fed-less : (p : Plan) (c : Call) (b : ℕ) → b ≤ fed p c → fed p (record { engine = c .engine; budget = b; buffer = c .buffer }) ≡ b
-unfolding fed runNumberIfSound bytesNeeded
-fed-less p c b = go (leb (c .budget) 1024) (leb (c .budget * (p .counts .n + p .counts .m) * 12) (length (c .buffer))) refl refl
+unfolding fed runNumberIfSound roomOf
+fed-less p c b = go (leb (c .budget) 1024) (leb (roomOf p (c .budget)) (length (c .buffer))) refl refl
   where
-    zero-fed : b ≤ 0 → cond (eqb (cond (leb b 1024) (cond (leb (b * (p .counts .n + p .counts .m) * 12) (length (c .buffer))) 0 12) 11) 0) b 0 ≡ b
+    zero-fed : b ≤ 0 → cond (eqb (cond (leb b 1024) (cond (leb (roomOf p b) (length (c .buffer))) 0 12) 11) 0) b 0 ≡ b
     zero-fed h =
         let none : b ≡ 0 = omega arith in
-        rw (none, le-leb (0 * (p .counts .n + p .counts .m) * 12) (length (c .buffer)) (omega arith))
+        rw (none, le-leb (roomOf p 0) (length (c .buffer)) (omega arith))
 
-    go : (s t : Bool) → leb (c .budget) 1024 ≡ s → leb (c .budget * (p .counts .n + p .counts .m) * 12) (length (c .buffer)) ≡ t
+    go : (s t : Bool) → leb (c .budget) 1024 ≡ s → leb (roomOf p (c .budget)) (length (c .buffer)) ≡ t
         → b ≤ cond (eqb (cond s (cond t 0 12) 11) 0) (c .budget) 0
-        → cond (eqb (cond (leb b 1024) (cond (leb (b * (p .counts .n + p .counts .m) * 12) (length (c .buffer))) 0 12) 11) 0) b 0 ≡ b
+        → cond (eqb (cond (leb b 1024) (cond (leb (roomOf p b) (length (c .buffer))) 0 12) 11) 0) b 0 ≡ b
     go true true e f h =
         let small = leb-true (c .budget) 1024 e in
-        let room = leb-true (c .budget * (p .counts .n + p .counts .m) * 12) (length (c .buffer)) f in
-        rw (le-leb b 1024 (omega arith), le-leb (b * (p .counts .n + p .counts .m) * 12) (length (c .buffer)) (less room))
+        let room = leb-true (roomOf p (c .budget)) (length (c .buffer)) f in
+        rw (le-leb b 1024 (omega arith), le-leb (roomOf p b) (length (c .buffer)) (less room))
       where
-        less : c .budget * (p .counts .n + p .counts .m) * 12 ≤ length (c .buffer) → b * (p .counts .n + p .counts .m) * 12 ≤ length (c .buffer)
-        less room = omega (arith, native.Mathlib.Nat.mul-le-mul-right (p .counts .n + p .counts .m) h)
+        less : roomOf p (c .budget) ≤ length (c .buffer) → roomOf p b ≤ length (c .buffer)
+        less room = omega (arith, native.Mathlib.Nat.mul-le-mul-right (eventsMost p) h)
     go true false e f h = zero-fed h
     go false t e f h = zero-fed h
 

@@ -12,6 +12,7 @@ use Rattle.plan.specs.Laws.CountLimits.{CountLimits, count-limits}
 use Rattle.plan.specs.Laws.TestMeanings.{within-size}
 use Rattle.plan.specs.declared.Plan.{Plan}
 use Rattle.machine.specs.Due.{upperLevel, lowerLevel}
+use Rattle.machine.specs.Runs.{eventsMost, roomOf}
 use Rattle.machine.specs.Sound.{SoundRunning}
 use Rattle.machine.specs.Laws.BetweenLevels.{BetweenLevels}
 use Rattle.machine.specs.Laws.Levels.{upper-size, lower-size, inside-size, distance-least, distance-most, ticks-positive, ticks-most}
@@ -23,7 +24,6 @@ use Rattle.machine.specs.Laws.Sizes.{operands-most, value-size, difference-size
 use Rattle.machine.specs.Laws.Soundness.{tick-after}
 use Rattle.machine.specs.Laws.Status.{is-paused, tick-horizon, due-size}
 use Rattle.machine.specs.declared.Running.{Running}
-use Rattle.calls.specs.Calls.{bytesNeeded}
 use Rattle.calls.specs.Limits.{RateLimits, LevelLimits, IntegratorLimits, PrintedLimits, StateLimits}
 
 pub rate-limits : (p : Plan) (q u : List ℤ) → PlanRules p → ((i : ℕ) → i < p .counts .n → ∣ intAt q i ∣ ≤ M) → ((j : ℕ) → j < p .counts .m → ∣ intAt u j ∣ ≤ M)
@@ -54,8 +54,8 @@ level-limits p q i x s k a b =
     }
 
 -- the room that a run asks, of a plan that keeps the limits of its counts
-pub room-most : (p : Plan) → CountLimits p → (budget most : ℕ) → budget ≤ most → bytesNeeded p budget ≤ most * 480
-unfolding bytesNeeded
+pub room-most : (p : Plan) → CountLimits p → (budget most : ℕ) → budget ≤ most → roomOf p budget ≤ most * 480
+unfolding roomOf eventsMost
 room-most p c budget most h =
     let sources : p .counts .n + p .counts .m ≤ 40 = omega (arith, c) in
     omega (arith, mul-le-mul h sources)
@@ -91,7 +91,7 @@ module _ (p : Plan) (r : Running) (sound : SoundRunning p r) where
       }
 
   pub state-limits : StateLimits p r
-  unfolding bytesNeeded
+  unfolding roomOf eventsMost
   state-limits =
       let instants : r .clocks .instants ≤ 2000000000 = omega (arith, sound .instants, sound .clock, sound .plan .horizon) in record {
         rates = rate-limits p (r .q) (r .inputs) (sound .plan) (λ i h. sound .integrators i h .output)

@@ -2,7 +2,7 @@
 use mathlib.Core.Path.{_≡_, refl, sym, ap, subst, _∙_}
 use mathlib.Core.Bool.{true, false, true≢false}
 use mathlib.Core.List.{List, []}
-use Prim.Native.Nat.{ℕ, _+_, _-_, _*_, _≤_, _<_}
+use Prim.Native.Nat.{ℕ, _+_, _-_, _≤_, _<_}
 use native.Mathlib.Omega.{arith}
 use lib.IntN.{ℤ}
 use lib.ListN.{length, length-append}
@@ -14,7 +14,7 @@ use Rattle.plan.specs.declared.Counts.{Counts}
 use Rattle.plan.specs.declared.Plan.{Plan}
 use Rattle.machine.specs.Instant.{instant, eventsOf}
 use Rattle.machine.specs.Status.{isPaused, statusOf, runningPaused}
-use Rattle.machine.specs.Runs.{afterRun, eventsOfRun}
+use Rattle.machine.specs.Runs.{afterRun, eventsOfRun, eventsMost, roomOf}
 use Rattle.machine.specs.Sound.{SoundRunning, RunningWidths}
 use Rattle.machine.specs.Laws.Lengths.{instant-bytes}
 use Rattle.machine.specs.Laws.Runs.{run-stopped, run-taken}
@@ -75,10 +75,10 @@ module _ (p : Plan) (engine : Engine) (budget : ℕ) (first : Running) (buffer�
     pub bytes : putAt buffer end (eventsOfRun p engine (budget - taken) r) ≡ putAt buffer₀ 0 (eventsOfRun p engine budget first)
     pub ends : end + length (eventsOfRun p engine (budget - taken) r) ≡ length (eventsOfRun p engine budget first)
     pub same-size : length buffer ≡ length buffer₀
-    pub room : end + (budget - taken) * (p .counts .n + p .counts .m) * 12 ≤ length buffer
+    pub room : end + roomOf p (budget - taken) ≤ length buffer
 
   pub begun : {values : List ℤ} → RunningWidths first → SoundRunning p first
-      → budget * (p .counts .n + p .counts .m) * 12 ≤ length buffer₀
+      → roomOf p budget ≤ length buffer₀
       → values
       ≡ each (nodeStep (p .nodes .kinds) (p .nodes .a) (p .nodes .b) (p .nodes .lows) (p .nodes .highs) (p .counts .n + p .counts .m)) (λ _. true) (p .counts .k)
       (outputAndInputValues (p .counts .n) (p .counts .m) (first .q) (first .inputs))
@@ -117,6 +117,7 @@ module _ {p : Plan} {engine : Engine} {budget : ℕ} {first : Running} {buffer�
 
     pub instant-ready : {ranges reach : List ℕ} → ranges ≡ rangesOf p → reach ≡ reachTable p
         → InstantReady p ranges reach (ahead .tick) (ahead .due) r values end (length buffer)
+    unfolding roomOf
     instant-ready ranges-are reach-is =
         record {
           shaped = now .shaped;
@@ -131,7 +132,8 @@ module _ {p : Plan} {engine : Engine} {budget : ℕ} {first : Running} {buffer�
         }
 
     -- its events leave room for those of the instants after it
-    room-then : end + length (eventsOf p r) + (budget - (taken + 1)) * (p .counts .n + p .counts .m) * 12 ≤ length buffer
+    room-then : end + length (eventsOf p r) + roomOf p (budget - (taken + 1)) ≤ length buffer
+    unfolding roomOf eventsMost
     room-then = omega (arith, instant-bytes p r, rw left at (now .room))
 
     module _ {r' : Running} (taken-is : r' ≡ instant p engine r) where

@@ -7,6 +7,7 @@ use native.Mathlib.Omega.{arith}
 use lib.ListN.{length, drop, length-append}
 use borrow.Author.Tests.{eq-eqb, ne-eqb}
 use Rattle.machine.specs.Status.{statusNumber, statusOf, runningPaused}
+use Rattle.machine.specs.Runs.{eventsMost, roomOf}
 use Rattle.machine.specs.Sound.{Sound}
 use Rattle.machine.specs.Laws.Status.{zero-paused, paused-zero, paused-false, is-paused}
 use Rattle.machine.specs.declared.State.{State}
@@ -16,7 +17,7 @@ use Rattle.listingtext.specs.Lines.{linesOf, endLine, refusalLine}
 use Rattle.listingtext.specs.Printed.{Printed}
 use Rattle.listingtext.specs.Laws.Lines.{lines-before}
 use Rattle.listingtext.specs.Laws.Printing.{length-printed, then-text, in-part}
-use Rattle.calls.specs.Calls.{writtenOver, loadOf, bytesNeeded, ranState, ranEvents, runOf, bufferOfRun}
+use Rattle.calls.specs.Calls.{writtenOver, loadOf, ranState, ranEvents, runOf, bufferOfRun}
 use Rattle.calls.specs.Proofs.All.{every-promise}
 use Rattle.calls.specs.Proofs.StateLimits.{state-limits}
 use Rattle.calls.specs.declared.Loaded.{Loaded}
@@ -49,7 +50,7 @@ module _ (st : State) (ok : Sound st) (buffer : List ℕ) (room : 30720 ≤ leng
     (b : bytes ≡ bufferOfRun Lazy st 64 buffer) where
   -- it is accepted
   accepts : runOf Lazy st 64 buffer .number ≡ 0
-  unfolding bytesNeeded
+  unfolding roomOf eventsMost
   accepts = every-promise .every-number st buffer .run-accepted Lazy 64 ok (omega arith) (omega (arith, state-limits (st .plan) (st .run) ok .listing))
 
   abbrev events : List ℕ

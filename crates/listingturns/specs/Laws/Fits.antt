@@ -21,7 +21,7 @@ use Rattle.listingtext.specs.Decimal.{signedDecimal}
 use Rattle.listingtext.specs.Laws.Decimals.{decimal-one, length-decimal, decimal-digits, decimal-first, decimal-read}
 use Rattle.listingtext.specs.Laws.Sizes.{lines-most, end-most, refusal-most}
 use Rattle.listingtext.specs.Lines.{refusalLine}
-use Rattle.calls.specs.Calls.{loadOf, bytesNeeded, ranState, ranEvents}
+use Rattle.calls.specs.Calls.{loadOf, ranState, ranEvents}
 use Rattle.calls.specs.Proofs.Limits.{limits}
 use Rattle.calls.specs.Proofs.StateLimits.{state-limits}
 use Rattle.listingturns.specs.Listing.{eventLines, endLineOf}
@@ -32,7 +32,6 @@ use Rattle.listingturns.specs.Laws.Joined.{event-list, listing-stops, tu
 module _ (p : Plan) (r : Running) (ok : SoundRunning p r) where
   -- at most 2,560 events of 12 bytes
   pub bytes-most : length (eventsOfRun p Lazy 64 r) ≤ 30720
-  unfolding bytesNeeded
   bytes-most = omega (arith, state-limits p r ok .bytes Lazy 64, state-limits p r ok .listing)
 
   pub lines-fit : length (eventLines (eventsOfRun p Lazy 64 r)) ≤ 66560

@@ -2,7 +2,7 @@
 use mathlib.Core.Path.{_≡_, sym, _∙_}
 use mathlib.Core.Bool.{true, false}
 use mathlib.Core.List.{List}
-use Prim.Native.Nat.{ℕ, _+_, _-_, _*_, _≤_, _<_}
+use Prim.Native.Nat.{ℕ, _-_, _≤_, _<_}
 use native.Mathlib.Nat.{zero-add}
 use native.Mathlib.Omega.{arith}
 use lib.IntN.{ℤ, pos, _+ℤ_, _*ℤ_}
@@ -22,14 +22,14 @@ use Rattle.machine.specs.Laws.SoundTest.{sound-means}
 use Rattle.machine.specs.declared.State.{State}
 use Rattle.machine.specs.Instant.{positionAt}
 use Rattle.machine.specs.Status.{statusNumber, statusIntegrator}
-use Rattle.machine.specs.Runs.{eventsOfRun, positionOf}
+use Rattle.machine.specs.Runs.{eventsOfRun, roomOf, positionOf}
 use Rattle.machine.specs.declared.Engine.{Engine}
 use Rattle.timing.specs.Ticks.{PositionReady}
 use Rattle.timing.specs.Laws.Statuses.{ready-at}
 use Rattle.steps.specs.Events.{putAt}
 use Rattle.engine.specs.RunAnswer.{endedOf, RunReady}
 use Rattle.engine.specs.declared.runs.Ended.{Ended}
-use Rattle.calls.specs.Calls.{loadOf, writeNumber, writeOf, bufferOfWrite, bytesNeeded, runNumberIfSound, runNumber, ranState, ranEvents}
+use Rattle.calls.specs.Calls.{loadOf, writeNumber, writeOf, bufferOfWrite, runNumberIfSound, runNumber, ranState, ranEvents}
 use Rattle.calls.specs.Calls.{runOf, bufferOfRun, positionNumber, positionedOf}
 use Rattle.calls.specs.declared.Loaded.{Loaded}
 use Rattle.calls.specs.declared.Written.{Written}
@@ -85,13 +85,13 @@ module _ (engine : Engine) (st : State) (budget : ℕ) (buffer : List ℕ) where
     run-above h = let above = lt-leb budget 1024 h in (rw (yes, above), rw (yes, above))
 
     module _ (few : budget ≤ 1024) where
-      pub run-short : length buffer < budget * (st .plan .counts .n + st .plan .counts .m) * 12 → RanAs (declinedWith 12 st) buffer
-      unfolding runOf bufferOfRun runNumber runNumberIfSound bytesNeeded
+      pub run-short : length buffer < roomOf (st .plan) budget → RanAs (declinedWith 12 st) buffer
+      unfolding runOf bufferOfRun runNumber runNumberIfSound
       run-short h =
-          let within = le-leb budget 1024 few in let short = lt-leb (budget * (st .plan .counts .n + st .plan .counts .m) * 12) (length buffer) h in
+          let within = le-leb budget 1024 few in let short = lt-leb (roomOf (st .plan) budget) (length buffer) h in
           (rw (yes, within, short), rw (yes, within, short))
 
-      module _ (room : budget * (st .plan .counts .n + st .plan .counts .m) * 12 ≤ length buffer) where
+      module _ (room : roomOf (st .plan) budget ≤ length buffer) where
         pub run-ready : RunReady st budget (length buffer)
         run-ready = record { sound = sound-means st .0 yes; room = room }
 
@@ -106,10 +106,10 @@ module _ (engine : Engine) (st : State) (budget : ℕ) (buffer : List ℕ) where
               written = ended .written;
               state = record { plan = st .plan; run = ended .run };
             }) after
-        unfolding runOf bufferOfRun runNumber runNumberIfSound bytesNeeded ranState ranEvents endedOf putAt
+        unfolding runOf bufferOfRun runNumber runNumberIfSound ranState ranEvents endedOf putAt
         run-accepted e s i a =
             let within = le-leb budget 1024 few in
-            let enough = le-leb (budget * (st .plan .counts .n + st .plan .counts .m) * 12) (length buffer) room in
+            let enough = le-leb (roomOf (st .plan) budget) (length buffer) room in
             (rw (s, i, e, yes, within, enough), a ∙ rw (yes, within, enough, zero-add))
 
 -- ---- position call

@@ -13,7 +13,7 @@ use Rattle.integers.specs.Parts.{∣_∣}
 use Rattle.bitset.specs.Mask.{has, maskOf}
 use Rattle.bitset.specs.Laws.Bits.{has-high, maskOf-lt, has-maskOf}
 use Rattle.bitset.specs.Laws.Counts.{countOf-le}
-use Rattle.plan.specs.Numbers.{M}
+use Rattle.plan.specs.Numbers.{M, eventBytes}
 use Rattle.plan.specs.Lists.{intAt, joined}
 use Rattle.plan.specs.Rules.{PlanRules}
 use Rattle.plan.specs.Laws.CountLimits.{count-limits}
@@ -21,6 +21,7 @@ use Rattle.plan.specs.declared.Plan.{Plan}
 use Rattle.machine.specs.Values.{valueWith}
 use Rattle.machine.specs.Reach.{changes}
 use Rattle.machine.specs.Instant.{bytesOfEvent, eventsAt}
+use Rattle.machine.specs.Runs.{eventsMost}
 use Rattle.machine.specs.Laws.EventWords.{length-events}
 use Rattle.steps.specs.Events.{eventsIn, EventsReady}
 
@@ -58,8 +59,9 @@ module _ (p : Plan) (rules : PlanRules p) (d : List ℕ) (t : ℕ) (q u values :
       written i = cond (has changed i) (bytesOfEvent t i (intAt values i)) []
 
   -- writing them asks for room and for values of their size
-  pub events-ready : (at size : ℕ) → at + (p .counts .n + p .counts .m) * 12 ≤ size → ((i : ℕ) → i < p .counts .n + p .counts .m → ∣ intAt values i ∣ ≤ M)
+  pub events-ready : (at size : ℕ) → at + eventsMost p * eventBytes ≤ size → ((i : ℕ) → i < p .counts .n + p .counts .m → ∣ intAt values i ∣ ≤ M)
       → EventsReady t changed values at size
+  unfolding eventsMost
   events-ready at size room sized =
       record {
         room = omega (arith, ap length events-are, length-events p d t q u, countOf-le (changes p d t) (p .counts .n + p .counts .m));

@@ -2,15 +2,15 @@
 use mathlib.Core.Path.{_≡_, sym, _∙_}
 use mathlib.Core.Bool.{true}
 use native.Mathlib.Omega.{arith}
-use Prim.Native.Nat.{_+_, _*_, _≤_}
+use Prim.Native.Nat.{_≤_}
 use denote.Ref.{now}
 use borrow.Author.Needs.{needs}
 use borrow.Author.Tests.{not-true, not-false}
 use Rattle.plan.specs.Laws.CountLimits.{CountLimits, count-limits}
+use Rattle.machine.specs.Runs.{eventsMost, roomOf}
 use Rattle.machine.specs.SoundTest.{isSound}
 use Rattle.machine.specs.Laws.SoundTest.{sound-means}
 use Rattle.machine.specs.declared.State.{State}
-use Rattle.calls.specs.Calls.{bytesNeeded}
 use Rattle.calls.specs.Proofs.StateLimits.{room-most}
 use Rattle.simulator.specs.Laws.Answers.{run-unsound, run-above, run-short, run-ready, run-accepted}
 use Rattle.simulator.proofs.runs.run_by.Statement.{statement}
@@ -49,29 +49,32 @@ returns-2 c =
     (c .declined2 .ensures ∙ answers .0, answers .1)
 
 -- ---- where the budget is within its limit
-room-fits : (c : tie.Else2) → let a = c .before .before .before .before .args in a .budget * (a .state .plan .counts .n + a .state .plan .counts .m) * 12 ≤ 491520
-unfolding bytesNeeded
+room-fits : (c : tie.Else2) → let a = c .before .before .before .before .args in roomOf (a .state .plan) (a .budget) ≤ 491520
 room-fits c = let e = c .before in room-most (state e .plan) (limits e) _ 1024 (c .if2 .left)
 
 add-needed : tie.Need-add-needed
 add-needed c = let limits = limits (c .before .before) in omega (arith, limits .n, limits .m)
 
 mul-needed : tie.Need-mul-needed
+unfolding roomOf eventsMost
 mul-needed c = omega (arith, room-fits (c .before))
 
 mul-needed-2 : tie.Need-mul-needed-2
+unfolding roomOf eventsMost
 mul-needed-2 c = omega (arith, room-fits (c .before))
 
 declined-requires-3 : tie.Need-declined-requires-3
 declined-requires-3 c κs = search needs
 
 returns-3 : tie.Need-returns-3
+unfolding roomOf eventsMost
 returns-3 c =
     let e = c .before .before .before in
     let answers = run-short _ _ _ _ (sound (e .before)) (e .if2 .left) (c .before .if3 .taken) in
     (c .declined3 .ensures ∙ answers .0, answers .1)
 
 run-requires : tie.Need-run-requires
+unfolding roomOf eventsMost
 run-requires c κs =
     let e = c .before .before .before in
     let a = e .before .before .before .before .args in
@@ -87,6 +90,7 @@ same-length : tie.Need-same-length
 same-length c = search needs
 
 returns-4 : tie.Need-returns-4
+unfolding roomOf eventsMost
 returns-4 c =
     let integrator = c .before .before in
     let number = integrator .before in
