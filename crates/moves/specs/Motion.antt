@@ -3,14 +3,14 @@ use mathlib.Core.Path.{_≡_}
 use mathlib.Core.Bool.{true}
 use mathlib.Core.List.{List}
 use Prim.Native.Nat.{ℕ, _+_, _-_, _<_}
-use lib.IntN.{ℤ, pos, _+ℤ_, _-ℤ_, _*ℤ_}
+use lib.IntN.{ℤ, pos, _+ℤ_, _*ℤ_}
 use lib.ListN.{set}
 use Rattle.bitset.specs.Mask.{has}
 use Rattle.plan.specs.Numbers.{mostIntegrators}
 use Rattle.plan.specs.Lists.{natAt, intAt}
 use Rattle.machine.specs.Due.{dueTick}
 use Rattle.rates.specs.Links.{rangeRate, RateReady}
-use Rattle.timing.specs.Ticks.{DueReady, PositionReady}
+use Rattle.timing.specs.Ticks.{upperIn, lowerIn, LevelReady, DueReady, PositionReady}
 
 -- positions, slopes, last-moved ticks and due ticks
 pub record Motion : Type 0 where
@@ -31,7 +31,7 @@ module _ (quanta : List ℤ) (sources : List ℕ) (coefficients : List ℤ) (ran
   slopeOf i = rangeRate sources coefficients values (natAt ranges i) (natAt ranges (i + 1))
 
   unfoldable pub dueFrom : ℕ → ℤ → ℕ
-  dueFrom i xThen = dueTick t xThen (intAt values i +ℤ intAt quanta i) (intAt values i -ℤ intAt quanta i) (slopeOf i)
+  dueFrom i xThen = dueTick t xThen (upperIn values quanta i) (lowerIn values quanta i) (slopeOf i)
 
   unfoldable pub afterMove : ℕ → Motion → Motion
   afterMove i m =
@@ -42,7 +42,8 @@ module _ (quanta : List ℤ) (sources : List ℕ) (coefficients : List ℤ) (ran
     pub used : i < mostIntegrators
     pub rated : RateReady sources coefficients values (natAt ranges i) (natAt ranges (i + 1))
     pub position : PositionReady (intAt (m .x) i) (intAt (m .s) i) (natAt (m .l) i) t
-    pub due : DueReady t (positionThen i m) (intAt values i) (intAt quanta i) (slopeOf i)
+    pub level : LevelReady (intAt values i) (intAt quanta i)
+    pub due : DueReady t (positionThen i m) (upperIn values quanta i) (lowerIn values quanta i) (slopeOf i)
 
   abbrev pub AllMovable : ℕ → Motion → Type 0
   AllMovable moved m = (i : ℕ) → has moved i ≡ true → Movable i m

@@ -37,7 +37,10 @@ fn move_one<'a>(
     x[i] = x_then;
     s[i] = slope;
     l[i] = t;
-    d[i] = due_tick(t, x_then, values[i], quanta[i], slope);
+    let output = values[i];
+    let upper = output + quanta[i];
+    let lower = output - quanta[i];
+    d[i] = due_tick(t, x_then, upper, lower, slope);
 }
 
 // The integrators of a mask, lowest first.

@@ -2,8 +2,8 @@
 -- `soundness`, Laws/RunningTests.
 use mathlib.Core.Bool.{Bool, _&&_}
 use mathlib.Core.List.{List}
-use Prim.Native.Nat.{ℕ, _≤_, _<_}
-use lib.IntN.{ℤ, pos, _+ℤ_, _-ℤ_}
+use Prim.Native.Nat.{ℕ, _*_, _≤_, _<_}
+use lib.IntN.{ℤ, pos, _-ℤ_}
 use lib.Signed.{ltZ, _≤ℤ_}
 use lib.Dec.{leb, ltb, eqb}
 use Rattle.integers.specs.Parts.{∣_∣}
@@ -11,22 +11,26 @@ use Rattle.plan.specs.Numbers.{M, largestHorizon}
 use Rattle.plan.specs.Lists.{intAt}
 use Rattle.machine.specs.Values.{rateLimit}
 use Rattle.machine.specs.Due.{dueTick}
+use Rattle.timing.specs.Ticks.{upperIn, lowerIn, LevelReady}
 
--- all but "|q| ≤ M" of `integratorSound`, for an integrator whose links make `rate`
-unfoldable pub figuresSound : (quantum rate : ℤ) (clock : ℕ) (x q s : ℤ) (l d : ℕ) → Bool
-figuresSound quantum rate clock x q s l d =
+-- all but "|q| ≤ M" of `integratorSound`, for an integrator with these levels, whose links make `rate`
+unfoldable pub figuresSound : (upper lower rate : ℤ) (clock : ℕ) (x s : ℤ) (l d : ℕ) → Bool
+figuresSound upper lower rate clock x s l d =
     leb l clock && ltb clock d
-    && ltZ (q -ℤ quantum) x && ltZ x (q +ℤ quantum)
+    && ltZ lower x && ltZ x upper
     && eqb ∣ s -ℤ rate ∣ 0
-    && eqb d (dueTick l x (q +ℤ quantum) (q -ℤ quantum) s)
+    && eqb d (dueTick l x upper lower s)
 
 -- what the test asks
-pub record FiguresReady (quantum rate : ℤ) (clock : ℕ) (q : ℤ) : Type 0 where
+pub record FiguresReady (upper lower rate : ℤ) (clock : ℕ) : Type 0 where
   pub early : clock ≤ largestHorizon
-  pub least : pos 1 ≤ℤ quantum
-  pub most : quantum ≤ℤ pos M
+  pub apart : (upper -ℤ lower) ≤ℤ pos (2 * M)
   pub slow : ∣ rate ∣ < rateLimit
-  pub output : ∣ q ∣ ≤ M
+
+-- of integrator i: its levels, and the test by them
+pub record IntegratorReady (quanta rates : List ℤ) (clock : ℕ) (q : List ℤ) (i : ℕ) : Type 0 where
+  pub level : LevelReady (intAt q i) (intAt quanta i)
+  pub figures : FiguresReady (upperIn q quanta i) (lowerIn q quanta i) (intAt rates i) clock
 
 abbrev pub IntegratorsReady : (n : ℕ) (quanta rates : List ℤ) (clock : ℕ) (q : List ℤ) → Type 0
-IntegratorsReady n quanta rates clock q = (i : ℕ) → i < n → FiguresReady (intAt quanta i) (intAt rates i) clock (intAt q i)
+IntegratorsReady n quanta rates clock q = (i : ℕ) → i < n → IntegratorReady quanta rates clock q i

@@ -3,24 +3,25 @@ ghost use mathlib.Core.Path.{_≡_};
 ghost use Prim.Native.Nat.{_≤_};
 ghost use Rattle.plan.specs.Numbers.{mostIntegrators};
 ghost use Rattle.plan.specs.Lists.{natAt, intAt, every};
+ghost use Rattle.timing.specs.Ticks.{upperIn, lowerIn};
 ghost use Rattle.soundintegrators.specs.Figures.{figuresSound, FiguresReady, IntegratorsReady};
 use plan::INTEGRATORS;
 use timing::due_tick;
 
-// "l ≤ c < d; .. |x−q| < D; s and d keep Rate and Due", of one integrator whose links make `rate`. x may be any number of 64 bits, so it is compared with
-// the levels and nothing is taken from it.
+// "l ≤ c < d; .. |x−q| < D; s and d keep Rate and Due", of one integrator with these levels, whose links make `rate`. x may be any number of 64 bits, so it
+// is compared with the levels and nothing is taken from it.
 fn figures_sound(
-    quantum: i64,
+    upper: i64,
+    lower: i64,
     rate: i64,
     clock: u32,
     x: i64,
-    q: i64,
     s: i64,
     l: u32,
     d: u32,
 ) -> bool
-    requires { ⌜ FiguresReady quantum rate clock q ⌝ }
-    ensures { λ r. ⌜ r ≡ figuresSound quantum rate clock x q s l d ⌝ }
+    requires { ⌜ FiguresReady upper lower rate clock ⌝ }
+    ensures { λ r. ⌜ r ≡ figuresSound upper lower rate clock x s l d ⌝ }
 {
     if l > clock {
         return false;
@@ -28,16 +29,16 @@ fn figures_sound(
     if d <= clock {
         return false;
     }
-    if x <= q - quantum {
+    if x <= lower {
         return false;
     }
-    if x >= q + quantum {
+    if x >= upper {
         return false;
     }
     if s != rate {
         return false;
     }
-    d == due_tick(l, x, q, quantum, s)
+    d == due_tick(l, x, upper, lower, s)
 }
 
 // Of each integrator.
@@ -53,12 +54,15 @@ pub fn integrators_sound<'a>(
     d: &'a [u32; INTEGRATORS],
 ) -> bool
     requires { ⌜ (n ≤ mostIntegrators) × IntegratorsReady n (now quanta) (now rates) clock (now q) ⌝ }
-    ensures { λ r. ⌜ r ≡ every (λ i. figuresSound (intAt (now (quanta .entry)) i) (intAt (now (rates .entry)) i) clock (intAt (now (x .entry)) i)
-        (intAt (now (q .entry)) i) (intAt (now (s .entry)) i) (natAt (now (l .entry)) i) (natAt (now (d .entry)) i)) n ⌝ }
+    ensures { λ r. ⌜ r ≡ every (λ i. figuresSound (upperIn (now (q .entry)) (now (quanta .entry)) i) (lowerIn (now (q .entry)) (now (quanta .entry)) i)
+        (intAt (now (rates .entry)) i) clock (intAt (now (x .entry)) i) (intAt (now (s .entry)) i) (natAt (now (l .entry)) i) (natAt (now (d .entry)) i)) n ⌝ }
 {
     let mut i: usize = 0;
     while i < n {
-        if !figures_sound(quanta[i], rates[i], clock, x[i], q[i], s[i], l[i], d[i]) {
+        let output = q[i];
+        let upper = output + quanta[i];
+        let lower = output - quanta[i];
+        if !figures_sound(upper, lower, rates[i], clock, x[i], s[i], l[i], d[i]) {
             return false;
         }
         i += 1;

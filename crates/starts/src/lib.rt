@@ -1,12 +1,12 @@
 // "Start: x = q = start, l = c = 0, slopes and dues by rule, counts 0." The parts come from `values`, `rates` and `timing`.
 ghost use mathlib.Core.Path.{_≡_};
 ghost use Prim.Native.Nat.{_≤_};
-ghost use lib.IntN.{_+ℤ_, _-ℤ_};
 ghost use Rattle.plan.specs.Numbers.{mostIntegrators};
 ghost use Rattle.plan.specs.Rules.{PlanRules};
 ghost use Rattle.plan.specs.Lists.{intAt, row};
 ghost use Rattle.machine.specs.Due.{dueTick};
 ghost use Rattle.machine.specs.Start.{startOf};
+ghost use Rattle.timing.specs.Ticks.{upperIn, lowerIn};
 ghost use Rattle.starts.specs.Starting.{StartsReady};
 use machine::Clocks;
 use machine::Running;
@@ -27,14 +27,16 @@ fn start_dues<'a>(
 ) -> [u32; INTEGRATORS]
     requires { ⌜ (n ≤ mostIntegrators) × StartsReady n (now starts) (now quanta) (now slopes) ⌝ }
     ensures { λ r. ⌜ r ≡ row 0 mostIntegrators n (λ i. dueTick 0 (intAt (now (starts .entry)) i)
-        (intAt (now (starts .entry)) i +ℤ intAt (now (quanta .entry)) i) (intAt (now (starts .entry)) i -ℤ intAt (now (quanta .entry)) i)
+        (upperIn (now (starts .entry)) (now (quanta .entry)) i) (lowerIn (now (starts .entry)) (now (quanta .entry)) i)
         (intAt (now (slopes .entry)) i)) ⌝ }
 {
     let mut dues: [u32; INTEGRATORS] = [0; INTEGRATORS];
     let mut i: usize = 0;
     while i < n {
         let start = starts[i];
-        dues[i] = due_tick(0, start, start, quanta[i], slopes[i]);
+        let upper = start + quanta[i];
+        let lower = start - quanta[i];
+        dues[i] = due_tick(0, start, upper, lower, slopes[i]);
         i += 1;
     }
     dues

@@ -2,7 +2,7 @@
 ghost use mathlib.Core.Path.{_≡_};
 ghost use mathlib.Core.Bool.{cond};
 ghost use Prim.Native.Nat.{_+_, _-_, _≤_, _<_, min};
-ghost use lib.IntN.{pos, _+ℤ_, _-ℤ_, _*ℤ_};
+ghost use lib.IntN.{pos, _+ℤ_, _*ℤ_};
 ghost use lib.Dec.{ltb};
 ghost use Rattle.plan.specs.Numbers.{never, mostIntegrators, mostCommands};
 ghost use Rattle.plan.specs.Lists.{natAt, firstFrom};
@@ -23,13 +23,12 @@ fn tick_at(from: u32, distance: i64, speed: i64) -> u32
     (from as u64 + ticks) as u32
 }
 
-// "For s > 0, d−l is the least T ≥ 1 with x+s×T ≥ q+D; for s < 0 the least T ≥ 1 with x+s×T ≤ q−D; for s = 0 d is never."
-pub fn due_tick(from: u32, x: i64, q: i64, quantum: i64, s: i64) -> u32
-    requires { ⌜ DueReady from x q quantum s ⌝ }
-    ensures { λ r. ⌜ r ≡ dueTick from x (q +ℤ quantum) (q -ℤ quantum) s ⌝ }
+// "For s > 0, d−l is the least T ≥ 1 with x+s×T ≥ q+D; for s < 0 the least T ≥ 1 with x+s×T ≤ q−D; for s = 0 d is never." The caller works out the two
+// levels.
+pub fn due_tick(from: u32, x: i64, upper: i64, lower: i64, s: i64) -> u32
+    requires { ⌜ DueReady from x upper lower s ⌝ }
+    ensures { λ r. ⌜ r ≡ dueTick from x upper lower s ⌝ }
 {
-    let upper = q + quantum;
-    let lower = q - quantum;
     if s > 0 {
         return tick_at(from, upper - x, s);
     }

@@ -6,6 +6,7 @@ use mir.Val.{SFits}
 use mir.Facts.{toZ-ofZ}
 use Rattle.integers.specs.Laws.Signed64.{rd}
 use Rattle.plan.specs.Lists.{intAt}
+use Rattle.timing.specs.Laws.Arithmetic.{upper-made, lower-made, upper-read, lower-read}
 use Rattle.moves.specs.Motion.{motion, positionThen, slopeOf}
 use Rattle.moves.specs.Laws.Moving.{move-stores}
 use Rattle.moves.proofs.move_one.Statement.{statement}
@@ -85,24 +86,44 @@ mul-l c = search needs
 element-write-l : tie.Need-element-write-l
 element-write-l c = search needs
 
-mul-due-tick : tie.Need-mul-due-tick
-mul-due-tick c = search needs
+mul-output : tie.Need-mul-output
+mul-output c = search needs
 
-element-copy-out-due-tick : tie.Need-element-copy-out-due-tick
-element-copy-out-due-tick c = search needs
+element-copy-out-output : tie.Need-element-copy-out-output
+element-copy-out-output c = search needs
 
-mul-due-tick-2 : tie.Need-mul-due-tick-2
-mul-due-tick-2 c = search needs
+mul-upper : tie.Need-mul-upper
+mul-upper c = search needs
 
-element-copy-out-due-tick-2 : tie.Need-element-copy-out-due-tick-2
-element-copy-out-due-tick-2 c = search needs
+element-copy-out-upper : tie.Need-element-copy-out-upper
+element-copy-out-upper c = search needs
+
+add-upper : tie.Need-add-upper
+add-upper c =
+    let o = c .before in let s = o .before .before .before .before .before .before .before .before in
+    upper-made (s .pre .level) (sfits-of (o .output .given)) (sfits-of (c .upper .given))
+
+mul-lower : tie.Need-mul-lower
+mul-lower c = search needs
+
+element-copy-out-lower : tie.Need-element-copy-out-lower
+element-copy-out-lower c = search needs
+
+sub-lower : tie.Need-sub-lower
+sub-lower c =
+    let o = c .before .before in let s = o .before .before .before .before .before .before .before .before in
+    lower-made (s .pre .level) (sfits-of (o .output .given)) (sfits-of (c .lower .given))
 
 due-tick-requires : tie.Need-due-tick-requires
 due-tick-requires c κs =
-    let r = c .before .before in let p = r .before .before .before in let s = p .before .before .before .before in let a = s .args in
-    let output : SFits w64 (intAt (a .values .now) (a .i)) = sfits-of (c .before .due-tick-arg .given) in
-    let quantum : SFits w64 (intAt (a .quanta .now) (a .i)) = sfits-of (c .due-tick-arg2 .given) in
-    rw (x-then p, slope r, toZ-ofZ output, toZ-ofZ quantum) (s .pre .due)
+    let u = c .before in let o = u .before in let r = o .before in let p = r .before .before .before in
+    let s = p .before .before .before .before in let output = sfits-of (o .output .given) in
+    rw (
+      x-then p,
+      slope r,
+      upper-read (s .pre .level) output (sfits-of (u .upper .given)),
+      lower-read (s .pre .level) output (sfits-of (c .lower .given)),
+    ) (s .pre .due)
 
 mul-d : tie.Need-mul-d
 mul-d c = search needs
@@ -112,12 +133,14 @@ element-write-d c = search needs
 
 returns : tie.Need-returns
 returns c =
-    let r = c .before .before .before in let p = r .before .before .before in let a = p .before .before .before .before .args in
-    let output : SFits w64 (intAt (a .values .now) (a .i)) = sfits-of (c .before .before .due-tick-arg .given) in
-    let quantum : SFits w64 (intAt (a .quanta .now) (a .i)) = sfits-of (c .before .due-tick-arg2 .given) in
+    let l = c .before in let u = l .before in let o = u .before in let r = o .before in let p = r .before .before .before in
+    let s = p .before .before .before .before in let a = s .args in let output = sfits-of (o .output .given) in
     move-stores (a .quanta .now) (a .sources .now) (a .coefficients .now) (a .ranges .now) (a .t) (a .values .now) (a .i)
     (motion (a .x .now) (a .s .now) (a .l .now) (a .d .now)) (x-then p) (slope r)
-    (rw (toZ-ofZ output, toZ-ofZ quantum) at (c .due-tick .ensures))
+    (rw (
+      upper-read (s .pre .level) output (sfits-of (u .upper .given)),
+      lower-read (s .pre .level) output (sfits-of (l .lower .given)),
+    ) at (c .due-tick .ensures))
 
 pub move-one-spec : {M : Type 1} → statement M
 move-one-spec =
@@ -142,10 +165,14 @@ move-one-spec =
     element-set-from-slope
     mul-l
     element-write-l
-    mul-due-tick
-    element-copy-out-due-tick
-    mul-due-tick-2
-    element-copy-out-due-tick-2
+    mul-output
+    element-copy-out-output
+    mul-upper
+    element-copy-out-upper
+    add-upper
+    mul-lower
+    element-copy-out-lower
+    sub-lower
     due-tick-requires
     mul-d
     element-write-d

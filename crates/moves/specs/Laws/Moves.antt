@@ -25,7 +25,7 @@ use Rattle.machine.specs.declared.Running.{Running}
 use Rattle.rates.specs.Links.{rangesOf}
 use Rattle.rates.specs.Laws.OwnRange.{own-rated, own-rate}
 use Rattle.timing.specs.Laws.Statuses.{ready-at}
-use Rattle.timing.specs.Laws.Dues.{due-ready-then, due-is-then}
+use Rattle.timing.specs.Laws.Dues.{level-ready-then, due-ready-then, due-is-then}
 use Rattle.moves.specs.Motion.{Motion, motion, positionThen, slopeOf, dueFrom, afterMove, AllMovable}
 use Rattle.moves.specs.Laws.Moving.{Figures, figuresAt, Full, movedFigures, move-full, move-own, move-others}
 use Rattle.steps.specs.Laws.MaskLoops.{Stores, Visited, visited, row-is}
@@ -110,6 +110,7 @@ module _ (p : Plan) (r : Running) (sound : SoundRunning p r) (t : ℕ) (takes : 
         used = omega (arith, limits .n);
         rated = own-rated p (sound .plan) values sized i h;
         position = ready-at p r sound t (omega (arith, takes .after)) i h (takes .least i h);
+        level = rw (output i h) (level-ready-then p r sound t takes i h);
         due = rw (position-then i, output i h, slope i h) (due-ready-then p r sound t takes i h);
       }
 

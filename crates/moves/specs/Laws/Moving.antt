@@ -5,7 +5,7 @@ use mathlib.Core.Bool.{not, Bool·not-not, and-eq-true-iff}
 use mathlib.Core.List.{List}
 use Prim.Native.Nat.{ℕ, _-_, _^_, _<_}
 use native.Mathlib.Omega.{arith}
-use lib.IntN.{ℤ, pos, _+ℤ_, _-ℤ_, _*ℤ_}
+use lib.IntN.{ℤ, pos, _+ℤ_, _*ℤ_}
 use lib.Dec.{eqb}
 use lib.ListN.{length, set, length-set}
 use lib.Seq.{getD-set-same, getD-set-other}
@@ -14,6 +14,7 @@ use Rattle.bitset.specs.Mask.{has, lowestOf, restOf}
 use Rattle.bitset.specs.Laws.Visiting.{has-lowest, has-rest}
 use Rattle.plan.specs.Lists.{natAt, intAt}
 use Rattle.machine.specs.Due.{dueTick}
+use Rattle.timing.specs.Ticks.{upperIn, lowerIn}
 use Rattle.moves.specs.Motion.{Motion, motion, positionThen, slopeOf, dueFrom, afterMove, Movable, AllMovable}
 
 -- the figures of one integrator
@@ -52,7 +53,7 @@ module _ (quanta : List ℤ) (sources : List ℕ) (coefficients : List ℤ) (ran
   pub move-stores : (j : ℕ) (m : Motion) {xThen slope : ℤ} {due : ℕ}
       → xThen ≡ positionThen quanta sources coefficients ranges t values j m
       → slope ≡ slopeOf quanta sources coefficients ranges t values j
-      → due ≡ dueTick t xThen (intAt values j +ℤ intAt quanta j) (intAt values j -ℤ intAt quanta j) slope
+      → due ≡ dueTick t xThen (upperIn values quanta j) (lowerIn values quanta j) slope
       → motion (set (m .x) j xThen) (set (m .s) j slope) (set (m .l) j t) (set (m .d) j due) ≡ move j m
   unfolding afterMove dueFrom
   move-stores j m p s d = rw (d, p, s)
@@ -101,5 +102,6 @@ module _ (quanta : List ℤ) (sources : List ℕ) (coefficients : List ℤ) (ran
           used = old .used;
           rated = old .rated;
           position = rw (kept-x, kept-s, kept-l) (old .position);
+          level = old .level;
           due = rw (kept-x, kept-s, kept-l) (old .due);
         }

@@ -5,20 +5,19 @@ use mathlib.Core.Bool.{Bool, true, false}
 use mathlib.Core.List.{List}
 use mathlib.Core.Path.{_≡_, refl, ap}
 use mir.Facts.{toZ-ofZ}
-use Rattle.integers.specs.Laws.Signed64.{rd-add, rd-sub}
 use Rattle.soundintegrators.specs.Figures.{figuresSound}
 use Rattle.unusedentries.specs.Laws.EarlyReturns.{passes, Passed, begin, next, passed-at, fails, last}
-use Rattle.soundintegrators.specs.Laws.OneIntegrator.{figureClauses, figure-tests, same-rate, other-rate, lower-fits, upper-fits}
+use Rattle.soundintegrators.specs.Laws.OneIntegrator.{figureClauses, figure-tests, same-rate, other-rate}
 use Rattle.soundintegrators.specs.Laws.OneIntegrator.{above-lower, below-upper, due-ready}
 use Rattle.soundintegrators.proofs.figures_sound.Statement.{statement}
 use Rattle.soundintegrators.proofs.figures_sound.Tie as tie
 
 -- the tests in their order, of the arguments at the entry
 abbrev tests : tie.Start → List Bool
-tests c = let a = c .args in figureClauses (a .quantum) (a .rate) (a .clock) (a .x) (a .q) (a .s) (a .l) (a .d)
+tests c = let a = c .args in figureClauses (a .upper) (a .lower) (a .rate) (a .clock) (a .x) (a .s) (a .l) (a .d)
 
-all-of : (c : tie.Start) → let a = c .args in passes (tests c) 6 ≡ figuresSound (a .quantum) (a .rate) (a .clock) (a .x) (a .q) (a .s) (a .l) (a .d)
-all-of c = let a = c .args in figure-tests (a .quantum) (a .rate) (a .clock) (a .x) (a .q) (a .s) (a .l) (a .d)
+all-of : (c : tie.Start) → let a = c .args in passes (tests c) 6 ≡ figuresSound (a .upper) (a .lower) (a .rate) (a .clock) (a .x) (a .s) (a .l) (a .d)
+all-of c = let a = c .args in figure-tests (a .upper) (a .lower) (a .rate) (a .clock) (a .x) (a .s) (a .l) (a .d)
 
 returns : tie.Need-returns
 returns c = fails (begin tests (c .before)) all-of (lit< tt) (lt-leb _ _ (c .if1 .taken))
@@ -33,31 +32,25 @@ returns-2 c = fails (passed1 (c .before)) all-of (lit< tt) (le-ltb _ _ (c .if2 .
 abbrev passed2 : tie.Else2 → Passed tests 2
 passed2 c = next (passed1 (c .before)) (lt-ltb _ _ (c .if2 .left))
 
-sub-if3 : tie.Need-sub-if3
-sub-if3 c = let s = c .before .before in rw (rd-sub (s .fits .q) (s .fits .quantum)) (lower-fits (s .pre))
-
 returns-3 : tie.Need-returns-3
 returns-3 c =
-    let s = c .before .before .before in
-    fails (passed2 (c .before)) all-of (lit< tt) (above-lower (s .pre) (s .fits .x) (s .fits .q) (s .fits .quantum) true (c .if3 .taken))
+    let f = c .before .before .before .fits in
+    fails (passed2 (c .before)) all-of (lit< tt) (above-lower (f .x) (f .lower) true (c .if3 .taken))
 
 abbrev passed3 : tie.Else3 → Passed tests 3
 passed3 c =
-    let s = c .before .before .before in
-    next (passed2 (c .before)) (above-lower (s .pre) (s .fits .x) (s .fits .q) (s .fits .quantum) false (c .if3 .left))
-
-add-if4 : tie.Need-add-if4
-add-if4 c = let s = c .before .before .before in rw (rd-add (s .fits .q) (s .fits .quantum)) (upper-fits (s .pre))
+    let f = c .before .before .before .fits in
+    next (passed2 (c .before)) (above-lower (f .x) (f .lower) false (c .if3 .left))
 
 returns-4 : tie.Need-returns-4
 returns-4 c =
-    let s = c .before .before .before .before in
-    fails (passed3 (c .before)) all-of (lit< tt) (below-upper (s .pre) (s .fits .x) (s .fits .q) (s .fits .quantum) true (c .if4 .taken))
+    let f = c .before .before .before .before .fits in
+    fails (passed3 (c .before)) all-of (lit< tt) (below-upper (f .x) (f .upper) true (c .if4 .taken))
 
 abbrev passed4 : tie.Else4 → Passed tests 4
 passed4 c =
-    let s = c .before .before .before .before in
-    next (passed3 (c .before)) (below-upper (s .pre) (s .fits .x) (s .fits .q) (s .fits .quantum) false (c .if4 .left))
+    let f = c .before .before .before .before .fits in
+    next (passed3 (c .before)) (below-upper (f .x) (f .upper) false (c .if4 .left))
 
 returns-5 : tie.Need-returns-5
 returns-5 c =
@@ -72,13 +65,13 @@ passed5 c =
 due-tick-requires : tie.Need-due-tick-requires
 due-tick-requires c κs =
     let s = c .before .before .before .before .before in let f = s .fits in let p = passed5 c in
-    rw (toZ-ofZ (f .x), toZ-ofZ (f .q), toZ-ofZ (f .quantum), toZ-ofZ (f .s))
+    rw (toZ-ofZ (f .x), toZ-ofZ (f .upper), toZ-ofZ (f .lower), toZ-ofZ (f .s))
     (due-ready (s .pre) _ _ _ (passed-at p 0 (lit< tt)) (passed-at p 2 (lit< tt)) (passed-at p 3 (lit< tt)) (passed-at p 4 (lit< tt)))
 
 returns-6 : tie.Need-returns-6
 returns-6 c =
     let s = c .before .before .before .before .before .before in let f = s .fits in
-    let due = rw (toZ-ofZ (f .x), toZ-ofZ (f .q), toZ-ofZ (f .quantum), toZ-ofZ (f .s)) at (c .due-tick .ensures) in
+    let due = rw (toZ-ofZ (f .x), toZ-ofZ (f .upper), toZ-ofZ (f .lower), toZ-ofZ (f .s)) at (c .due-tick .ensures) in
     last (passed5 (c .before)) all-of refl (ap (eqb (s .args .d)) due)
 
 pub figures-sound-spec : {M : Type 1} → statement M
@@ -87,9 +80,7 @@ figures-sound-spec =
     (tie.spec
     returns
     returns-2
-    sub-if3
     returns-3
-    add-if4
     returns-4
     returns-5
     due-tick-requires

@@ -30,6 +30,7 @@ use Rattle.values.specs.Sources.{valuesOf, outputAndInputValues, NodesReady}
 use Rattle.values.specs.Laws.SourceValues.{nodes-ready, first-sized, values-sized}
 use Rattle.rates.specs.Links.{rangesOf, RatesReady}
 use Rattle.rates.specs.Laws.OwnRange.{own-rated}
+use Rattle.timing.specs.Laws.Dues.{levels-apart, level-ready}
 use Rattle.unusedentries.specs.Entries.{runningUnusedZeroBy}
 use Rattle.soundintegrators.specs.Figures.{figuresSound, IntegratorsReady}
 use Rattle.soundintegrators.specs.Laws.OneIntegrator.{figuresIn}
@@ -67,11 +68,11 @@ module _ (p : Plan) (r : Running) where
   -- the other clauses of integrator i
   abbrev pub figuresAt : ℕ → Bool
   figuresAt i =
-      figuresSound (intAt (p .integrators .quanta) i) (rateOf p (r .q) (r .inputs) i) (r .clocks .clock)
-      (intAt (r .x) i) (intAt (r .q) i) (intAt (r .s) i) (natAt (r .l) i) (natAt (r .d) i)
+      figuresSound (upperLevel p (r .q) i) (lowerLevel p (r .q) i) (rateOf p (r .q) (r .inputs) i) (r .clocks .clock)
+      (intAt (r .x) i) (intAt (r .s) i) (natAt (r .l) i) (natAt (r .d) i)
 
   integrator-both : (i : ℕ) → integratorSound p r i ≡ (outputAt i && figuresAt i)
-  unfolding integratorSound figuresSound upperLevel lowerLevel dueOf
+  unfolding integratorSound figuresSound dueOf
   integrator-both i = go (outputAt i) refl
     where
       go : (b : Bool) → outputAt i ≡ b → integratorSound p r i ≡ (outputAt i && figuresAt i)
@@ -126,14 +127,16 @@ module _ (p : Plan) (r : Running) where
           (count-limits p (rules .counts) .n, own-rated p rules _ (values-sized p (r .q) (r .inputs) rules output-size input-size))
 
       pub figures-ready : leb (r .clocks .clock) (p .horizon) ≡ true → IntegratorsReady (p .counts .n) (p .integrators .quanta) slopes (r .clocks .clock) (r .q)
-      figures-ready clock i h = rw (slope-at i h) (
-          record {
-            early = omega (arith, leb-true (r .clocks .clock) (p .horizon) clock, rules .horizon .1);
-            least = rules .integrators i h .least;
-            most = rules .integrators i h .most;
-            slow = rate-most p (r .q) (r .inputs) rules output-size input-size i;
-            output = output-size i h;
-          })
+      figures-ready clock i h =
+          let rule = rules .integrators i h in record {
+            level = level-ready p (r .q) i rule (output-size i h);
+            figures = rw (slope-at i h) (
+                record {
+                  early = omega (arith, leb-true (r .clocks .clock) (p .horizon) clock, rules .horizon .1);
+                  apart = levels-apart p (r .q) i rule;
+                  slow = rate-most p (r .q) (r .inputs) rules output-size input-size i;
+                });
+          }
 
     -- ---- what the comparisons of instants and updates ask
     pub clock-fits : leb (r .clocks .clock) (p .horizon) ≡ true → Fits w64 (r .clocks .clock)
@@ -146,4 +149,5 @@ module _ (p : Plan) (r : Running) where
 
     -- the test by the slopes that the code has worked out
     pub figures-same : every (figuresIn (p .integrators .quanta) slopes (r .clocks .clock) (r .x) (r .q) (r .s) (r .l) (r .d)) (p .counts .n) ≡ every figuresAt (p .counts .n)
+    unfolding upperLevel lowerLevel
     figures-same = every-same _ figuresAt (p .counts .n) (λ i h. rw (slope-at i h))

@@ -3,7 +3,7 @@ use mathlib.Core.Path.{_≡_, refl, sym, _∙_}
 use mathlib.Core.Bool.{Bool, true, false, cond}
 use mathlib.Core.List.{List}
 use Prim.Native.Nat.{ℕ, _+_, _≤_, _<_}
-use lib.IntN.{ℤ, pos, _+ℤ_, _-ℤ_}
+use lib.IntN.{ℤ, pos}
 use lib.Dec.{ltb}
 use lib.ListN.{replicate}
 use Rattle.integers.specs.Parts.{∣_∣}
@@ -23,7 +23,8 @@ use Rattle.values.specs.Sources.{valuesOf, outputAndInputValues, nodeStep, Node
 use Rattle.values.specs.Laws.SourceValues.{nodes-ready, first-sized, values-at, values-sized, all-nodes}
 use Rattle.rates.specs.Links.{firstLink, rangesOf, rangeRate, RatesReady}
 use Rattle.rates.specs.Laws.OwnRange.{own-rated, own-rates}
-use Rattle.timing.specs.Laws.Dues.{due-ready-start, due-is-start}
+use Rattle.timing.specs.Ticks.{upperIn, lowerIn}
+use Rattle.timing.specs.Laws.Dues.{level-ready-start, due-ready-start, due-is-start}
 use Rattle.starts.specs.Starting.{StartsReady}
 
 -- an array of zeros, however many entries are used
@@ -73,11 +74,11 @@ module _ (p : Plan) (rules : PlanRules p) where
     slope-at i h = rw slopes (row-at (pos 0) 32 (p .counts .n) (startSlope p) i (count-limits p (rules .counts) .n) h)
 
     pub start-dues-ready : StartsReady (p .counts .n) (p .integrators .starts) (p .integrators .quanta) s
-    start-dues-ready i h = rw (slope-at i h) (due-ready-start p i rules h)
+    start-dues-ready i h = record { level = level-ready-start p i rules h; due = rw (slope-at i h) (due-ready-start p i rules h) }
 
     pub start-dues : {d : List ℕ}
-        → d ≡ row 0 32 (p .counts .n) (λ i. dueTick 0 (intAt (p .integrators .starts) i) (intAt (p .integrators .starts) i +ℤ intAt (p .integrators .quanta) i)
-        (intAt (p .integrators .starts) i -ℤ intAt (p .integrators .quanta) i) (intAt s i))
+        → d ≡ row 0 32 (p .counts .n) (λ i. dueTick 0 (intAt (p .integrators .starts) i) (upperIn (p .integrators .starts) (p .integrators .quanta) i)
+        (lowerIn (p .integrators .starts) (p .integrators .quanta) i) (intAt s i))
         → d ≡ row 0 32 (p .counts .n) (startDue p)
     start-dues e = e ∙ row-ext 0 32 (p .counts .n) _ _ (λ i h. rw (slope-at i h) (due-is-start p i))
 

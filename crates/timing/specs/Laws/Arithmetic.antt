@@ -1,4 +1,4 @@
--- Laws: the arithmetic of positions and due ticks step by step: what each step asks, and what the steps come to. Assumes nothing.
+-- Laws: the arithmetic of positions, levels and due ticks step by step: what each step asks, and what the steps come to. Assumes nothing.
 use mathlib.Core.Path.{_≡_, sym, ap, _∙_}
 use mathlib.Core.Bool.{true, false}
 use Prim.Native.Nat.{ℕ, _+_, _-_, _^_, _≤_, _<_, max}
@@ -8,15 +8,16 @@ use lib.Signed.{ltZ, nonNeg}
 use lib.Dec.{T}
 use mir.Syntax.{w64}
 use mir.Val.{SFits, Fits}
+use mir.Facts.{toZ-ofZ}
 use Rattle.integers.specs.Parts.{positivePart, ∣_∣}
 use Rattle.integers.specs.Laws.Parts.{sum, dif, abs, tight, zs}
 use Rattle.integers.specs.Division.{ceilDiv}
 use Rattle.integers.specs.Laws.Division.{ceil-one, ceil-most}
-use Rattle.integers.specs.Laws.Signed64.{as-u64}
+use Rattle.integers.specs.Laws.Signed64.{rd, rd-add, rd-sub, as-u64}
 use Rattle.plan.specs.Numbers.{never}
 use Rattle.machine.specs.Due.{distance, ticksTo, dueTick}
 use Rattle.machine.specs.Laws.Due.{due-still, due-moving}
-use Rattle.timing.specs.Ticks.{tickAt, TicksReady, DueReady, PositionReady}
+use Rattle.timing.specs.Ticks.{tickAt, TicksReady, LevelReady, DueReady, PositionReady}
 
 -- ---- a position
 module _ (x s : ℤ) (l t : ℕ) (ready : PositionReady x s l t) where
@@ -25,6 +26,27 @@ module _ (x s : ℤ) (l t : ℕ) (ready : PositionReady x s l t) where
 
   pub position-fits : SFits w64 (x +ℤ s *ℤ pos (t - l))
   position-fits = omega (arith, zs, sum x (s *ℤ pos (t - l)), ready .small, ready .move)
+
+-- ---- a level, as the code makes it of two locals
+module _ {q quantum : ℤ} (ready : LevelReady q quantum) where
+  upper-fits : SFits w64 (q +ℤ quantum)
+  upper-fits = omega (arith, zs, sum q quantum)
+
+  lower-fits : SFits w64 (q -ℤ quantum)
+  lower-fits = omega (arith, zs, dif q quantum)
+
+  module _ (fq : SFits w64 q) (fd : SFits w64 quantum) where
+    pub upper-made : SFits w64 (rd q +ℤ rd quantum)
+    upper-made = rw (rd-add fq fd) upper-fits
+
+    pub lower-made : SFits w64 (rd q -ℤ rd quantum)
+    lower-made = rw (rd-sub fq fd) lower-fits
+
+    pub upper-read : rd (rd q +ℤ rd quantum) ≡ q +ℤ quantum
+    upper-read = toZ-ofZ upper-made ∙ rd-add fq fd
+
+    pub lower-read : rd (rd q -ℤ rd quantum) ≡ q -ℤ quantum
+    lower-read = toZ-ofZ lower-made ∙ rd-sub fq fd
 
 -- ---- the tick at which a move has gone its distance
 module _ (from : ℕ) (distance speed : ℤ) (ready : TicksReady from distance speed) where
@@ -57,42 +79,36 @@ module _ (from : ℕ) (distance speed : ℤ) (ready : TicksReady from distance s
 quotient-least : (d k : ℕ) → 1 ≤ d → 0 < k → max 1 (ceilDiv d k) ≡ ceilDiv d k
 quotient-least d k h l = omega (arith, ceil-one d k l h)
 
-module _ (from : ℕ) (x q quantum s : ℤ) (ready : DueReady from x q quantum s) where
-  pub upper-fits : SFits w64 (q +ℤ quantum)
-  upper-fits = omega (arith, zs, sum q quantum, tight quantum)
+module _ (from : ℕ) (x upper lower s : ℤ) (ready : DueReady from x upper lower s) where
+  pub rise-fits : SFits w64 (upper -ℤ x)
+  rise-fits = omega (arith, zs, dif upper lower, dif upper x, tight (upper -ℤ x))
 
-  pub lower-fits : SFits w64 (q -ℤ quantum)
-  lower-fits = omega (arith, zs, dif q quantum, tight quantum)
-
-  pub rise-fits : SFits w64 ((q +ℤ quantum) -ℤ x)
-  rise-fits = omega (arith, zs, sum q quantum, dif q quantum, dif (q +ℤ quantum) x, tight quantum, tight ((q +ℤ quantum) -ℤ x))
-
-  pub fall-fits : SFits w64 (x -ℤ (q -ℤ quantum))
-  fall-fits = omega (arith, zs, sum q quantum, dif q quantum, dif x (q -ℤ quantum), tight quantum, tight (x -ℤ (q -ℤ quantum)))
+  pub fall-fits : SFits w64 (x -ℤ lower)
+  fall-fits = omega (arith, zs, dif upper lower, dif x lower, tight (x -ℤ lower))
 
   pub speed-fits : SFits w64 (pos 0 -ℤ s)
   speed-fits = omega (arith, zs, dif (pos 0) s)
 
-  pub rise-ready : ltZ (pos 0) s ≡ true → TicksReady from ((q +ℤ quantum) -ℤ x) s
-  rise-ready e = omega (arith, zs, sum q quantum, dif q quantum, dif (q +ℤ quantum) x)
+  pub rise-ready : ltZ (pos 0) s ≡ true → TicksReady from (upper -ℤ x) s
+  rise-ready e = omega (arith, zs, dif upper lower, dif upper x)
 
-  pub fall-ready : ltZ s (pos 0) ≡ true → TicksReady from (x -ℤ (q -ℤ quantum)) (pos 0 -ℤ s)
-  fall-ready e = omega (arith, zs, sum q quantum, dif q quantum, dif x (q -ℤ quantum), dif (pos 0) s)
+  pub fall-ready : ltZ s (pos 0) ≡ true → TicksReady from (x -ℤ lower) (pos 0 -ℤ s)
+  fall-ready e = omega (arith, zs, dif upper lower, dif x lower, dif (pos 0) s)
 
-  pub due-rise : ltZ (pos 0) s ≡ true → tickAt from ((q +ℤ quantum) -ℤ x) s ≡ dueTick from x (q +ℤ quantum) (q -ℤ quantum) s
+  pub due-rise : ltZ (pos 0) s ≡ true → tickAt from (upper -ℤ x) s ≡ dueTick from x upper lower s
   unfolding tickAt distance ticksTo
   due-rise e =
       let r = rise-ready e in let size : ∣ s ∣ ≡ positivePart s = omega (arith, zs, tight s) in
-      sym (due-moving from x (q +ℤ quantum) (q -ℤ quantum) s (λ z. omega (arith, zs))
-      ∙ rw (e, size, quotient-least (positivePart ((q +ℤ quantum) -ℤ x)) (positivePart s) (omega (arith, zs)) (omega (arith, zs))))
+      sym (due-moving from x upper lower s (λ z. omega (arith, zs))
+      ∙ rw (e, size, quotient-least (positivePart (upper -ℤ x)) (positivePart s) (omega (arith, zs)) (omega (arith, zs))))
 
-  pub due-fall : ltZ s (pos 0) ≡ true → tickAt from (x -ℤ (q -ℤ quantum)) (pos 0 -ℤ s) ≡ dueTick from x (q +ℤ quantum) (q -ℤ quantum) s
+  pub due-fall : ltZ s (pos 0) ≡ true → tickAt from (x -ℤ lower) (pos 0 -ℤ s) ≡ dueTick from x upper lower s
   unfolding tickAt distance ticksTo
   due-fall e =
       let r = fall-ready e in let size : ∣ s ∣ ≡ positivePart (pos 0 -ℤ s) = omega (arith, zs, dif (pos 0) s, tight s) in
       let falls : ltZ (pos 0) s ≡ false = omega (arith, zs) in
-      sym (due-moving from x (q +ℤ quantum) (q -ℤ quantum) s (λ z. omega (arith, zs))
-      ∙ rw (falls, size, quotient-least (positivePart (x -ℤ (q -ℤ quantum))) (positivePart (pos 0 -ℤ s)) (omega (arith, zs)) (omega (arith, zs))))
+      sym (due-moving from x upper lower s (λ z. omega (arith, zs))
+      ∙ rw (falls, size, quotient-least (positivePart (x -ℤ lower)) (positivePart (pos 0 -ℤ s)) (omega (arith, zs)) (omega (arith, zs))))
 
-  pub due-never : ltZ (pos 0) s ≡ false → ltZ s (pos 0) ≡ false → never ≡ dueTick from x (q +ℤ quantum) (q -ℤ quantum) s
-  due-never e f = sym (due-still from x (q +ℤ quantum) (q -ℤ quantum) s (omega (arith, zs)))
+  pub due-never : ltZ (pos 0) s ≡ false → ltZ s (pos 0) ≡ false → never ≡ dueTick from x upper lower s
+  due-never e f = sym (due-still from x upper lower s (omega (arith, zs)))

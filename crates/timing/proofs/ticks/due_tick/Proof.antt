@@ -2,13 +2,13 @@
 -- Assumes nothing.
 use mathlib.Core.Path.{_≡_, _∙_}
 use mathlib.Core.Bool.{true}
-use lib.IntN.{pos, _+ℤ_, _-ℤ_}
+use lib.IntN.{pos, _-ℤ_}
 use lib.Signed.{ltZ}
 use mir.Syntax.{w64}
 use mir.Val.{SFits}
 use mir.Facts.{toZ-ofZ}
 use Rattle.integers.specs.Laws.Signed64.{rd}
-use Rattle.timing.specs.Laws.Arithmetic.{upper-fits, lower-fits, rise-fits, fall-fits, speed-fits, rise-ready, fall-ready}
+use Rattle.timing.specs.Laws.Arithmetic.{rise-fits, fall-fits, speed-fits, rise-ready, fall-ready}
 use Rattle.timing.specs.Laws.Arithmetic.{due-rise, due-fall, due-never}
 use Rattle.timing.proofs.ticks.due_tick.Statement.{statement}
 use Rattle.timing.proofs.ticks.due_tick.Tie as tie
@@ -23,25 +23,17 @@ abbrev Start : Type 0
 Start = lts.Start claims reads.Pre reads.Post
 
 -- what each branch works out fits, and its bits read as the definition's distance and speed
-rise-difference : (c : Start) → let a = c .args in SFits w64 (rd (rd (a .q) +ℤ rd (a .quantum)) -ℤ rd (a .x))
-rise-difference c =
-    let f = c .fits in let ready = c .pre in
-    rw (toZ-ofZ (f .q), toZ-ofZ (f .quantum), toZ-ofZ (upper-fits _ _ _ _ _ ready), toZ-ofZ (f .x)) (rise-fits _ _ _ _ _ ready)
+rise-difference : (c : Start) → let a = c .args in SFits w64 (rd (a .upper) -ℤ rd (a .x))
+rise-difference c = rw (toZ-ofZ (c .fits .upper), toZ-ofZ (c .fits .x)) (rise-fits _ _ _ _ _ (c .pre))
 
-rise-distance : (c : Start) → let a = c .args in rd (rd (rd (a .q) +ℤ rd (a .quantum)) -ℤ rd (a .x)) ≡ (a .q +ℤ a .quantum) -ℤ a .x
-rise-distance c =
-    let f = c .fits in
-    toZ-ofZ (rise-difference c) ∙ rw (toZ-ofZ (f .q), toZ-ofZ (f .quantum), toZ-ofZ (upper-fits _ _ _ _ _ (c .pre)), toZ-ofZ (f .x))
+rise-distance : (c : Start) → let a = c .args in rd (rd (a .upper) -ℤ rd (a .x)) ≡ a .upper -ℤ a .x
+rise-distance c = toZ-ofZ (rise-difference c) ∙ rw (toZ-ofZ (c .fits .upper), toZ-ofZ (c .fits .x))
 
-fall-difference : (c : Start) → let a = c .args in SFits w64 (rd (a .x) -ℤ rd (rd (a .q) -ℤ rd (a .quantum)))
-fall-difference c =
-    let f = c .fits in let ready = c .pre in
-    rw (toZ-ofZ (f .q), toZ-ofZ (f .quantum), toZ-ofZ (lower-fits _ _ _ _ _ ready), toZ-ofZ (f .x)) (fall-fits _ _ _ _ _ ready)
+fall-difference : (c : Start) → let a = c .args in SFits w64 (rd (a .x) -ℤ rd (a .lower))
+fall-difference c = rw (toZ-ofZ (c .fits .x), toZ-ofZ (c .fits .lower)) (fall-fits _ _ _ _ _ (c .pre))
 
-fall-distance : (c : Start) → let a = c .args in rd (rd (a .x) -ℤ rd (rd (a .q) -ℤ rd (a .quantum))) ≡ a .x -ℤ (a .q -ℤ a .quantum)
-fall-distance c =
-    let f = c .fits in
-    toZ-ofZ (fall-difference c) ∙ rw (toZ-ofZ (f .q), toZ-ofZ (f .quantum), toZ-ofZ (lower-fits _ _ _ _ _ (c .pre)), toZ-ofZ (f .x))
+fall-distance : (c : Start) → let a = c .args in rd (rd (a .x) -ℤ rd (a .lower)) ≡ a .x -ℤ a .lower
+fall-distance c = toZ-ofZ (fall-difference c) ∙ rw (toZ-ofZ (c .fits .x), toZ-ofZ (c .fits .lower))
 
 fall-speed : (c : Start) → rd (pos 0 -ℤ rd (c .args .s)) ≡ pos 0 -ℤ c .args .s
 fall-speed c = rw (toZ-ofZ (c .fits .s)) (toZ-ofZ (speed-fits _ _ _ _ _ (c .pre)))
@@ -51,12 +43,6 @@ rises c = rw (toZ-ofZ (c .before .fits .s)) at (c .if1 .taken)
 
 falls : (c : lts.Then2 claims reads.Pre reads.Post) → ltZ (c .before .before .args .s) (pos 0) ≡ true
 falls c = rw (toZ-ofZ (c .before .before .fits .s)) at (c .if2 .taken)
-
-add-upper : tie.Need-add-upper
-add-upper c = rw (toZ-ofZ (c .fits .q), toZ-ofZ (c .fits .quantum)) (upper-fits _ _ _ _ _ (c .pre))
-
-sub-lower : tie.Need-sub-lower
-sub-lower c = rw (toZ-ofZ (c .fits .q), toZ-ofZ (c .fits .quantum)) (lower-fits _ _ _ _ _ (c .pre))
 
 sub-tick-at : tie.Need-sub-tick-at
 sub-tick-at c = rise-difference (c .before)
@@ -92,8 +78,6 @@ pub due-tick-spec : {M : Type 1} → statement M
 due-tick-spec =
     tie.close
     (tie.spec
-    add-upper
-    sub-lower
     sub-tick-at
     tick-at-requires
     returns
