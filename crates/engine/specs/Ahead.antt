@@ -1,12 +1,11 @@
 -- Model of the code: what lies ahead of a state as the code works it out. What it is by document 01: Laws/Aheads.
-use mathlib.Core.Bool.{cond}
 use mathlib.Core.List.{List}
 use Prim.Native.Nat.{ℕ, _≤_, min}
 use lib.IntN.{ℤ}
-use lib.Dec.{ltb}
 use Rattle.bitset.specs.Mask.{maskOf}
-use Rattle.plan.specs.Numbers.{never, mostIntegrators, mostCommands}
-use Rattle.plan.specs.Lists.{natAt, firstFrom}
+use Rattle.plan.specs.Numbers.{mostIntegrators, mostCommands}
+use Rattle.plan.specs.Lists.{firstFrom}
+use Rattle.machine.specs.Entries.{entryTick}
 use Rattle.machine.specs.Next.{leastDue}
 use Rattle.machine.specs.Reach.{isDue}
 use Rattle.machine.specs.Status.{statusBy}
@@ -15,7 +14,7 @@ use Rattle.engine.specs.declared.ahead.Ahead.{Ahead}
 
 module _ (n commands : ℕ) (ticks : List ℕ) (x s : List ℤ) (l d : List ℕ) (next : ℕ) where
   unfoldable pub tickAhead : ℕ
-  tickAhead = min (leastDue d n) (cond (ltb next commands) (natAt ticks next) never)
+  tickAhead = min (leastDue d n) (entryTick ticks commands next)
 
   unfoldable pub dueAhead : ℕ
   dueAhead = maskOf (isDue d tickAhead) n

@@ -10,11 +10,12 @@ use Rattle.bitset.specs.Mask.{maskOf, allOf, union}
 use Rattle.plan.specs.Numbers.{eventBytes}
 use Rattle.plan.specs.declared.Counts.{Counts}
 use Rattle.plan.specs.declared.Plan.{Plan}
+use Rattle.machine.specs.Held.{runningBy}
 use Rattle.machine.specs.Reach.{isDue}
 use Rattle.machine.specs.Instant.{nextTickOf, instant, eventsOf}
 use Rattle.machine.specs.Status.{runningPaused}
 use Rattle.machine.specs.Runs.{eventsMost}
-use Rattle.machine.specs.Sound.{SoundRunning, RunningWidths}
+use Rattle.machine.specs.Sound.{SoundInWords, RunningWidths}
 use Rattle.machine.specs.declared.Clocks.{Clocks}
 use Rattle.machine.specs.declared.Running.{Running}
 use Rattle.machine.specs.declared.Engine.{Engine}
@@ -48,15 +49,8 @@ planOf counts quanta kinds a b lows highs sources coefficients ticks inputs sett
 -- the running figures whose outputs and input values stand in the values of sources
 abbrev pub runningOf : (counts : Counts) (x s : List ℤ) (l d : List ℕ) (values : List ℤ) (clocks : Clocks) → Running
 runningOf counts x s l d values clocks =
-    record {
-      x = x;
-      q = outputsIn (counts .n) values;
-      s = s;
-      l = l;
-      d = d;
-      inputs = inputsIn (counts .n) (counts .m) values;
-      clocks = clocks;
-    }
+    let q = outputsIn (counts .n) values in let u = inputsIn (counts .n) (counts .m) values in
+    runningBy (record { q = q; inputs = u; next = clocks .next; instants = clocks .instants }) x s l d (clocks .clock) (clocks .updates)
 
 -- "The lazy engine moves those due or reached, the eager engine all", on masks
 unfoldable pub movedSet : (engine : Engine) (n due reached : ℕ) → ℕ
@@ -66,7 +60,7 @@ movedSet Eager n due reached = allOf n
 -- the next instant, at t, of a sound and paused state; the tables and values are those of the plan and the state; the events fit behind byte `at`
 pub record InstantReady (p : Plan) (ranges reach : List ℕ) (t due : ℕ) (r : Running) (values : List ℤ) (at size : ℕ) : Type 0 where
   pub shaped : RunningWidths r
-  pub sound : SoundRunning p r
+  pub sound : SoundInWords p r
   pub paused : runningPaused p r ≡ true
   pub tick : t ≡ nextTickOf p r
   pub due-set : due ≡ maskOf (isDue (r .d) t) (p .counts .n)

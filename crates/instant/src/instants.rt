@@ -19,7 +19,7 @@ use plan::NODES;
 use plan::SOURCES;
 use rates::RANGES;
 use reach::reached_by;
-use steps::obey_commands;
+use steps::obey_entries;
 use steps::set_outputs;
 use steps::write_events;
 use values::work_out_nodes;
@@ -86,7 +86,7 @@ pub fn take_instant<'a>(
     let n = counts.n;
     let base = n + counts.m;
     set_outputs(t, due, x, s, l, values);
-    let commanded = obey_commands(
+    let commanded = obey_entries(
         n,
         counts.commands,
         ticks,
@@ -96,7 +96,7 @@ pub fn take_instant<'a>(
         values,
         clocks.next,
     );
-    let changed = union_shifted(due, commanded.inputs, n);
+    let changed = union_shifted(due, commanded.numbers, n);
     let reached = reached_by(reach, changed);
     work_out_nodes(
         base,

@@ -18,11 +18,13 @@ use Rattle.plan.specs.ExampleTables.{Case, case, AllRight, end, _&_}
 use Rattle.plan.specs.ExampleFiles.{fileOf, cupFile}
 use Rattle.machine.specs.Values.{nodeValue, valueWith, valueOf, sumOver, rateOf}
 use Rattle.machine.specs.Due.{upperLevel, lowerLevel, distance, ticksTo, dueTick, dueOf}
-use Rattle.machine.specs.Next.{nextCommand, commandTick, leastDue, nextTick}
+use Rattle.machine.specs.Entries.{sets, valueThen, nextEntry, entryTick}
+use Rattle.machine.specs.Next.{nextCommand, leastDue}
+use Rattle.machine.specs.Held.{slopeOf, inputsThen, entriesTick, nextTick}
 use Rattle.machine.specs.Start.{startSlope, startDue, startOf, startState, idleState}
-use Rattle.machine.specs.Reach.{isDue, setsInput, isCommanded, changes, dependsWith, linkReaches, reached}
-use Rattle.machine.specs.Instant.{positionAt, inputThen, inputsThen, moves, bytesOfEvent, eventsAt, outputsThen, slopeThen, xThen, dueThen}
-use Rattle.machine.specs.Instant.{figuresAfter, nextTickOf, instant, eventsOf}
+use Rattle.machine.specs.Reach.{isDue, isCommanded, woken, gives, placed, changesBy, dependsWith, linkReaches, reached, touched}
+use Rattle.machine.specs.Instant.{positionAt, moves, bytesOfEvent, eventsAt, outputsBy, placeBy, outcomeEvents, dueThen, figuresAfter}
+use Rattle.machine.specs.Instant.{nextTickOf, instant, eventsOf}
 use Rattle.machine.specs.Status.{statusNumber, isPaused, bars, barring, statusBy, statusAt, statusOf, runningPaused}
 use Rattle.machine.specs.Runs.{afterRun, eventsOfRun}
 use Rattle.listingtext.specs.Decimal.{digitsIn, decimal, signedDecimal}
@@ -62,9 +64,9 @@ unfolding examples ceilDiv limited within countOf numberAt bytesOf signedOf unsi
     horizonKept integratorKept inputKept nodeTest pairAscends nodeKept linkLimitsKept linkOrdered commandLimitsKept
     commandOrdered numberOf entryOf isClean orElse firstFinding horizonFinding integratorsFinding inputsFinding nodesFinding
     linksFinding commandsFinding planFinding findingOf accepted nodeValue valueWith valueOf sumOver rateOf upperLevel lowerLevel distance ticksTo
-    dueTick dueOf nextCommand commandTick leastDue nextTick startSlope startDue startOf startState idleState isDue setsInput
-    isCommanded changes dependsWith linkReaches reached positionAt inputThen inputsThen moves bytesOfEvent eventsAt outputsThen slopeThen xThen
-    dueThen figuresAfter nextTickOf instant eventsOf bars barring statusNumber isPaused statusBy statusAt statusOf runningPaused afterRun eventsOfRun
+    dueTick dueOf sets valueThen nextEntry entryTick nextCommand leastDue slopeOf inputsThen entriesTick nextTick startSlope startDue startOf
+    startState idleState isDue isCommanded woken gives placed changesBy dependsWith linkReaches reached touched positionAt moves bytesOfEvent eventsAt
+    outputsBy placeBy outcomeEvents dueThen figuresAfter nextTickOf instant eventsOf bars barring statusNumber isPaused statusBy statusAt statusOf runningPaused afterRun eventsOfRun
     digitsIn decimal signedDecimal eventLine endLine refusalLine lineAt linesOf loadOf ranState ranEvents eventLines endLineOf listingOfRun listingOf
     turnState turnMore turnText beginText turnsFrom printedIn
 examples-right = refl & refl & refl & refl & refl & end

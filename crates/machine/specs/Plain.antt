@@ -1,77 +1,71 @@
 -- Binding definition: "The plain machine is these rules with every integrator moved at each instant and no update count." It keeps no l,
 -- since every position is at the clock, and is fed the plan and a budget sum.
-use mathlib.Core.Bool.{cond, _||_}
+use mathlib.Core.Bool.{cond}
 use mathlib.Core.List.{List, [], _++_}
-use Prim.Native.Nat.{ℕ, zero, suc, _+_, _-_}
+use Prim.Native.Nat.{ℕ, zero, suc, _-_}
 use lib.IntN.{ℤ, pos, _+ℤ_, _*ℤ_}
 use Rattle.bitset.specs.Counts.{countOf}
 use Rattle.plan.specs.Numbers.{mostIntegrators}
 use Rattle.plan.specs.Lists.{intAt, row}
 use Rattle.plan.specs.declared.Plan.{Plan}
-use Rattle.machine.specs.Values.{rateOf}
-use Rattle.machine.specs.Due.{dueOf}
-use Rattle.machine.specs.Next.{nextCommand, nextTick}
-use Rattle.machine.specs.Reach.{isDue, reached}
-use Rattle.machine.specs.Instant.{inputsThen, eventsAt}
+use Rattle.machine.specs.Held.{Held, slopeOf, heldStart, nextTick}
+use Rattle.machine.specs.Reach.{isDue, gives, touched}
+use Rattle.machine.specs.Instant.{Outcome, outcomeBy, outcomeEvents, dueThen}
 use Rattle.machine.specs.Status.{isPaused, statusAt}
 use Rattle.machine.specs.declared.Status.{Status}
 
--- positions at the clock, outputs, slopes and due ticks; input values; clock, next command and instants
+-- positions at the clock, slopes and due ticks; the clock; and what is held
 pub record Plain : Type 0 where
   pub x : List ℤ
-  pub q : List ℤ
   pub s : List ℤ
   pub d : List ℕ
-  pub inputs : List ℤ
   pub clock : ℕ
-  pub next : ℕ
-  pub instants : ℕ
+  pub held : Held
 
 module _ (p : Plan) where
-  -- every integrator gets the slope and the due tick by rule, from its position, the outputs and the input values at a tick
-  unfoldable pub withRatesAndDues : (x q u : List ℤ) (t instants : ℕ) → Plain
-  withRatesAndDues x q u t instants =
-      let slope = rateOf p q u in
+  -- every integrator is moved at a tick as the outcome there says, and gets its due tick by rule
+  unfoldable pub settled : (t : ℕ) → Outcome → Plain
+  settled t o =
       record {
-        x = x;
-        q = q;
-        s = row (pos 0) mostIntegrators (p .counts .n) slope;
-        d = row 0 mostIntegrators (p .counts .n) (λ i. dueOf p q i t (intAt x i) (slope i));
-        inputs = u;
+        x = row (pos 0) mostIntegrators (p .counts .n) (o .x);
+        s = row (pos 0) mostIntegrators (p .counts .n) (o .s);
+        d = row 0 mostIntegrators (p .counts .n) (dueThen p t o);
         clock = t;
-        next = nextCommand p t;
-        instants = instants;
+        held = o .held;
       }
 
-  -- "Start: x = q = start"
+  -- "Start: x = q = start", "slopes and dues by rule"
+  abbrev pub startOutcome : Outcome
+  startOutcome = record { held = heldStart p; x = intAt (p .integrators .starts); s = slopeOf p (heldStart p) }
+
   unfoldable pub plainStart : Plain
-  plainStart = withRatesAndDues (p .integrators .starts) (p .integrators .starts) (p .inputs .firsts) 0 0
+  plainStart = settled 0 startOutcome
 
   -- "Next instant t"
   unfoldable pub plainNextTick : Plain → ℕ
-  plainNextTick plain = nextTick p (plain .d) (plain .next)
+  plainNextTick plain = nextTick p (plain .d) (plain .held)
 
   -- where integrator i is at the next instant
   unfoldable pub plainPosition : Plain → ℕ → ℤ
   plainPosition plain i = intAt (plain .x) i +ℤ intAt (plain .s) i *ℤ pos (plainNextTick plain - plain .clock)
 
-  unfoldable pub plainOutputs : Plain → List ℤ
-  plainOutputs plain = row (pos 0) mostIntegrators (p .counts .n) (λ i. cond (isDue (plain .d) (plainNextTick plain) i) (plainPosition plain i) (intAt (plain .q) i))
+  -- what the next instant makes of these figures
+  abbrev pub plainOutcome : Plain → Outcome
+  plainOutcome plain = let t = plainNextTick plain in outcomeBy p t (isDue (plain .d) t) (plainPosition plain) (plain .held)
 
-  -- one instant: all move, the due ones take their position as output, the commands of the tick set their inputs
+  -- one instant: all move
   unfoldable pub plainInstant : Plain → Plain
-  plainInstant plain =
-      withRatesAndDues (row (pos 0) mostIntegrators (p .counts .n) (plainPosition plain)) (plainOutputs plain) (inputsThen p (plain .inputs) (plainNextTick plain)) (plainNextTick plain) (plain .instants + 1)
+  plainInstant plain = settled (plainNextTick plain) (plainOutcome plain)
 
   unfoldable pub plainEventsOf : Plain → List ℕ
-  plainEventsOf plain = eventsAt p (plain .d) (plainNextTick plain) (plainOutputs plain) (inputsThen p (plain .inputs) (plainNextTick plain))
+  plainEventsOf plain = let t = plainNextTick plain in outcomeEvents p t (isDue (plain .d) t) (plainPosition plain) (plain .held)
 
   unfoldable pub plainStatus : Plain → Status
-  plainStatus plain = statusAt p (plain .d) (plainNextTick plain) (plainPosition plain)
+  plainStatus plain = let t = plainNextTick plain in statusAt p t (gives (isDue (plain .d) t)) (plainPosition plain)
 
   -- "the number that step 5 moves for the lazy engine, with the plain machine's due ticks": those due or reached
   unfoldable pub lazyCount : Plain → ℕ
-  lazyCount plain = countOf (λ i. isDue (plain .d) (plainNextTick plain) i || reached p (plain .d) (plainNextTick plain) i) (p .counts .n)
+  lazyCount plain = let t = plainNextTick plain in countOf (touched p t (isDue (plain .d) t)) (p .counts .n)
 
   -- "From Start it takes B instants, or fewer if its status is first 1 or 2."
   unfoldable pub plainFrom : ℕ → Plain → Plain

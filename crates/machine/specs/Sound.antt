@@ -1,4 +1,4 @@
--- The same as a proposition: "A sound state", which SoundTest.antt has as a test, its clauses in document 01's order. `sound-means` of
+-- The same as a proposition: "A sound state", which SoundTest.antt has as a test, in document 01's words and order. `sound-means` of
 -- Laws/SoundTest shows that they agree.
 use mathlib.Core.Path.{_≡_}
 use Prim.Native.Nat.{ℕ, _*_, _≤_, _<_}
@@ -27,7 +27,7 @@ pub record RunningUnusedZero (p : Plan) (r : Running) : Type 0 where
   pub inputs : IntsZeroFrom (p .counts .m) (r .inputs)
 
 -- what is asked of integrator i
-pub record SoundIntegrator (p : Plan) (r : Running) (i : ℕ) : Type 0 where
+pub record IntegratorInWords (p : Plan) (r : Running) (i : ℕ) : Type 0 where
   -- "l ≤ c < d"
   pub moved : natAt (r .l) i ≤ r .clocks .clock
   pub ahead : r .clocks .clock < natAt (r .d) i
@@ -39,12 +39,12 @@ pub record SoundIntegrator (p : Plan) (r : Running) (i : ℕ) : Type 0 where
   pub rate : intAt (r .s) i ≡ rateOf p (r .q) (r .inputs) i
   pub due : natAt (r .d) i ≡ dueOf p (r .q) i (natAt (r .l) i) (intAt (r .x) i) (intAt (r .s) i)
 
-pub record SoundRunning (p : Plan) (r : Running) : Type 0 where
+pub record SoundInWords (p : Plan) (r : Running) : Type 0 where
   -- "its plan keeps all rules above"
   pub plan : PlanRules p
   -- "c ≤ horizon"
   pub clock : r .clocks .clock ≤ p .horizon
-  pub integrators : (i : ℕ) → i < p .counts .n → SoundIntegrator p r i
+  pub integrators : (i : ℕ) → i < p .counts .n → IntegratorInWords p r i
   -- "inputs are within ±M"
   pub inputs : (j : ℕ) → j < p .counts .m → Within M (intAt (r .inputs) j)
   -- "the next command is the first with tick above c, or the command count if none"
@@ -66,4 +66,4 @@ pub record RunningWidths (r : Running) : Type 0 where
   pub inputs : length (r .inputs) ≡ mostInputs
 
 abbrev pub Sound : State → Type 0
-Sound st = SoundRunning (st .plan) (st .run)
+Sound st = SoundInWords (st .plan) (st .run)

@@ -1,7 +1,6 @@
 -- Binding definition: "Status is read from the state: 1 finished if t is never or above the horizon; else 2 range if step 1 bars the
 -- instant (with the lowest such integrator); else 0 paused."
 use mathlib.Core.Bool.{Bool, true, false, cond, not, _&&_, _||_}
-use mathlib.Core.List.{List}
 use Prim.Native.Nat.{ℕ}
 use lib.IntN.{ℤ}
 use lib.Dec.{ltb, eqb}
@@ -9,7 +8,7 @@ use Rattle.integers.specs.Range.{within}
 use Rattle.plan.specs.Numbers.{M, never, paused, finished, range}
 use Rattle.plan.specs.Lists.{firstFrom}
 use Rattle.plan.specs.declared.Plan.{Plan}
-use Rattle.machine.specs.Reach.{isDue}
+use Rattle.machine.specs.Reach.{isDue, gives}
 use Rattle.machine.specs.Instant.{positionAt, nextTickOf}
 use Rattle.machine.specs.declared.Running.{Running}
 use Rattle.machine.specs.declared.Status.{Status}
@@ -32,25 +31,25 @@ isPaused Paused = true
 isPaused Finished = false
 isPaused (Range i) = false
 
--- "If any such value is beyond ±M, the instant isn't taken": integrator i is due at t, and its value there is beyond
-unfoldable pub bars : (d : List ℕ) (t : ℕ) (value : ℕ → ℤ) (i : ℕ) → Bool
-bars d t value i = isDue d t i && not (within M (value i))
+-- "If any such value is beyond ±M, the instant isn't taken": integrator i gives its position as output, and that value is beyond
+unfoldable pub bars : (giving : ℕ → Bool) (value : ℕ → ℤ) (i : ℕ) → Bool
+bars giving value i = giving i && not (within M (value i))
 
--- the lowest integrator that bars the instant at t, or n where none does
-unfoldable pub barring : (p : Plan) (d : List ℕ) (t : ℕ) (value : ℕ → ℤ) → ℕ
-barring p d t value = firstFrom (bars d t value) 0 (p .counts .n)
+-- the lowest integrator that bars the instant, or n where none does
+unfoldable pub barring : (p : Plan) (giving : ℕ → Bool) (value : ℕ → ℤ) → ℕ
+barring p giving value = firstFrom (bars giving value) 0 (p .counts .n)
 
 -- the status, by the next instant's tick and the lowest integrator that bars it, or n
 unfoldable pub statusBy : (horizon n t lowest : ℕ) → Status
 statusBy horizon n t lowest = cond (eqb t never || ltb horizon t) Finished (cond (ltb lowest n) (Range lowest) Paused)
 
--- by the due ticks, the next instant's tick and the values that due integrators would take there
-unfoldable pub statusAt : (p : Plan) (d : List ℕ) (t : ℕ) (value : ℕ → ℤ) → Status
-statusAt p d t value = statusBy (p .horizon) (p .counts .n) t (barring p d t value)
+-- by the next instant's tick, who gives its position as output there, and where each integrator is there
+unfoldable pub statusAt : (p : Plan) (t : ℕ) (giving : ℕ → Bool) (value : ℕ → ℤ) → Status
+statusAt p t giving value = statusBy (p .horizon) (p .counts .n) t (barring p giving value)
 
 module _ (p : Plan) (r : Running) where
   unfoldable pub statusOf : Status
-  statusOf = statusAt p (r .d) (nextTickOf p r) (positionAt r (nextTickOf p r))
+  statusOf = let t = nextTickOf p r in statusAt p t (gives (isDue (r .d) t)) (positionAt r t)
 
   unfoldable pub runningPaused : Bool
   runningPaused = isPaused statusOf

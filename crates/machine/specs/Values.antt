@@ -51,7 +51,7 @@ module _ (p : Plan) (q u : List ℤ) where
   rateOf i = floor65536 (sumOver i (p .counts .links))
 
 -- ---- how large a rate and a slope may be, under the rules of a plan and with outputs and inputs within ±M
--- a rate's size at most: 56 sources of size 2^30, each by a coefficient of size 2^24, over 2^16
+-- a rate's size at most: 56 sources of size 2^30, each by a coefficient of size 2^24, over 2^16 (Laws/Sizes)
 abbrev pub rateMost : ℕ
 rateMost = 56 * 2 ^ 38
 
@@ -59,7 +59,7 @@ rateMost = 56 * 2 ^ 38
 abbrev pub rateLimit : ℕ
 rateLimit = 2 ^ 44
 
--- a slope is a rate
+-- a slope is a rate (Laws/Held)
 abbrev pub slopeMost : ℕ
 slopeMost = rateMost
 

@@ -27,15 +27,15 @@ module _ (quanta : List ℤ) (sources : List ℕ) (coefficients : List ℤ) (ran
   unfoldable pub positionThen : ℕ → Motion → ℤ
   positionThen i m = intAt (m .x) i +ℤ intAt (m .s) i *ℤ pos (t - natAt (m .l) i)
 
-  unfoldable pub slopeOf : ℕ → ℤ
-  slopeOf i = rangeRate sources coefficients values (natAt ranges i) (natAt ranges (i + 1))
+  unfoldable pub slopeFrom : ℕ → ℤ
+  slopeFrom i = rangeRate sources coefficients values (natAt ranges i) (natAt ranges (i + 1))
 
   unfoldable pub dueFrom : ℕ → ℤ → ℕ
-  dueFrom i xThen = dueTick t xThen (upperIn values quanta i) (lowerIn values quanta i) (slopeOf i)
+  dueFrom i xThen = dueTick t xThen (upperIn values quanta i) (lowerIn values quanta i) (slopeFrom i)
 
   unfoldable pub afterMove : ℕ → Motion → Motion
   afterMove i m =
-      motion (set (m .x) i (positionThen i m)) (set (m .s) i (slopeOf i)) (set (m .l) i t) (set (m .d) i (dueFrom i (positionThen i m)))
+      motion (set (m .x) i (positionThen i m)) (set (m .s) i (slopeFrom i)) (set (m .l) i t) (set (m .d) i (dueFrom i (positionThen i m)))
 
   -- what that asks
   pub record Movable (i : ℕ) (m : Motion) : Type 0 where
@@ -43,7 +43,7 @@ module _ (quanta : List ℤ) (sources : List ℕ) (coefficients : List ℤ) (ran
     pub rated : RateReady sources coefficients values (natAt ranges i) (natAt ranges (i + 1))
     pub position : PositionReady (intAt (m .x) i) (intAt (m .s) i) (natAt (m .l) i) t
     pub level : LevelReady (intAt values i) (intAt quanta i)
-    pub due : DueReady t (positionThen i m) (upperIn values quanta i) (lowerIn values quanta i) (slopeOf i)
+    pub due : DueReady t (positionThen i m) (upperIn values quanta i) (lowerIn values quanta i) (slopeFrom i)
 
   abbrev pub AllMovable : ℕ → Motion → Type 0
   AllMovable moved m = (i : ℕ) → has moved i ≡ true → Movable i m

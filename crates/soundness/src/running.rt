@@ -13,7 +13,7 @@ use plan::Plan;
 use rates::link_ranges;
 use rates::rates;
 use soundintegrators::integrators_sound;
-use timing::next_command;
+use timing::next_entry;
 use unusedentries::running_unused_zero;
 use values::source_values;
 
@@ -82,7 +82,7 @@ pub fn running_sound(plan: Plan, run: Running) -> bool
     ) {
         return false;
     }
-    if run.clocks.next != next_command(plan.counts.commands, &plan.commands.ticks, clock) {
+    if run.clocks.next != next_entry(plan.counts.commands, &plan.commands.ticks, clock) {
         return false;
     }
     if run.clocks.instants > clock as u64 {

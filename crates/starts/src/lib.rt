@@ -15,7 +15,7 @@ use plan::Plan;
 use rates::link_ranges;
 use rates::rates;
 use timing::due_tick;
-use timing::next_command;
+use timing::next_entry;
 use values::source_values;
 
 // The due tick of each integrator at its start.
@@ -69,7 +69,7 @@ pub fn start(plan: Plan) -> Running
         &values,
     );
     let d = start_dues(n, &plan.integrators.starts, &plan.integrators.quanta, &s);
-    let next = next_command(plan.counts.commands, &plan.commands.ticks, 0);
+    let next = next_entry(plan.counts.commands, &plan.commands.ticks, 0);
     let x = plan.integrators.starts;
     let inputs = plan.inputs.firsts;
     Running {

@@ -2,7 +2,8 @@
 pub mod Buffers
 pub mod EventTurns
 pub mod EventBytes
-pub mod CommandTurns
+pub mod EntryTurns
+pub mod Entries
 pub mod Commands
 pub mod MaskLoops
 pub mod Outputs

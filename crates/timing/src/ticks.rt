@@ -1,14 +1,13 @@
 // Due ticks, positions, and the next instant's tick.
 ghost use mathlib.Core.Path.{_≡_};
-ghost use mathlib.Core.Bool.{cond};
 ghost use Prim.Native.Nat.{_+_, _-_, _≤_, _<_, min};
 ghost use lib.IntN.{pos, _+ℤ_, _*ℤ_};
-ghost use lib.Dec.{ltb};
-ghost use Rattle.plan.specs.Numbers.{never, mostIntegrators, mostCommands};
-ghost use Rattle.plan.specs.Lists.{natAt, firstFrom};
+ghost use Rattle.plan.specs.Numbers.{mostIntegrators, mostCommands};
 ghost use Rattle.machine.specs.Due.{dueTick};
+ghost use Rattle.machine.specs.Entries.{entryTick};
 ghost use Rattle.machine.specs.Next.{leastDue};
 ghost use Rattle.timing.specs.Ticks.{tickAt, TicksReady, DueReady, PositionReady};
+use crate::entries::entry_tick;
 use integers::divide_up;
 use machine::State;
 use plan::COMMANDS;
@@ -62,18 +61,6 @@ pub fn least_due(n: usize, d: &[u32; INTEGRATORS]) -> u32
     least
 }
 
-// "the next command is the first with tick above c, or the command count if none"
-pub fn next_command(commands: usize, ticks: &[u32; COMMANDS], clock: u32) -> usize
-    requires { ⌜ commands ≤ mostCommands ⌝ }
-    ensures { λ r. ⌜ r ≡ firstFrom (λ e. ltb clock (natAt (now (ticks .entry)) e)) 0 commands ⌝ }
-{
-    let mut e: usize = 0;
-    while e < commands && ticks[e] <= clock {
-        e += 1;
-    }
-    e
-}
-
 // "Next instant t: the least of all d and the next command's tick."
 pub fn next_tick<'a>(
     n: usize,
@@ -83,14 +70,12 @@ pub fn next_tick<'a>(
     next: usize,
 ) -> u32
     requires { ⌜ (n ≤ mostIntegrators) × (commands ≤ mostCommands) ⌝ }
-    ensures { λ r. ⌜ r ≡ min (leastDue (now (d .entry)) n) (cond (ltb next commands) (natAt (now (ticks .entry)) next) never) ⌝ }
+    ensures { λ r. ⌜ r ≡ min (leastDue (now (d .entry)) n) (entryTick (now (ticks .entry)) commands next) ⌝ }
 {
     let least = least_due(n, d);
-    if next < commands {
-        let tick = ticks[next];
-        if tick < least {
-            return tick;
-        }
+    let tick = entry_tick(commands, ticks, next);
+    if tick < least {
+        return tick;
     }
     least
 }

@@ -24,17 +24,19 @@ use Rattle.plan.specs.ExampleTables.{Case, case, AllRight, end, _&_}
 use Rattle.plan.specs.ExampleFiles.{fileOf, cupFile, cupPlan}
 use Rattle.machine.specs.Values.{nodeValue, valueWith, valueOf, sumOver, rateOf}
 use Rattle.machine.specs.Due.{upperLevel, lowerLevel, distance, ticksTo, dueTick, dueOf}
-use Rattle.machine.specs.Next.{nextCommand, commandTick, leastDue, nextTick}
+use Rattle.machine.specs.Entries.{sets, valueThen, nextEntry, entryTick}
+use Rattle.machine.specs.Next.{nextCommand, leastDue}
+use Rattle.machine.specs.Held.{slopeOf, inputsThen, entriesTick, nextTick}
 use Rattle.machine.specs.Start.{startSlope, startDue, startOf, startState, idleState}
-use Rattle.machine.specs.Reach.{isDue, setsInput, isCommanded, changes, dependsWith, linkReaches, reached}
-use Rattle.machine.specs.Instant.{positionAt, inputThen, inputsThen, moves, bytesOfEvent, eventsAt, outputsThen, slopeThen, xThen, dueThen}
-use Rattle.machine.specs.Instant.{figuresAfter, nextTickOf, instant, eventsOf}
+use Rattle.machine.specs.Reach.{isDue, isCommanded, woken, gives, placed, changesBy, dependsWith, linkReaches, reached, touched}
+use Rattle.machine.specs.Instant.{positionAt, moves, bytesOfEvent, eventsAt, outputsBy, placeBy, outcomeEvents, dueThen, figuresAfter}
+use Rattle.machine.specs.Instant.{nextTickOf, instant, eventsOf}
 use Rattle.machine.specs.Status.{statusNumber, statusIntegrator, isPaused, bars, barring, statusBy, statusAt, statusOf, runningPaused}
 use Rattle.machine.specs.Runs.{afterRun, eventsOfRun, eventsMost, roomOf, positionOf}
-use Rattle.machine.specs.Plain.{withRatesAndDues, plainStart, plainNextTick, plainPosition, plainOutputs, plainInstant, plainEventsOf, plainStatus}
+use Rattle.machine.specs.Plain.{settled, plainStart, plainNextTick, plainPosition, plainInstant, plainEventsOf, plainStatus}
 use Rattle.machine.specs.Plain.{lazyCount, plainFrom, plainEventsFrom, plainAfter, plainEvents}
 use Rattle.plan.specs.Unused.{natsZeroFrom, intsZeroFrom, planUnusedZero}
-use Rattle.machine.specs.SoundTest.{planSound, runningUnusedZero, integratorSound, runningSound, isSound}
+use Rattle.machine.specs.SoundTest.{planSound, heldSound, movedUnusedZero, integratorSound, runningSound, isSound}
 use Rattle.machine.specs.declared.State.{State}
 use Rattle.machine.specs.declared.Engine.{Engine}
 use Rattle.machine.specs.declared.Engine.the-variants.{Lazy, Eager}
@@ -169,7 +171,7 @@ examples =
     -- made all lazy
     ∷ case ℕ (afterCalls loaded (allBy Lazy mixed) .run .clocks .updates) 3
     ∷ case ℕ (movedNow cupPlan (afterCalls loaded (allBy Lazy mixed) .run)) 1
-    ∷ case ℕ (plainAfter cupPlan 5 .instants) 2
+    ∷ case ℕ (plainAfter cupPlan 5 .held .instants) 2
     ∷ []
 
 -- every example is right: each pair of values is equal by computation
@@ -177,17 +179,18 @@ pub examples-right : AllRight examples
 unfolding examples ceilDiv limited within countOf numberAt bytesOf signedOf unsignedOf flat table row joined every some all firstFrom
     horizonIn offsetIn lengthIn requiredOffset countIn part sectionIn columnOf columnIn planIn longEnough offsetsKept countKept sizesKept
     horizonKept countList countsKept integratorKept inputKept nodeTest pairAscends nodeKept linkLimitsKept linkOrdered commandLimitsKept
-    commandOrdered numberOf entryOf isClean orElse firstFinding horizonFinding integratorsFinding inputsFinding nodesFinding
-    linksFinding commandsFinding planFinding findingOf accepted sectionOf offsetFrom lengthOf offsetOf fileLength headerWords integratorWords inputWords
+    commandOrdered numberOf entryOf isClean orElse firstFinding horizonFinding integratorsFinding inputsFinding nodesFinding linksFinding
+    commandsFinding planFinding findingOf accepted sectionOf offsetFrom lengthOf offsetOf fileLength headerWords integratorWords inputWords
     nodeWords linkWords commandWords fileWords encode nodeValue valueWith valueOf sumOver rateOf upperLevel lowerLevel distance ticksTo
-    dueTick dueOf nextCommand commandTick leastDue nextTick startSlope startDue startOf startState idleState isDue setsInput
-    isCommanded changes dependsWith linkReaches reached positionAt inputThen inputsThen moves bytesOfEvent eventsAt outputsThen slopeThen xThen
-    dueThen figuresAfter nextTickOf instant eventsOf bars barring statusNumber statusIntegrator isPaused statusBy statusAt statusOf runningPaused afterRun eventsOfRun
-    positionOf withRatesAndDues plainStart plainNextTick plainPosition plainOutputs plainInstant plainEventsOf plainStatus
-    lazyCount plainFrom plainEventsFrom plainAfter plainEvents natsZeroFrom intsZeroFrom planUnusedZero planSound runningUnusedZero
-    integratorSound runningSound isSound loadOf writeNumber writeOf bufferOfWrite roomOf eventsMost runNumberIfSound runNumber ranState ranEvents
-    runOf bufferOfRun positionNumber positionedOf answerOf bufferOf acceptedBudget afterCalls budgetSum joinedBytes engineAt cutAt restAt allBy
-    growth growthUpTo isEager eagerInstants lazyGrowth movedNow
+    dueTick dueOf sets valueThen nextEntry entryTick nextCommand leastDue slopeOf inputsThen entriesTick nextTick startSlope startDue
+    startOf startState idleState isDue isCommanded woken gives placed changesBy dependsWith linkReaches reached touched positionAt moves
+    bytesOfEvent eventsAt outputsBy placeBy outcomeEvents dueThen figuresAfter nextTickOf instant eventsOf bars barring statusNumber
+    statusIntegrator isPaused statusBy statusAt statusOf runningPaused afterRun eventsOfRun positionOf settled plainStart plainNextTick
+    plainPosition plainInstant plainEventsOf plainStatus lazyCount plainFrom plainEventsFrom plainAfter plainEvents natsZeroFrom
+    intsZeroFrom planUnusedZero planSound heldSound movedUnusedZero integratorSound runningSound isSound loadOf writeNumber writeOf
+    bufferOfWrite roomOf eventsMost runNumberIfSound runNumber ranState ranEvents runOf bufferOfRun positionNumber positionedOf answerOf
+    bufferOf acceptedBudget afterCalls budgetSum joinedBytes engineAt cutAt restAt allBy growth growthUpTo isEager eagerInstants lazyGrowth
+    movedNow
 examples-right =
     refl & refl & refl & refl & refl & refl & refl & refl & refl & refl & refl & refl & refl & refl & refl & refl & refl & refl & refl & refl &
     refl & refl & refl & refl & refl & refl & refl & refl & refl & refl & refl & refl & refl & refl & refl & refl & refl & refl & refl & refl &

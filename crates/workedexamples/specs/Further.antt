@@ -5,6 +5,7 @@ use mathlib.Core.Bool.{Bool, true, false}
 use mathlib.Core.List.{List, [], _∷_}
 use Prim.Native.Nat.{ℕ}
 use lib.IntN.{ℤ, pos, negsuc}
+use lib.Dec.{eqb}
 use lib.ListN.{replicate}
 use Rattle.integers.specs.Division.{ceilDiv}
 use Rattle.integers.specs.Range.{limited, within}
@@ -24,16 +25,18 @@ use Rattle.plan.specs.ExampleFiles.{fileOf, cupPlan}
 use Rattle.plan.specs.declared.Plan.{Plan}
 use Rattle.machine.specs.Values.{nodeValue, valueWith, valueOf, sumOver, rateOf}
 use Rattle.machine.specs.Due.{upperLevel, lowerLevel, distance, ticksTo, dueTick, dueOf}
-use Rattle.machine.specs.Next.{nextCommand, commandTick, leastDue, nextTick}
+use Rattle.machine.specs.Entries.{sets, valueThen, nextEntry, entryTick}
+use Rattle.machine.specs.Next.{nextCommand, leastDue}
+use Rattle.machine.specs.Held.{slopeOf, heldStart, inputsThen, entriesTick, nextTick}
 use Rattle.machine.specs.Start.{startSlope, startDue, startOf, startState, idleState}
-use Rattle.machine.specs.Reach.{isDue, setsInput, isCommanded, changes, dependsWith, linkReaches, reached}
-use Rattle.machine.specs.Instant.{positionAt, inputThen, inputsThen, moves, bytesOfEvent, eventsAt, outputsThen, slopeThen, xThen, dueThen, figuresAfter}
+use Rattle.machine.specs.Reach.{isDue, isCommanded, woken, gives, placed, changesBy, changes, dependsWith, linkReaches, reached, touched}
+use Rattle.machine.specs.Instant.{positionAt, moves, bytesOfEvent, eventsAt, outputsBy, placeBy, outcomeEvents, dueThen, figuresAfter}
 use Rattle.machine.specs.Instant.{nextTickOf, instant, eventsOf}
 use Rattle.machine.specs.Status.{statusNumber, statusIntegrator, isPaused, bars, barring, statusBy, statusAt, statusOf, runningPaused}
 use Rattle.machine.specs.Runs.{afterRun, eventsOfRun, positionOf}
-use Rattle.machine.specs.Plain.{withRatesAndDues, plainStart, plainNextTick, plainPosition, plainOutputs, plainInstant, plainStatus}
+use Rattle.machine.specs.Plain.{settled, plainStart, plainNextTick, plainPosition, plainInstant, plainStatus}
 use Rattle.machine.specs.Plain.{plainEventsOf, plainEventsFrom, plainEvents, lazyCount, plainFrom, plainAfter}
-use Rattle.machine.specs.SoundTest.{planSound, runningUnusedZero, integratorSound, runningSound, isSound}
+use Rattle.machine.specs.SoundTest.{planSound, heldSound, movedUnusedZero, integratorSound, runningSound, isSound}
 use Rattle.machine.specs.declared.Running.{Running}
 use Rattle.machine.specs.declared.State.{State}
 use Rattle.machine.specs.declared.Engine.the-variants.{Lazy, Eager}
@@ -93,7 +96,25 @@ operandsFile =
 abbrev beyondFile : List ℕ
 beyondFile = fileOf 10 (0 ∷ 5 ∷ 1073741824 ∷ 1000 ∷ []) (5 ∷ []) [] (0 ∷ 2 ∷ 65536 ∷ 1 ∷ 2 ∷ 65536 ∷ []) []
 
+-- timed entries: two of tick 2, for the numbers 0 and 1, one of tick 3 for number 1, and two of tick 5 for number 0
+abbrev ticks : List ℕ
+ticks = 2 ∷ 2 ∷ 3 ∷ 5 ∷ 5 ∷ []
+
+abbrev numbers : List ℕ
+numbers = 0 ∷ 1 ∷ 1 ∷ 0 ∷ 0 ∷ []
+
 -- ---- what the cases say of them
+abbrev forNumber0 : ℕ → Bool
+forNumber0 e = eqb (natAt numbers e) 0
+
+-- the value of a number, which was 1, after those of the first `count` entries that are of tick t
+abbrev valueAfter : (t number count : ℕ) → ℤ
+valueAfter t number count = valueThen ticks numbers (pos 7 ∷ negsuc 7 ∷ pos 4 ∷ pos 9 ∷ pos 6 ∷ []) t number (pos 1) count
+
+-- the cup's integrator i is due or reached at tick t, with the due ticks d
+abbrev cupTouched : (d : List ℕ) (t i : ℕ) → Bool
+cupTouched d t i = touched cupPlan t (isDue d t) i
+
 abbrev lazily : Plan → ℕ → Running
 lazily p b = afterRun p Lazy b (startOf p)
 
@@ -120,8 +141,8 @@ abbrev sound : Running → Bool
 sound r = isSound (record { plan = cupPlan; run = r })
 
 -- the cup after its first instant, with other positions and outputs
-abbrev placed : List ℤ → List ℤ → Running
-placed x q = record {
+abbrev cupWith : List ℤ → List ℤ → Running
+cupWith x q = record {
   x = x;
   q = q;
   s = pos 3 ∷ pos 12 ∷ replicate 30 (pos 0);
@@ -149,7 +170,7 @@ planned horizon inputs starts = record {
     links = cupPlan .links;
     commands = cupPlan .commands;
   };
-  run = placed (pos 12 ∷ replicate 31 (pos 0)) (pos 12 ∷ replicate 31 (pos 0));
+  run = cupWith (pos 12 ∷ replicate 31 (pos 0)) (pos 12 ∷ replicate 31 (pos 0));
 }
 
 -- the start of the plan of two inputs that feed nothing, with another value of the first
@@ -173,13 +194,13 @@ pub further : List Case
 further =
     -- the cup by the plain machine: its events; status, clock and instants; positions
     case (List ℕ) (plainEvents cupPlan 64) cupEvents
-    ∷ case (List ℕ) (statusNumber (plainStatus cupPlan (plainAfter cupPlan 64)) ∷ plainAfter cupPlan 64 .clock ∷ plainAfter cupPlan 64 .instants ∷ []) (1 ∷ 6 ∷ 2 ∷ [])
+    ∷ case (List ℕ) (statusNumber (plainStatus cupPlan (plainAfter cupPlan 64)) ∷ plainAfter cupPlan 64 .clock ∷ plainAfter cupPlan 64 .held .instants ∷ []) (1 ∷ 6 ∷ 2 ∷ [])
     ∷ case (List ℤ) (plainAfter cupPlan 64 .x) (pos 18 ∷ pos 24 ∷ replicate 30 (pos 0))
     -- the cup at its end: finished names no integrator; outputs, slopes and due ticks by the plain machine and by the lazy engine; and what the
     -- lazy engine moves at each of the two instants, with the plain machine's due ticks
     ∷ case ℕ (statusIntegrator (plainStatus cupPlan (plainAfter cupPlan 64))) 0
     ∷ case ℕ (statusIntegrator (statusOf cupPlan (lazily cupPlan 64))) 0
-    ∷ case (List ℤ) (plainAfter cupPlan 64 .q) (pos 12 ∷ replicate 31 (pos 0))
+    ∷ case (List ℤ) (plainAfter cupPlan 64 .held .q) (pos 12 ∷ replicate 31 (pos 0))
     ∷ case (List ℤ) (plainAfter cupPlan 64 .s) (negsuc 2 ∷ pos 12 ∷ replicate 30 (pos 0))
     ∷ case (List ℕ) (plainAfter cupPlan 64 .d) (12 ∷ 88 ∷ replicate 30 0)
     ∷ case (List ℤ) (lazily cupPlan 64 .q) (pos 12 ∷ replicate 31 (pos 0))
@@ -219,10 +240,10 @@ further =
     -- the due integrator 0 is no operand of a node of kind 2 whose B is 0, so the integrator that the node feeds is not reached; by kind 0 it is, through
     -- a second node too
     ∷ case Bool (accepted limitFile) true
-    ∷ case Bool (reached (planIn limitFile) (startOf (planIn limitFile) .d) 4 1) false
+    ∷ case Bool (reached (planIn limitFile) (changes (planIn limitFile) (startOf (planIn limitFile) .d) 4) 1) false
     ∷ case ℕ (lazily (planIn limitFile) 1 .clocks .updates) 1
     ∷ case Bool (accepted chainFile) true
-    ∷ case Bool (reached (planIn chainFile) (startOf (planIn chainFile) .d) 4 1) true
+    ∷ case Bool (reached (planIn chainFile) (changes (planIn chainFile) (startOf (planIn chainFile) .d) 4) 1) true
     ∷ case ℕ (lazily (planIn chainFile) 1 .clocks .updates) 2
     ∷ case (List ℤ) (lazily (planIn chainFile) 1 .s) (pos 3 ∷ negsuc 8 ∷ replicate 30 (pos 0))
     -- two that are due at one tick: both outputs are set before either slope is taken
@@ -256,7 +277,7 @@ further =
     (4 ∷ 0 ∷ 0 ∷ 0 ∷ 0 ∷ 0 ∷ 0 ∷ 0 ∷ 12 ∷ 0 ∷ 0 ∷ 0 ∷ 4 ∷ 0 ∷ 0 ∷ 0 ∷ 2 ∷ 0 ∷ 0 ∷ 0 ∷ 5 ∷ 0 ∷ 0 ∷ 0 ∷ [])
     ∷ case (List ℤ) (lazily (planIn meetFile) 1 .s) (pos 5 ∷ negsuc 11 ∷ replicate 30 (pos 0))
     ∷ case (List ℕ) (lazily (planIn meetFile) 1 .d) (6 ∷ 88 ∷ replicate 30 0)
-    ∷ case (List ℤ) (plainAfter (planIn meetFile) 1 .inputs) (pos 5 ∷ replicate 7 (pos 0))
+    ∷ case (List ℤ) (plainAfter (planIn meetFile) 1 .held .inputs) (pos 5 ∷ replicate 7 (pos 0))
     ∷ case ℕ (lazily (planIn meetFile) 1 .clocks .updates) 2
     -- a product and a comparison depend on their B; a comparison on a commanded A
     ∷ case Bool (accepted operandsFile) true
@@ -269,6 +290,38 @@ further =
     ∷ case ℕ (statusNumber (statusOf (planIn beyondFile) (startOf (planIn beyondFile)))) 0
     ∷ case ℕ (lazily (planIn beyondFile) 1 .clocks .instants) 1
     ∷ case ℤ (positionOf (lazily (planIn beyondFile) 1) 1) (pos 1073741829)
+    -- timed entries: the next one is the first with a tick above the clock; one that does not count is passed over; one beyond the count is none;
+    -- where none is left the next one is the count, and its tick never
+    ∷ case ℕ (nextEntry ticks (λ e. true) 5 0) 0
+    ∷ case ℕ (nextEntry ticks (λ e. true) 5 2) 2
+    ∷ case ℕ (nextEntry ticks forNumber0 5 2) 3
+    ∷ case ℕ (entryTick ticks 5 2) 3
+    ∷ case ℕ (entryTick ticks 5 3) 5
+    ∷ case ℕ (nextEntry ticks (λ e. true) 3 3) 3
+    ∷ case ℕ (entryTick ticks 3 3) 4294967295
+    ∷ case ℕ (nextEntry ticks forNumber0 5 5) 5
+    ∷ case ℕ (entryTick ticks 5 5) 4294967295
+    -- what they set: two of one tick each their own number; one of another tick, or for another number, nothing; of two for one number the later counts
+    ∷ case Bool (sets ticks numbers 2 1 1) true
+    ∷ case Bool (sets ticks numbers 2 1 2) false
+    ∷ case ℤ (valueAfter 2 0 5) (pos 7)
+    ∷ case ℤ (valueAfter 2 1 5) (negsuc 7)
+    ∷ case ℤ (valueAfter 4 1 5) (pos 1)
+    ∷ case ℤ (valueAfter 3 0 5) (pos 1)
+    ∷ case ℤ (valueAfter 5 0 5) (pos 6)
+    ∷ case ℤ (valueAfter 5 0 4) (pos 9)
+    -- a plan's entries: the cup's command, and none behind its tick
+    ∷ case ℕ (entriesTick cupPlan (heldStart cupPlan)) 6
+    ∷ case ℕ (entriesTick cupPlan (plainAfter cupPlan 64 .held)) 4294967295
+    -- due or reached: at tick 4 the cup's integrator 0 is due and not reached, and integrator 1 reached and not due; at tick 6, with the due ticks
+    -- after that, integrator 0 is reached by the command and integrator 1 is neither; at tick 5 nothing happens
+    ∷ case Bool (reached cupPlan (changes cupPlan (4 ∷ 4294967295 ∷ []) 4) 0) false
+    ∷ case Bool (cupTouched (4 ∷ 4294967295 ∷ []) 4 0) true
+    ∷ case Bool (isDue (4 ∷ 4294967295 ∷ []) 4 1) false
+    ∷ case Bool (cupTouched (4 ∷ 4294967295 ∷ []) 4 1) true
+    ∷ case Bool (cupTouched (8 ∷ 88 ∷ []) 6 0) true
+    ∷ case Bool (cupTouched (8 ∷ 88 ∷ []) 6 1) false
+    ∷ case Bool (cupTouched (8 ∷ 88 ∷ []) 5 0) false
     -- idle: its due tick is never, it is finished, and its unused entries are 0
     ∷ case ℕ (natAt (idleState .run .d) 0) 4294967295
     ∷ case ℕ (natAt (idleState .run .d) 1) 0
@@ -295,11 +348,11 @@ further =
     ∷ case Bool (sound (figures (pos 12) (pos 0) (pos 3) (pos 12) 4 4 8 88 4 0 1 3)) false
     -- |q| ≤ M and inputs within ±M, at the limit and above; an unused entry of the running figures and of the plan; a rule of the plan; a
     -- count outside its limits
-    ∷ case Bool (sound (placed (pos 12 ∷ m ∷ replicate 30 (pos 0)) (pos 12 ∷ m ∷ replicate 30 (pos 0)))) true
-    ∷ case Bool (sound (placed (pos 12 ∷ pos 1073741825 ∷ replicate 30 (pos 0)) (pos 12 ∷ pos 1073741825 ∷ replicate 30 (pos 0)))) false
+    ∷ case Bool (sound (cupWith (pos 12 ∷ m ∷ replicate 30 (pos 0)) (pos 12 ∷ m ∷ replicate 30 (pos 0)))) true
+    ∷ case Bool (sound (cupWith (pos 12 ∷ pos 1073741825 ∷ replicate 30 (pos 0)) (pos 12 ∷ pos 1073741825 ∷ replicate 30 (pos 0)))) false
     ∷ case Bool (isSound (input minus-m)) true
     ∷ case Bool (isSound (input (pos 1073741825))) false
-    ∷ case Bool (sound (placed (pos 12 ∷ pos 0 ∷ pos 1 ∷ replicate 29 (pos 0)) (pos 12 ∷ replicate 31 (pos 0)))) false
+    ∷ case Bool (sound (cupWith (pos 12 ∷ pos 0 ∷ pos 1 ∷ replicate 29 (pos 0)) (pos 12 ∷ replicate 31 (pos 0)))) false
     ∷ case Bool (isSound (planned 10 1 (replicate 32 (pos 0)))) true
     ∷ case Bool (isSound (planned 10 1 (pos 0 ∷ pos 0 ∷ pos 1 ∷ replicate 29 (pos 0)))) false
     ∷ case Bool (isSound (planned 2000000001 1 (replicate 32 (pos 0)))) false
@@ -310,18 +363,21 @@ further =
 pub further-right : AllRight further
 unfolding further ceilDiv limited within countOf numberAt bytesOf signedOf unsignedOf flat table row joined every some all firstFrom
     horizonIn offsetIn lengthIn requiredOffset countIn part sectionIn columnOf columnIn planIn longEnough offsetsKept countKept sizesKept
-    horizonKept nodeTest pairAscends countList countsKept integratorKept inputKept nodeKept linkLimitsKept linkOrdered commandLimitsKept commandOrdered
-    numberOf isClean orElse firstFinding horizonFinding integratorsFinding inputsFinding nodesFinding linksFinding commandsFinding
-    planFinding findingOf accepted offsetFrom headerWords integratorWords fileWords encode natsZeroFrom intsZeroFrom planUnusedZero nodeValue valueWith
-    valueOf sumOver rateOf upperLevel lowerLevel distance ticksTo dueTick dueOf nextCommand commandTick leastDue nextTick startSlope
-    startDue startOf startState idleState isDue setsInput isCommanded changes dependsWith linkReaches reached positionAt inputThen
-    inputsThen moves bytesOfEvent eventsAt outputsThen slopeThen xThen dueThen figuresAfter nextTickOf instant eventsOf bars barring statusNumber statusIntegrator isPaused
-    statusBy statusAt statusOf runningPaused afterRun eventsOfRun positionOf withRatesAndDues plainStart plainNextTick plainPosition plainOutputs plainInstant
-    plainStatus plainEventsOf plainEventsFrom plainEvents lazyCount plainFrom plainAfter planSound runningUnusedZero integratorSound runningSound isSound
+    horizonKept nodeTest pairAscends countList countsKept integratorKept inputKept nodeKept linkLimitsKept linkOrdered commandLimitsKept
+    commandOrdered numberOf isClean orElse firstFinding horizonFinding integratorsFinding inputsFinding nodesFinding linksFinding
+    commandsFinding planFinding findingOf accepted offsetFrom headerWords integratorWords fileWords encode natsZeroFrom intsZeroFrom
+    planUnusedZero nodeValue valueWith valueOf sumOver rateOf upperLevel lowerLevel distance ticksTo dueTick dueOf sets valueThen nextEntry
+    entryTick nextCommand leastDue slopeOf inputsThen entriesTick nextTick startSlope startDue startOf startState idleState isDue
+    isCommanded woken gives placed changesBy dependsWith linkReaches reached touched positionAt moves bytesOfEvent eventsAt outputsBy
+    placeBy outcomeEvents dueThen figuresAfter nextTickOf instant eventsOf bars barring statusNumber statusIntegrator isPaused statusBy
+    statusAt statusOf runningPaused afterRun eventsOfRun positionOf settled plainStart plainNextTick plainPosition plainInstant plainStatus
+    plainEventsOf plainEventsFrom plainEvents lazyCount plainFrom plainAfter planSound heldSound movedUnusedZero integratorSound
+    runningSound isSound
 further-right =
     refl & refl & refl & refl & refl & refl & refl & refl & refl & refl & refl & refl & refl & refl & refl & refl & refl & refl & refl & refl &
     refl & refl & refl & refl & refl & refl & refl & refl & refl & refl & refl & refl & refl & refl & refl & refl & refl & refl & refl & refl &
     refl & refl & refl & refl & refl & refl & refl & refl & refl & refl & refl & refl & refl & refl & refl & refl & refl & refl & refl & refl &
     refl & refl & refl & refl & refl & refl & refl & refl & refl & refl & refl & refl & refl & refl & refl & refl & refl & refl & refl & refl &
     refl & refl & refl & refl & refl & refl & refl & refl & refl & refl & refl & refl & refl & refl & refl & refl & refl & refl & refl & refl &
-    refl & refl & refl & refl & refl & refl & refl & refl & end
+    refl & refl & refl & refl & refl & refl & refl & refl & refl & refl & refl & refl & refl & refl & refl & refl & refl & refl & refl & refl &
+    refl & refl & refl & refl & refl & refl & refl & refl & refl & refl & refl & refl & refl & refl & end

@@ -24,14 +24,16 @@ use Rattle.plan.specs.ExampleFiles.{fileOf, cupFile, cupPlan}
 use Rattle.plan.specs.declared.Plan.{Plan}
 use Rattle.machine.specs.Values.{nodeValue, valueWith, valueOf, sumOver, rateOf}
 use Rattle.machine.specs.Due.{upperLevel, lowerLevel, distance, ticksTo, dueTick, dueOf}
-use Rattle.machine.specs.Next.{nextCommand, commandTick, leastDue, nextTick}
+use Rattle.machine.specs.Entries.{sets, valueThen, nextEntry, entryTick}
+use Rattle.machine.specs.Next.{nextCommand, leastDue}
+use Rattle.machine.specs.Held.{slopeOf, inputsThen, entriesTick, nextTick}
 use Rattle.machine.specs.Start.{startSlope, startDue, startOf, startState}
-use Rattle.machine.specs.Reach.{isDue, setsInput, isCommanded, changes, dependsWith, linkReaches, reached}
-use Rattle.machine.specs.Instant.{positionAt, inputThen, inputsThen, moves, bytesOfEvent, eventsAt, outputsThen, slopeThen, xThen, dueThen, figuresAfter}
+use Rattle.machine.specs.Reach.{isDue, isCommanded, woken, gives, placed, changesBy, dependsWith, linkReaches, reached, touched}
+use Rattle.machine.specs.Instant.{positionAt, moves, bytesOfEvent, eventsAt, outputsBy, placeBy, outcomeEvents, dueThen, figuresAfter}
 use Rattle.machine.specs.Instant.{nextTickOf, instant, eventsOf}
 use Rattle.machine.specs.Status.{statusNumber, isPaused, bars, barring, statusBy, statusAt, statusOf, runningPaused}
 use Rattle.machine.specs.Runs.{afterRun, eventsOfRun, eventsMost, roomOf, positionOf}
-use Rattle.machine.specs.SoundTest.{planSound, runningUnusedZero, integratorSound, runningSound, isSound}
+use Rattle.machine.specs.SoundTest.{planSound, heldSound, movedUnusedZero, integratorSound, runningSound, isSound}
 use Rattle.machine.specs.declared.Engine.{Engine}
 use Rattle.machine.specs.declared.Engine.the-variants.{Lazy, Eager}
 use Rattle.listingtext.specs.Decimal.{digitsIn, decimal, signedDecimal}
@@ -213,15 +215,16 @@ p1-to-p9 =
 pub p1-to-p9-right : AllRight p1-to-p9
 unfolding p1-to-p9 ceilDiv limited within countOf numberAt bytesOf signedOf unsignedOf flat table row joined every some all firstFrom
     horizonIn offsetIn lengthIn requiredOffset countIn part sectionIn columnOf columnIn planIn longEnough offsetsKept countKept sizesKept
-    horizonKept pairAscends countList countsKept integratorKept inputKept linkLimitsKept linkOrdered commandLimitsKept commandOrdered numberOf isClean
-    orElse firstFinding horizonFinding integratorsFinding inputsFinding nodesFinding linksFinding commandsFinding planFinding findingOf
-    accepted offsetFrom headerWords integratorWords inputWords linkWords commandWords fileWords encode natsZeroFrom intsZeroFrom planUnusedZero
-    nodeValue valueWith valueOf sumOver rateOf upperLevel lowerLevel distance ticksTo dueTick dueOf nextCommand commandTick leastDue nextTick
-    startSlope startDue startOf startState isDue setsInput isCommanded changes dependsWith linkReaches reached positionAt inputThen
-    inputsThen moves bytesOfEvent eventsAt outputsThen slopeThen xThen dueThen figuresAfter nextTickOf instant eventsOf bars barring statusNumber isPaused statusBy statusAt statusOf
-    runningPaused afterRun eventsOfRun positionOf planSound runningUnusedZero integratorSound runningSound isSound digitsIn decimal signedDecimal eventLine
-    endLine lineAt linesOf loadOf roomOf eventsMost runNumberIfSound runNumber ranState ranEvents runOf bufferOfRun positionNumber positionedOf eventLines
-    endLineOf listingOfRun listingOf turnState turnMore turnText beginText turnsFrom printedIn
+    horizonKept pairAscends countList countsKept integratorKept inputKept linkLimitsKept linkOrdered commandLimitsKept commandOrdered
+    numberOf isClean orElse firstFinding horizonFinding integratorsFinding inputsFinding nodesFinding linksFinding commandsFinding
+    planFinding findingOf accepted offsetFrom headerWords integratorWords inputWords linkWords commandWords fileWords encode natsZeroFrom
+    intsZeroFrom planUnusedZero nodeValue valueWith valueOf sumOver rateOf upperLevel lowerLevel distance ticksTo dueTick dueOf sets
+    valueThen nextEntry entryTick nextCommand leastDue slopeOf inputsThen entriesTick nextTick startSlope startDue startOf startState isDue
+    isCommanded woken gives placed changesBy dependsWith linkReaches reached touched positionAt moves bytesOfEvent eventsAt outputsBy
+    placeBy outcomeEvents dueThen figuresAfter nextTickOf instant eventsOf bars barring statusNumber isPaused statusBy statusAt statusOf
+    runningPaused afterRun eventsOfRun positionOf planSound heldSound movedUnusedZero integratorSound runningSound isSound digitsIn decimal
+    signedDecimal eventLine endLine lineAt linesOf loadOf roomOf eventsMost runNumberIfSound runNumber ranState ranEvents runOf bufferOfRun
+    positionNumber positionedOf eventLines endLineOf listingOfRun listingOf turnState turnMore turnText beginText turnsFrom printedIn
 p1-to-p9-right =
     refl & refl & refl & refl & refl & refl & refl & refl & refl & refl & refl & refl & refl & refl & refl & refl & refl & refl & refl & refl &
     refl & refl & refl & refl & refl & refl & refl & refl & refl & end

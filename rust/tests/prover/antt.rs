@@ -215,14 +215,17 @@ pub fn plain(machine: &Plain) -> String {
         .map(|due| due.unwrap_or(u64::from(NEVER)))
         .collect();
     dues.resize(INTEGRATORS, 0);
-    record(&[
-        ("x", filled(&machine.positions, INTEGRATORS)),
+    let held = record(&[
         ("q", filled(&machine.outputs, INTEGRATORS)),
-        ("s", filled(&machine.slopes, INTEGRATORS)),
-        ("d", nats(&dues)),
         ("inputs", filled(&machine.inputs, INPUTS)),
-        ("clock", nat(machine.clock)),
         ("next", machine.next_command.to_string()),
         ("instants", nat(machine.instants)),
+    ]);
+    record(&[
+        ("x", filled(&machine.positions, INTEGRATORS)),
+        ("s", filled(&machine.slopes, INTEGRATORS)),
+        ("d", nats(&dues)),
+        ("clock", nat(machine.clock)),
+        ("held", held),
     ])
 }

@@ -8,11 +8,11 @@ use native.Mathlib.Nat.{mod-lt, zero-div, div-one, div-eq-of-lt, one-mul, pow-su
 use native.Mathlib.Nat.{eq-or-lt-of-le, le-of-suc-le-suc, not-suc-le-zero, lt-of-lt-of-le}
 use native.Mathlib.Numerals.{add-one, one-add}
 use native.Mathlib.Omega.{arith}
-use lib.Dec.{eqb, eqb·zero-suc, eqb·suc-zero, eqb·suc-suc}
+use lib.Dec.{ltb, eqb, eqb·zero-suc, eqb·suc-zero, eqb·suc-suc}
 use lib.Arith.{lt-one}
 use lib.Pow.{pow-pos, pow-mono, pow-lt, shl-exact, shr-shr, shr-lt, high}
 use lib.Bits.{bitAnd, bitOr, or-shr, or-mod, or-lt, or-shifted-r, and-shr, and-mod, block-half, block-odd}
-use borrow.Author.Tests.{eq-eqb, ne-eqb}
+use borrow.Author.Tests.{ltb-true, ltb-false, eq-eqb, ne-eqb}
 use Rattle.bitset.specs.Mask.{has, maskOf, allOf, union, withBit, unionShifted}
 
 -- the lowest digit is 0 or 1
@@ -180,6 +180,17 @@ has-maskOf p (suc n) i l =
     below : (b : Bool) {r : ℕ} → r < 2 ^ n → i < n → has (cond b (2 ^ n + r) r) i ≡ has r i
     below true {r} h k = rw (← with-above r n h) (has-with-other r n i (λ (e : i ≡ n). omega arith))
     below false h k = refl
+
+-- what is in the mask of a test is below its end, and passes the test
+pub member-below : (p : ℕ → Bool) (n i : ℕ) → has (maskOf p n) i ≡ true → i < n
+member-below p n i e = go (ltb i n) refl
+  where
+    go : (b : Bool) → ltb i n ≡ b → i < n
+    go true l = ltb-true i n l
+    go false l = absurd (true≢false (sym e ∙ has-high (maskOf p n) n i (maskOf-lt p n) (ltb-false i n l)))
+
+pub member-passes : (p : ℕ → Bool) (n i : ℕ) → has (maskOf p n) i ≡ true → p i ≡ true
+member-passes p n i e = sym (has-maskOf p n i (member-below p n i e)) ∙ e
 
 -- every mask is the mask of its bits
 pub maskOf-has : (m n : ℕ) → m < 2 ^ n → maskOf (has m) n ≡ m

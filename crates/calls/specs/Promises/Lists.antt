@@ -10,7 +10,7 @@ use Rattle.bitset.specs.Counts.{countOf}
 use Rattle.plan.specs.Lists.{intAt}
 use Rattle.plan.specs.Format.{planIn}
 use Rattle.plan.specs.declared.Plan.{Plan}
-use Rattle.machine.specs.Next.{nextTick}
+use Rattle.machine.specs.Held.{nextTick}
 use Rattle.machine.specs.Instant.{moves, eventsOf}
 use Rattle.machine.specs.Status.{statusNumber, statusIntegrator, statusOf}
 use Rattle.machine.specs.Runs.{roomOf}
@@ -42,13 +42,13 @@ pub record CallPromise (p : Plan) (st : State) (call : Call) (answer : Ran) (buf
 -- "Plain machine and engines are compared on everything but l, the stored x and updates"
 pub record SameAsPlain (p : Plan) (st : State) (plain : Plain) : Type 0 where
   pub plan : st .plan ≡ p
-  pub q : st .run .q ≡ plain .q
+  pub q : st .run .q ≡ plain .held .q
   pub s : st .run .s ≡ plain .s
   pub d : st .run .d ≡ plain .d
-  pub inputs : st .run .inputs ≡ plain .inputs
+  pub inputs : st .run .inputs ≡ plain .held .inputs
   pub clock : st .run .clocks .clock ≡ plain .clock
-  pub next : st .run .clocks .next ≡ plain .next
-  pub instants : st .run .clocks .instants ≡ plain .instants
+  pub next : st .run .clocks .next ≡ plain .held .next
+  pub instants : st .run .clocks .instants ≡ plain .held .instants
   -- "that takes in status and its integrator by the rule above, the position call for every integrator"
   pub status : statusOf p (st .run) ≡ plainStatus p plain
   pub position : (i : ℕ) → i < p .counts .n → positionedOf st i ≡ record { number = 0; value = intAt (plain .x) i; state = st }
@@ -101,8 +101,8 @@ ListsMean = (st : State) (call : Call) (calls : List Call) → FoldPromise st ca
 -- by how much updates grow: "by n if that call is eager, else by the number that step 5 moves for the lazy engine, with the plain machine's due
 -- ticks"; over the instants 1 to `last`, n times those that eager calls took, and the number due or reached over those that lazy calls took
 pub record GrowthPromise (p : Plan) (engine : ℕ → Engine) (last : ℕ) (plain : Plain) : Type 0 where
-  pub lazy : growth p Lazy plain ≡ countOf (moves p Lazy (plain .d) (nextTick p (plain .d) (plain .next))) (p .counts .n)
-  pub due-or-reached : lazyCount p plain ≡ countOf (moves p Lazy (plain .d) (nextTick p (plain .d) (plain .next))) (p .counts .n)
+  pub lazy : growth p Lazy plain ≡ countOf (moves p Lazy (plain .d) (nextTick p (plain .d) (plain .held))) (p .counts .n)
+  pub due-or-reached : lazyCount p plain ≡ countOf (moves p Lazy (plain .d) (nextTick p (plain .d) (plain .held))) (p .counts .n)
   pub parts : growthUpTo p engine last ≡ p .counts .n * eagerInstants engine last + lazyGrowth p engine last
   -- an instant that an eager call took counts in the first part alone, one that a lazy call took in the second alone
   pub none : (eagerInstants engine 0 ≡ 0) × (lazyGrowth p engine 0 ≡ 0)
@@ -121,10 +121,10 @@ pub record ListPromise (p : Plan) (st : State) (calls : List Call) : Type 0 wher
   pub state : SameAsPlain p (afterCalls st calls) (plainAfter p (budgetSum st calls))
   -- "and the bytes that accepted calls answer as written, joined in call order"
   pub bytes : joinedBytes st calls ≡ plainEvents p (budgetSum st calls)
-  pub instants : (i : ℕ) → 1 ≤ i → i ≤ plainAfter p (budgetSum st calls) .instants → InstantPromise p st calls i
-  pub updates : afterCalls st calls .run .clocks .updates ≡ growthUpTo p (engineAt st calls) (plainAfter p (budgetSum st calls) .instants)
+  pub instants : (i : ℕ) → 1 ≤ i → i ≤ plainAfter p (budgetSum st calls) .held .instants → InstantPromise p st calls i
+  pub updates : afterCalls st calls .run .clocks .updates ≡ growthUpTo p (engineAt st calls) (plainAfter p (budgetSum st calls) .held .instants)
   -- n times the instants that eager calls took, and over those that lazy calls took the number due or reached
-  pub counted : let last = plainAfter p (budgetSum st calls) .instants in
+  pub counted : let last = plainAfter p (budgetSum st calls) .held .instants in
       afterCalls st calls .run .clocks .updates ≡ p .counts .n * eagerInstants (engineAt st calls) last + lazyGrowth p (engineAt st calls) last
   -- "any two lists with an equal sum end alike in all of these"
   pub alike : (others : List Call) → budgetSum st others ≡ budgetSum st calls
@@ -137,8 +137,8 @@ pub record ListPromise (p : Plan) (st : State) (calls : List Call) : Type 0 wher
   -- such lists there are: this one, made all lazy or all eager
   pub one-engine : (engine : Engine) → AllBy engine (allBy engine calls)
   pub same-sum : (engine : Engine) → budgetSum st (allBy engine calls) ≡ budgetSum st calls
-  pub all-lazy : afterCalls st (allBy Lazy calls) .run .clocks .updates ≡ growthUpTo p (λ i. Lazy) (plainAfter p (budgetSum st calls) .instants)
-  pub all-eager : afterCalls st (allBy Eager calls) .run .clocks .updates ≡ p .counts .n * plainAfter p (budgetSum st calls) .instants
+  pub all-lazy : afterCalls st (allBy Lazy calls) .run .clocks .updates ≡ growthUpTo p (λ i. Lazy) (plainAfter p (budgetSum st calls) .held .instants)
+  pub all-eager : afterCalls st (allBy Eager calls) .run .clocks .updates ≡ p .counts .n * plainAfter p (budgetSum st calls) .held .instants
 
 abbrev pub Demand3 : Type 0
 Demand3 = (file : List ℕ) → loadOf file .number ≡ 0 → (calls : List Call) → ListPromise (planIn file) (loadOf file .state) calls

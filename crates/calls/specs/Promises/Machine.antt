@@ -150,7 +150,7 @@ StepsMean = (p : Plan) (engine : Engine) (r : Running) → PlanRules p → StepP
 -- which sources change, and step 4: the tests are the relations in document 01's words
 pub record ReachPromise (p : Plan) (d : List ℕ) (t i : ℕ) : Type 0 where
   pub change : (changes p d t i ≡ true → Changed p d t i) × (Changed p d t i → changes p d t i ≡ true)
-  pub reach : (reached p d t i ≡ true → Reached p d t i) × (Reached p d t i → reached p d t i ≡ true)
+  pub reach : (reached p (changes p d t) i ≡ true → Reached p (Changed p d t) i) × (Reached p (Changed p d t) i → reached p (changes p d t) i ≡ true)
 
 abbrev pub ReachMeans : Type 0
 ReachMeans = (p : Plan) (d : List ℕ) (t i : ℕ) → PlanRules p → ReachPromise p d t i
@@ -158,7 +158,7 @@ ReachMeans = (p : Plan) (d : List ℕ) (t i : ℕ) → PlanRules p → ReachProm
 -- an integrator that an instant does not reach keeps its rate
 abbrev pub UnreachedKeepsRate : Type 0
 UnreachedKeepsRate =
-    (p : Plan) (engine : Engine) (r : Running) (i : ℕ) → PlanRules p → (Reached p (r .d) (nextTickOf p r) i → ⊥)
+    (p : Plan) (engine : Engine) (r : Running) (i : ℕ) → PlanRules p → (Reached p (Changed p (r .d) (nextTickOf p r)) i → ⊥)
     → rateOf p (instant p engine r .q) (instant p engine r .inputs) i ≡ rateOf p (r .q) (r .inputs) i
 
 -- 12 bytes from `at` on read back as an event's tick, source and value
@@ -209,30 +209,30 @@ RunTakes = (p : Plan) (engine : Engine) (r : Running) → RunPromise p engine r
 -- Start
 pub record PlainStartPromise (p : Plan) (plain : Plain) : Type 0 where
   pub x : (i : ℕ) → i < p .counts .n → intAt (plain .x) i ≡ intAt (p .integrators .starts) i
-  pub q : (i : ℕ) → i < p .counts .n → intAt (plain .q) i ≡ intAt (p .integrators .starts) i
-  pub s : (i : ℕ) → i < p .counts .n → intAt (plain .s) i ≡ rateOf p (plain .q) (plain .inputs) i
-  pub d : (i : ℕ) → i < p .counts .n → natAt (plain .d) i ≡ dueOf p (plain .q) i 0 (intAt (plain .x) i) (intAt (plain .s) i)
-  pub inputs : (j : ℕ) → j < p .counts .m → intAt (plain .inputs) j ≡ intAt (p .inputs .firsts) j
+  pub q : (i : ℕ) → i < p .counts .n → intAt (plain .held .q) i ≡ intAt (p .integrators .starts) i
+  pub s : (i : ℕ) → i < p .counts .n → intAt (plain .s) i ≡ rateOf p (plain .held .q) (plain .held .inputs) i
+  pub d : (i : ℕ) → i < p .counts .n → natAt (plain .d) i ≡ dueOf p (plain .held .q) i 0 (intAt (plain .x) i) (intAt (plain .s) i)
+  pub inputs : (j : ℕ) → j < p .counts .m → intAt (plain .held .inputs) j ≡ intAt (p .inputs .firsts) j
   pub clock : plain .clock ≡ 0
-  pub next : CommandPromise p 0 (plain .next)
-  pub instants : plain .instants ≡ 0
+  pub next : CommandPromise p 0 (plain .held .next)
+  pub instants : plain .held .instants ≡ 0
 
 -- one instant, at tick t, from the figures `plain` to the figures `plain′`
 pub record PlainStepPromise (p : Plan) (t : ℕ) (plain plain′ : Plain) : Type 0 where
   -- where integrator i is at t: it was last moved at the clock
   pub position : (i : ℕ) → plainPosition p plain i ≡ intAt (plain .x) i +ℤ intAt (plain .s) i *ℤ pos (t - plain .clock)
-  pub sources : SourcesPromise p (plain .d) t (plainPosition p plain) (plain .q) (plain .inputs) (plain′ .q) (plain′ .inputs)
+  pub sources : SourcesPromise p (plain .d) t (plainPosition p plain) (plain .held .q) (plain .held .inputs) (plain′ .held .q) (plain′ .held .inputs)
   -- "every integrator moved", with the slope and the due tick by the new outputs and inputs
   pub x : (i : ℕ) → i < p .counts .n → intAt (plain′ .x) i ≡ plainPosition p plain i
-  pub s : (i : ℕ) → i < p .counts .n → intAt (plain′ .s) i ≡ rateOf p (plain′ .q) (plain′ .inputs) i
-  pub d : (i : ℕ) → i < p .counts .n → natAt (plain′ .d) i ≡ dueOf p (plain′ .q) i t (intAt (plain′ .x) i) (intAt (plain′ .s) i)
+  pub s : (i : ℕ) → i < p .counts .n → intAt (plain′ .s) i ≡ rateOf p (plain′ .held .q) (plain′ .held .inputs) i
+  pub d : (i : ℕ) → i < p .counts .n → natAt (plain′ .d) i ≡ dueOf p (plain′ .held .q) i t (intAt (plain′ .x) i) (intAt (plain′ .s) i)
   pub clock : plain′ .clock ≡ t
-  pub next : CommandPromise p t (plain′ .next)
-  pub instants : plain′ .instants ≡ plain .instants + 1
+  pub next : CommandPromise p t (plain′ .held .next)
+  pub instants : plain′ .held .instants ≡ plain .held .instants + 1
 
 -- what is read from any figures: the next instant's tick, the status, the instant itself and its events
 pub record PlainPromise (p : Plan) (plain : Plain) : Type 0 where
-  pub tick : NextPromise p (plain .d) (plain .next) (plainNextTick p plain)
+  pub tick : NextPromise p (plain .d) (plain .held .next) (plainNextTick p plain)
   pub status : StatusPromise p (plain .d) (plainNextTick p plain) (plainPosition p plain) (statusNumber (plainStatus p plain)) (statusIntegrator (plainStatus p plain))
   pub step : PlanRules p → PlainStepPromise p (plainNextTick p plain) plain (plainInstant p plain)
   pub events : PlanRules p → plainStatus p plain ≡ Paused → EventsPromise p (plain .d) (plainNextTick p plain) (plainPosition p plain) (plainEventsOf p plain)
@@ -251,10 +251,10 @@ pub record PlainRunPromise (p : Plan) (b : ℕ) : Type 0 where
   pub stopped : (plainStatus p (plainAfter p b) ≡ Paused → ⊥)
       → (plainAfter p (b + 1) ≡ plainAfter p b) × (plainEvents p (b + 1) ≡ plainEvents p b)
   -- so it takes b, all of them where it is paused then, or fewer where its status is 1 or 2; and before each that it takes it is paused
-  pub most : plainAfter p b .instants ≤ b
-  pub all : plainStatus p (plainAfter p b) ≡ Paused → plainAfter p b .instants ≡ b
-  pub fewer : plainAfter p b .instants < b → (statusNumber (plainStatus p (plainAfter p b)) ≡ 1) ⊎ (statusNumber (plainStatus p (plainAfter p b)) ≡ 2)
-  pub paused : (i : ℕ) → i < plainAfter p b .instants → plainStatus p (plainAfter p i) ≡ Paused
+  pub most : plainAfter p b .held .instants ≤ b
+  pub all : plainStatus p (plainAfter p b) ≡ Paused → plainAfter p b .held .instants ≡ b
+  pub fewer : plainAfter p b .held .instants < b → (statusNumber (plainStatus p (plainAfter p b)) ≡ 1) ⊎ (statusNumber (plainStatus p (plainAfter p b)) ≡ 2)
+  pub paused : (i : ℕ) → i < plainAfter p b .held .instants → plainStatus p (plainAfter p i) ≡ Paused
 
 abbrev pub PlainTakes : Type 0
 PlainTakes = (p : Plan) (b : ℕ) → PlainRunPromise p b

@@ -22,9 +22,9 @@ pub record SessionPromise (p : Plan) (st : State) (made : List MadeCall) : Type 
   -- the outcome is that of the plain machine fed the accepted budgets, and updates have grown as its instants say
   pub state : SameAsPlain p (lastState st made) (plainAfter p (acceptedSum made))
   pub bytes : writtenBytes made ≡ plainEvents p (acceptedSum made)
-  pub updates : lastState st made .run .clocks .updates ≡ growthUpTo p (engineAt st (callsOf made)) (plainAfter p (acceptedSum made) .instants)
+  pub updates : lastState st made .run .clocks .updates ≡ growthUpTo p (engineAt st (callsOf made)) (plainAfter p (acceptedSum made) .held .instants)
   -- n times the instants that eager calls took, and over those that lazy calls took the number due or reached
-  pub counted : let engine = engineAt st (callsOf made) in let last = plainAfter p (acceptedSum made) .instants in
+  pub counted : let engine = engineAt st (callsOf made) in let last = plainAfter p (acceptedSum made) .held .instants in
       lastState st made .run .clocks .updates ≡ p .counts .n * eagerInstants engine last + lazyGrowth p engine last
   -- "any two lists with an equal sum end alike in all of these"
   pub alike : (others : List MadeCall) → Session st others → acceptedSum others ≡ acceptedSum made

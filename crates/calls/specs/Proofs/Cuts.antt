@@ -12,7 +12,7 @@ use lib.ListN.{List·getD-append}
 use lib.Seq.{take-append-add, drop-append-add, getD-append-add, take-nil, drop-nil}
 use borrow.Author.Tests.{leb-true, leb-false, le-leb, lt-leb}
 use Rattle.plan.specs.declared.Plan.{Plan}
-use Rattle.machine.specs.Sound.{SoundRunning}
+use Rattle.machine.specs.Laws.SoundClauses.{SoundRunning}
 use Rattle.machine.specs.Laws.Instants.{engineOf}
 use Rattle.machine.specs.declared.Running.{Running}
 use Rattle.machine.specs.declared.Engine.{Engine}

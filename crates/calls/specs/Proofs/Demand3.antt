@@ -12,7 +12,7 @@ use Rattle.plan.specs.declared.Plan.{Plan}
 use Rattle.machine.specs.Start.{startOf, startState}
 use Rattle.machine.specs.Plain.{plainAfter, plainEvents}
 use Rattle.machine.specs.Updates.{growthUpTo}
-use Rattle.machine.specs.Sound.{SoundRunning}
+use Rattle.machine.specs.Laws.SoundClauses.{SoundRunning}
 use Rattle.machine.specs.Laws.StartSound.{start-sound}
 use Rattle.machine.specs.Laws.Growth.{growth-least, growth-most}
 use Rattle.machine.specs.Laws.Instants.{engineOf, stateAt, growth-mono, growth-ext, growth-eager, growth-parts, run-together, events-next, moved-next, instants-at, updates-at, updates-end}
@@ -58,11 +58,11 @@ module _ (p : Plan) (ok : SoundRunning p (startOf p)) where
     grown : (k : ℕ) → growthUpTo p (engineOf engines) k ≡ growthUpTo p (engineAt start calls) k
     grown k = growth-ext p (engineOf engines) (engineAt start calls) k (λ i h. sym (engine-at p calls (startOf p) ok (i + 1) (omega arith)))
 
-    updates-then : afterCalls start calls .run .clocks .updates ≡ growthUpTo p (engineOf engines) (plainAfter p (length engines) .instants)
+    updates-then : afterCalls start calls .run .clocks .updates ≡ growthUpTo p (engineOf engines) (plainAfter p (length engines) .held .instants)
     updates-then = rw end (updates-end p ok engines)
 
-    updates : afterCalls start calls .run .clocks .updates ≡ growthUpTo p (engineAt start calls) (plainAfter p (budgetSum start calls) .instants)
-    updates = rw sum (updates-then ∙ grown (plainAfter p (length engines) .instants))
+    updates : afterCalls start calls .run .clocks .updates ≡ growthUpTo p (engineAt start calls) (plainAfter p (budgetSum start calls) .held .instants)
+    updates = rw sum (updates-then ∙ grown (plainAfter p (length engines) .held .instants))
 
     -- ---- cut behind instant i
     cut-state : (i : ℕ) → afterCalls start (cutAt start calls i) ≡ at p (stateAt p engines i)
@@ -90,7 +90,7 @@ module _ (p : Plan) (ok : SoundRunning p (startOf p)) where
         ∙ ap (λ es. at p (afterBy p es after-cut)) (schedule-rest p calls (startOf p) ok i)
         ∙ ap (at p) (sym (after-append p (take i engines) (drop i engines) (startOf p)) ∙ ap (λ es. afterBy p es (startOf p)) (take-append-drop i engines)))
 
-    instant-promise : (i : ℕ) → 1 ≤ i → i ≤ plainAfter p (length engines) .instants → InstantPromise p start calls i
+    instant-promise : (i : ℕ) → 1 ≤ i → i ≤ plainAfter p (length engines) .held .instants → InstantPromise p start calls i
     instant-promise zero l h = absurd (omega arith)
     instant-promise (suc k) l h =
         let back : suc k - 1 ≡ k = omega arith in
@@ -120,23 +120,23 @@ module _ (p : Plan) (ok : SoundRunning p (startOf p)) where
         let back : i + 1 - 1 ≡ i = omega arith in
         rw (back, schedule-by p engine calls all) (getD-replicate (length (schedule p calls)) i engine Lazy h)
 
-    updates-by : afterCalls start calls .run .clocks .updates ≡ growthUpTo p (λ i. engine) (plainAfter p (budgetSum start calls) .instants)
+    updates-by : afterCalls start calls .run .clocks .updates ≡ growthUpTo p (λ i. engine) (plainAfter p (budgetSum start calls) .held .instants)
     updates-by =
         rw (sum calls)
         (updates-then calls
-        ∙ growth-ext p (engineOf (schedule p calls)) (λ i. engine) (plainAfter p (length (schedule p calls)) .instants)
+        ∙ growth-ext p (engineOf (schedule p calls)) (λ i. engine) (plainAfter p (length (schedule p calls)) .held .instants)
         (λ i h. one-engine i (omega (arith, takes-most p (length (schedule p calls))))))
 
   same-sum : (engine : Engine) (calls : List Call) → budgetSum start (allBy engine calls) ≡ budgetSum start calls
   same-sum engine calls = sum (allBy engine calls) ∙ length-all p engine calls ∙ sym (sum calls)
 
   all-updates : (engine : Engine) (calls : List Call) → afterCalls start (allBy engine calls) .run .clocks .updates
-      ≡ growthUpTo p (λ i. engine) (plainAfter p (budgetSum start calls) .instants)
+      ≡ growthUpTo p (λ i. engine) (plainAfter p (budgetSum start calls) .held .instants)
   all-updates engine calls = updates-by engine (allBy engine calls) (all-by engine calls) ∙ rw (same-sum engine calls)
 
   pub list-promise : (calls : List Call) → ListPromise p start calls
   list-promise calls =
-      let k = plainAfter p (budgetSum start calls) .instants in
+      let k = plainAfter p (budgetSum start calls) .held .instants in
       record {
         each = λ earlier c later e.
             rw (calls-state p earlier (startOf p) ok)

@@ -14,12 +14,14 @@ use Rattle.plan.specs.Laws.CountLimits.{CountLimits, count-limits}
 use Rattle.plan.specs.Laws.Layout.{file-least, file-most}
 use Rattle.plan.specs.Laws.Parts.{offset-lt, length-lt, section-end, length-most, file-limits}
 use Rattle.plan.specs.Laws.View.{length-shown, start-shown}
+use Rattle.machine.specs.Reach.{isDue, gives}
 use Rattle.machine.specs.Instant.{positionAt, nextTickOf}
 use Rattle.machine.specs.Runs.{eventsMost, roomOf}
 use Rattle.machine.specs.Sound.{Sound}
 use Rattle.machine.specs.Status.{statusOf}
 use Rattle.machine.specs.Laws.Lengths.{run-bytes}
 use Rattle.machine.specs.Laws.Positions.{position-size}
+use Rattle.machine.specs.Laws.SoundTest.{words-clauses}
 use Rattle.machine.specs.Laws.Status.{number-most, integrator-most}
 use Rattle.machine.specs.declared.State.{State}
 use Rattle.machine.specs.declared.Engine.{Engine}
@@ -67,7 +69,7 @@ module _ (st : State) where
       let number = runNumber st budget (length buffer) in let tested = run-zero st budget (length buffer) in record {
         number = run-most st budget (length buffer);
         status = figure-most number 2 (λ e. number-most (statusOf p r));
-        integrator = figure-most number 31 (λ e. integrator-most p (r .d) t (positionAt r t) (counts-by (tested e .0) .n));
+        integrator = figure-most number 31 (λ e. integrator-most p t (gives (isDue (r .d) t)) (positionAt r t) (counts-by (tested e .0) .n));
         written =
             figure-most number 491520
             (λ e. le-trans (run-bytes p engine budget (st .run)) (room-most p (counts-by (tested e .0)) budget 1024 (tested e .1)));
@@ -85,7 +87,7 @@ module _ (st : State) where
         position = λ i. (
           position-most st i,
           accept-cases {A = ℤ} (λ z. ∣ z ∣ < 2 ^ 31) (positionNumber st i)
-              (λ e. let k = position-zero st i e in position-size (st .plan) (st .run) (k .0) i (k .1)) (omega arith),
+              (λ e. let k = position-zero st i e in position-size (st .plan) (st .run) (words-clauses (st .plan) (st .run) (k .0)) i (k .1)) (omega arith),
         );
         run = run-limits;
       }
@@ -97,6 +99,6 @@ limits =
       files = any-limits;
       rates = rate-limits;
       levels = λ p q i x s k a above below. level-limits p q i x s k a (record { above = above; below = below });
-      states = λ st. state-limits (st .plan) (st .run);
+      states = λ st s. state-limits (st .plan) (st .run) (words-clauses (st .plan) (st .run) s);
       answers = answer-limits;
     }

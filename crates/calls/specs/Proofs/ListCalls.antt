@@ -9,7 +9,8 @@ use lib.Seq.{drop-append-seam}
 use borrow.Author.Tests.{eq-eqb}
 use Rattle.plan.specs.declared.Plan.{Plan}
 use Rattle.machine.specs.Runs.{eventsMost, roomOf}
-use Rattle.machine.specs.Sound.{SoundRunning}
+use Rattle.machine.specs.Laws.SoundClauses.{SoundRunning}
+use Rattle.machine.specs.Laws.SoundTest.{clauses-words}
 use Rattle.machine.specs.declared.Running.{Running}
 use Rattle.calls.specs.Calls.{writtenOver, runNumber, ranState, ranEvents, runOf, bufferOfRun}
 use Rattle.calls.specs.Lists.{Call, answerOf, bufferOf}
@@ -21,11 +22,11 @@ module _ (p : Plan) (r : Running) (ok : SoundRunning p r) where
   pub call-promise : (c : Call) → CallPromise p (at p r) c (answerOf (at p r) c) (bufferOf (at p r) c)
   unfolding answerOf bufferOf runOf ranState bufferOfRun roomOf eventsMost
   call-promise c =
-      let numbers = every-number (at p r) (c .buffer) in
+      let numbers = every-number (at p r) (c .buffer) in let sound = clauses-words p r ok in
       record {
-        above = numbers .run-above (c .engine) (c .budget) ok;
-        short = numbers .run-short (c .engine) (c .budget) ok;
-        accepted = numbers .run-accepted (c .engine) (c .budget) ok;
+        above = numbers .run-above (c .engine) (c .budget) sound;
+        short = numbers .run-short (c .engine) (c .budget) sound;
+        accepted = numbers .run-accepted (c .engine) (c .budget) sound;
         status = λ e. rw (eq-eqb (runNumber (at p r) (c .budget) (length (c .buffer))) 0 e);
         integrator = λ e. rw (eq-eqb (runNumber (at p r) (c .budget) (length (c .buffer))) 0 e);
         size = every-buffer (at p r) (c .buffer) .run-size (c .engine) (c .budget);

@@ -1,6 +1,6 @@
 -- Proof: a state which agrees with the plain machine is the same as it in everything that is compared, and two such states are alike.
 -- Assumes nothing.
-use mathlib.Core.Path.{_≡_, refl, sym, _∙_}
+use mathlib.Core.Path.{_≡_, refl, sym, ap, _∙_}
 use mathlib.Core.Bool.{Bool, true, false, cond}
 use mathlib.Core.List.{List}
 use Prim.Native.Nat.{ℕ}
@@ -10,9 +10,9 @@ use borrow.Author.Tests.{ltb-true, ltb-false, lt-ltb, le-ltb}
 use Rattle.plan.specs.Lists.{intAt}
 use Rattle.plan.specs.declared.Plan.{Plan}
 use Rattle.machine.specs.Plain.{Plain}
-use Rattle.machine.specs.Sound.{SoundRunning}
-use Rattle.machine.specs.Laws.Agreement.{Agrees, same-status}
-use Rattle.machine.specs.Laws.SoundTest.{sound-means}
+use Rattle.machine.specs.Laws.SoundClauses.{SoundRunning}
+use Rattle.machine.specs.Laws.Agreement.{Agrees, same-status, place-of}
+use Rattle.machine.specs.Laws.SoundTest.{test-clauses}
 use Rattle.machine.specs.declared.Running.{Running}
 use Rattle.machine.specs.declared.State.{State}
 use Rattle.calls.specs.Calls.{positionNumber, positionedOf}
@@ -25,16 +25,16 @@ module _ (p : Plan) (r : Running) (ok : SoundRunning p r) where
   same-as-plain m a =
       record {
         plan = refl;
-        q = a .q;
-        s = a .s;
-        d = a .d;
-        inputs = a .inputs;
+        q = ap (λ h. h .q) (a .forward .held);
+        s = a .forward .s;
+        d = a .forward .d;
+        inputs = ap (λ h. h .inputs) (a .forward .held);
         clock = a .clock;
-        next = a .next;
-        instants = a .instants;
-        status = same-status p r ok m a;
-        position = λ i h. rw (sound-means (at p r) .1 ok, lt-ltb i (p .counts .n) h, a .place i h);
-        no-position = λ i h. rw (sound-means (at p r) .1 ok, le-ltb i (p .counts .n) h);
+        next = ap (λ h. h .next) (a .forward .held);
+        instants = ap (λ h. h .instants) (a .forward .held);
+        status = same-status p r ok m (a .forward);
+        position = λ i h. rw (test-clauses (at p r) .1 ok, lt-ltb i (p .counts .n) h, place-of p r m a i h);
+        no-position = λ i h. rw (test-clauses (at p r) .1 ok, le-ltb i (p .counts .n) h);
       }
 
 -- what the position call answers is settled by the plain machine

@@ -1,21 +1,19 @@
 -- Proof: the promises about the plain machine: its start, its instants, what is read from it, and how many instants it takes. Assumes
 -- nothing.
 use mathlib.Core.Path.{refl}
-use Rattle.plan.specs.Laws.CountLimits.{count-limits}
-use Rattle.machine.specs.Plain.{withRatesAndDues, plainStart, plainNextTick, plainPosition, plainOutputs, plainInstant, plainEventsOf}
+use Rattle.machine.specs.Plain.{settled, plainStart, plainNextTick, plainPosition, plainInstant, plainEventsOf}
 use Rattle.machine.specs.Plain.{plainStatus, plainFrom, plainEventsFrom, plainAfter, plainEvents}
-use Rattle.machine.specs.Laws.PlainSteps.{began-s, began-d, plain-due, plain-not-due, plain-set, plain-not-set, plain-x, plain-s, plain-d}
+use Rattle.machine.specs.Laws.PlainSteps.{began-x, began-s, began-d, plain-due, plain-not-woken, plain-set, plain-not-set, plain-x, plain-s, plain-d}
 use Rattle.machine.specs.Laws.PlainRuns.{takes-most, takes-all, takes-fewer, paused-before, after-next, events-next, after-same}
-use Rattle.machine.specs.Laws.InstantFigures.{output-due}
-use Rattle.calls.specs.Promises.Machine.{PlainStarts, PlainStepPromise, PlainMeans, PlainTakes}
+use Rattle.calls.specs.Promises.Machine.{PlainStarts, PlainMeans, PlainTakes}
 use Rattle.calls.specs.Proofs.Machine.{command-means, next-promise, status-promise}
 use Rattle.calls.specs.Proofs.Events.{events-promise}
 
 pub plain-starts : PlainStarts
-unfolding plainStart withRatesAndDues
+unfolding plainStart settled
 plain-starts p rules =
     record {
-      x = λ i h. refl;
+      x = began-x p rules;
       q = λ i h. refl;
       s = began-s p rules;
       d = began-d p rules;
@@ -26,18 +24,18 @@ plain-starts p rules =
     }
 
 pub plain-means : PlainMeans
-unfolding plainNextTick plainStatus plainEventsOf plainOutputs plainPosition plainInstant withRatesAndDues
+unfolding plainNextTick plainStatus plainEventsOf plainPosition plainInstant settled
 plain-means p m =
     let t = plainNextTick p m in
     record {
-      tick = next-promise p (m .d) (m .next);
+      tick = next-promise p (m .d) (m .held);
       status = status-promise p (m .d) t (plainPosition p m);
       step = λ rules. record {
         position = λ i. refl;
         sources =
             record {
               due = plain-due p rules m;
-              not-due = plain-not-due p rules m;
+              not-due = plain-not-woken p rules m;
               set = plain-set p rules m;
               not-set = plain-not-set p rules m;
             };
@@ -48,9 +46,7 @@ plain-means p m =
         next = command-means p t;
         instants = refl;
       };
-      events = λ rules paused.
-          events-promise p rules (m .d) t (plainPosition p m) (plainOutputs p m) (m .inputs) paused
-          (output-due p (count-limits p (rules .counts)) (m .d) t (plainPosition p m) (m .q));
+      events = λ rules paused. events-promise p rules (m .d) t (plainPosition p m) (m .held) paused;
     }
 
 pub plain-takes : PlainTakes

@@ -8,8 +8,10 @@ use Rattle.calls.specs.Proofs.CallNumbers.{run-zero}
 use borrow.Author.Tests.{eq-eqb}
 use Rattle.plan.specs.declared.Plan.{Plan}
 use Rattle.machine.specs.Status.{statusNumber, statusOf}
-use Rattle.machine.specs.Sound.{RunningWidths, SoundRunning}
+use Rattle.machine.specs.Sound.{RunningWidths}
+use Rattle.machine.specs.Laws.SoundClauses.{SoundRunning}
 use Rattle.machine.specs.Laws.Shapes.{after-shaped}
+use Rattle.machine.specs.Laws.SoundTest.{clauses-words, words-clauses}
 use Rattle.machine.specs.Laws.Status.{zero-paused, is-paused}
 use Rattle.machine.specs.Laws.Runs.{afterBy, clock-moves}
 use Rattle.machine.specs.declared.Running.{Running}
@@ -24,8 +26,8 @@ use Rattle.calls.specs.Proofs.ListCalls.{call-promise}
 pub run-sound : RunSound
 unfolding answerOf
 run-sound engine st budget buffer ok =
-    let c : Call = record { engine = engine; budget = budget; buffer = buffer } in
-    rw (call-after (st .plan) (st .run) c ok) (next-sound (st .plan) (st .run) c ok)
+    let c : Call = record { engine = engine; budget = budget; buffer = buffer } in let clauses = words-clauses (st .plan) (st .run) ok in
+    rw (call-after (st .plan) (st .run) c clauses) (clauses-words (st .plan) _ (next-sound (st .plan) (st .run) c clauses))
 
 pub run-widths : RunWidths
 unfolding runOf ranState
@@ -50,4 +52,5 @@ module _ (p : Plan) (r : Running) (ok : SoundRunning p r) (c : Call) where
 pub run-moves : RunMoves
 unfolding answerOf runOf
 run-moves engine st budget buffer accepts some paused =
-    clock-then (st .plan) (st .run) (run-zero st budget (length buffer) accepts .0) (record { engine = engine; budget = budget; buffer = buffer }) accepts some paused
+    clock-then (st .plan) (st .run) (words-clauses (st .plan) (st .run) (run-zero st budget (length buffer) accepts .0))
+    (record { engine = engine; budget = budget; buffer = buffer }) accepts some paused

@@ -11,8 +11,8 @@ use lib.Seq.{take-append-seam}
 use borrow.Author.Tests.{leb-true, le-leb}
 use Rattle.plan.specs.declared.Plan.{Plan}
 use Rattle.machine.specs.Runs.{afterRun, eventsOfRun, eventsMost, roomOf}
-use Rattle.machine.specs.Sound.{SoundRunning, Sound}
-use Rattle.machine.specs.Laws.SoundTest.{sound-means}
+use Rattle.machine.specs.Laws.SoundClauses.{SoundRunning}
+use Rattle.machine.specs.Laws.SoundTest.{test-clauses}
 use Rattle.machine.specs.Laws.Runs.{afterBy, eventsBy, after-by, events-by, after-append, events-append, run-sound}
 use Rattle.machine.specs.declared.Running.{Running}
 use Rattle.machine.specs.declared.State.{State}
@@ -59,9 +59,9 @@ unfolding schedule
 schedule-length p c calls =
     length-append (replicate (fed p c) (c .engine)) (schedule p calls) ∙ rw (length-replicate (fed p c) (c .engine))
 
-pub run-number : (st : State) (c : Call) → Sound st → answerOf st c .number ≡ runNumberIfSound (st .plan) (c .budget) (length (c .buffer))
+pub run-number : (st : State) (c : Call) → SoundRunning (st .plan) (st .run) → answerOf st c .number ≡ runNumberIfSound (st .plan) (c .budget) (length (c .buffer))
 unfolding answerOf runOf runNumber
-run-number st c ok = rw (sound-means st .1 ok)
+run-number st c ok = rw (test-clauses st .1 ok)
 
 -- a smaller budget is accepted where a larger one is
 pub fed-less : (p : Plan) (c : Call) (b : ℕ) → b ≤ fed p c → fed p (record { engine = c .engine; budget = b; buffer = c .buffer }) ≡ b

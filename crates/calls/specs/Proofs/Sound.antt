@@ -10,10 +10,11 @@ use Rattle.plan.specs.Laws.FileRefusals.{accepted-rules}
 use Rattle.plan.specs.Laws.Entries.{file-unused}
 use Rattle.plan.specs.Laws.IdlePlan.{idle-rules, idle-unused, idle-shaped}
 use Rattle.plan.specs.Laws.Layout.{length-encode}
-use Rattle.machine.specs.Start.{idleState}
+use Rattle.machine.specs.Start.{startState, idleState}
 use Rattle.machine.specs.Sound.{Sound}
 use Rattle.machine.specs.Laws.StartSound.{start-sound, idle-sound}
 use Rattle.machine.specs.Laws.Next.{command-is}
+use Rattle.machine.specs.Laws.SoundTest.{clauses-words}
 use Rattle.calls.specs.Promises.States.{SoundMeans, LoadSound, IdleLoaded, NextDetermined}
 use Rattle.calls.specs.Proofs.Files.{load-either, load-encoded}
 
@@ -21,8 +22,10 @@ pub sound-means : SoundMeans
 sound-means = Rattle.machine.specs.Laws.SoundTest.sound-means
 
 pub load-sound : LoadSound
+unfolding startState
 load-sound file =
-    load-either file Sound (λ yes. start-sound (planIn file) (accepted-rules file yes) (file-unused file)) idle-sound
+    load-either file Sound (λ yes. clauses-words (planIn file) _ (start-sound (planIn file) (accepted-rules file yes) (file-unused file)))
+    (clauses-words (idleState .plan) (idleState .run) idle-sound)
 
 pub idle-loaded : IdleLoaded
 unfolding idleState countList offsetFrom lengthOf offsetOf fileLength
@@ -36,7 +39,7 @@ idle-loaded =
       horizon = refl;
       size = length-encode idlePlan;
       loaded = load-encoded idlePlan idle-rules idle-unused idle-shaped;
-      sound = idle-sound;
+      sound = clauses-words (idleState .plan) (idleState .run) idle-sound;
     }
 
 pub next-determined : NextDetermined

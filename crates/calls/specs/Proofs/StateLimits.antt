@@ -11,18 +11,21 @@ use Rattle.plan.specs.Rules.{IntegratorRule, PlanRules}
 use Rattle.plan.specs.Laws.CountLimits.{CountLimits, count-limits}
 use Rattle.plan.specs.Laws.TestMeanings.{within-size}
 use Rattle.plan.specs.declared.Plan.{Plan}
-use Rattle.machine.specs.Due.{upperLevel, lowerLevel}
+use Rattle.machine.specs.Due.{upperLevel, lowerLevel, BetweenLevels}
+use Rattle.machine.specs.Held.{heldOf}
+use Rattle.machine.specs.Instant.{nextTickOf}
 use Rattle.machine.specs.Runs.{eventsMost, roomOf}
-use Rattle.machine.specs.Sound.{SoundRunning}
-use Rattle.machine.specs.Laws.BetweenLevels.{BetweenLevels}
+use Rattle.machine.specs.Laws.SoundClauses.{SoundRunning}
+use Rattle.machine.specs.Laws.Held.{input-size}
 use Rattle.machine.specs.Laws.Levels.{upper-size, lower-size, inside-size, distance-least, distance-most, ticks-positive, ticks-most}
 use Rattle.machine.specs.Laws.Lengths.{instant-bytes, run-bytes}
 use Rattle.machine.specs.Laws.Next.{command-most}
 use Rattle.machine.specs.Laws.OwnLinks.{sources-most, own-links}
-use Rattle.machine.specs.Laws.Positions.{inside, position-size, stays-inside, slope-size, due-most, due-tick, elapsed-size, value-at-due}
+use Rattle.machine.specs.Laws.Positions.{position-size, stays-inside, slope-size, due-most, due-tick, elapsed-size, value-at-due}
 use Rattle.machine.specs.Laws.Sizes.{operands-most, value-size, difference-size, product-size, term-size, sum-size, rate-size}
 use Rattle.machine.specs.Laws.Soundness.{tick-after}
-use Rattle.machine.specs.Laws.Status.{is-paused, tick-horizon, due-size}
+use Rattle.machine.specs.Laws.Status.{is-paused, tick-horizon, given-size}
+use Rattle.machine.specs.Laws.Woken.{gives-means}
 use Rattle.machine.specs.declared.Running.{Running}
 use Rattle.calls.specs.Limits.{RateLimits, LevelLimits, IntegratorLimits, PrintedLimits, StateLimits}
 
@@ -67,7 +70,7 @@ module _ (p : Plan) (r : Running) (sound : SoundRunning p r) where
   integrator-limits : (i : ℕ) → i < p .counts .n → IntegratorLimits p r i
   integrator-limits i h =
       let k = sound .integrators i h in record {
-        levels = level-limits p (r .q) i (intAt (r .x) i) (intAt (r .s) i) (sound .plan .integrators i h) (k .output) (inside p r sound i h);
+        levels = level-limits p (r .q) i (intAt (r .x) i) (intAt (r .s) i) (sound .plan .integrators i h) (sound .held .outputs i h) (k .between);
         position = position-size p r sound i h;
         above = λ t a b. stays-inside p r sound i h t a b .above;
         below = λ t a b. stays-inside p r sound i h t a b .below;
@@ -83,22 +86,22 @@ module _ (p : Plan) (r : Running) (sound : SoundRunning p r) where
       let ticks : p .horizon ≤ 2000000000 = sound .plan .horizon .1 in record {
         tick = λ e. omega (arith, tick-horizon p r (is-paused p r e));
         source = omega (arith, limits);
-        output = λ e i h d. omega (arith, due-size p r (is-paused p r e) i h d);
+        output = λ e i h d. omega (arith, given-size p r (is-paused p r e) i h (gives-means (r .d) (nextTickOf p r) i .1 d));
         setting = λ e h. omega (arith, within-size M (intAt (p .commands .values) e) .0 (sound .plan .commands e h .value));
         clock = omega (arith, sound .clock);
-        instants = omega (arith, sound .instants, sound .clock);
-        updates = omega (arith, sound .updates, mul-le-mul (limits .n) (sound .instants), sound .clock);
+        instants = omega (arith, sound .held .instants, sound .clock);
+        updates = omega (arith, sound .updates, mul-le-mul (limits .n) (sound .held .instants), sound .clock);
       }
 
   pub state-limits : StateLimits p r
   unfolding roomOf eventsMost
   state-limits =
-      let instants : r .clocks .instants ≤ 2000000000 = omega (arith, sound .instants, sound .clock, sound .plan .horizon) in record {
-        rates = rate-limits p (r .q) (r .inputs) (sound .plan) (λ i h. sound .integrators i h .output)
-            (λ j h. within-size M (intAt (r .inputs) j) .0 (sound .inputs j h));
+      let instants : r .clocks .instants ≤ 2000000000 = omega (arith, sound .held .instants, sound .clock, sound .plan .horizon) in record {
+        rates = rate-limits p (r .q) (r .inputs) (sound .plan) (sound .held .outputs)
+            (input-size p (sound .plan) (r .clocks .clock) (heldOf r) (sound .held));
         integrators = integrator-limits;
         tick = λ e. (tick-after p r sound, tick-horizon p r (is-paused p r e));
-        next = omega (arith, sound .next, command-most p (r .clocks .clock), limits .commands);
+        next = omega (arith, sound .held .next .command, command-most p (r .clocks .clock), limits .commands);
         instants = instants;
         updates = omega (arith, sound .updates, mul-le-mul (limits .n) instants);
         instant = omega (arith, instant-bytes p r, limits);

@@ -1,12 +1,14 @@
 -- Proof: the promises about values, Start, the steps of one instant, and runs. Assumes nothing.
 use mathlib.Core.Path.{refl, sym, _∙_}
 use Rattle.plan.specs.Laws.CountLimits.{count-limits}
+use Rattle.machine.specs.Held.{heldStart}
 use Rattle.machine.specs.Start.{startOf, startState}
 use Rattle.machine.specs.Instant.{positionAt, figuresAfter, nextTickOf, instant}
 use Rattle.machine.specs.Runs.{afterRun, eventsOfRun}
+use Rattle.machine.specs.Laws.Held.{slope-is}
 use Rattle.machine.specs.Laws.Runs.{run-stopped, run-taken}
 use Rattle.machine.specs.Laws.StartSound.{start-slope, start-last, start-due}
-use Rattle.machine.specs.Laws.Steps.{moves-means, due-moves, step-due, step-not-due, step-set, step-not-set, step-x, step-l, step-s, step-d}
+use Rattle.machine.specs.Laws.Steps.{moves-means, woken-moves, step-due, step-not-woken, step-set, step-not-set, step-x, step-l, step-s, step-d}
 use Rattle.machine.specs.Laws.Steps.{step-not-moved}
 use Rattle.machine.specs.Laws.Values.{integrator-value, input-source, difference-node, product-node, limit-node, high-node, low-node}
 use Rattle.machine.specs.Laws.Values.{sum-none, sum-own, sum-other, rate-floor}
@@ -44,7 +46,7 @@ start-means p rules =
         x = λ i h. refl;
         q = λ i h. refl;
         l = start-last p limits;
-        s = start-slope p limits;
+        s = λ i h. start-slope p limits i h ∙ slope-is p (heldStart p) i;
         d = start-due p limits;
         inputs = λ j h. refl;
         clock = refl;
@@ -63,7 +65,7 @@ steps-mean p engine r rules =
       sources =
           record {
             due = step-due p rules engine r;
-            not-due = step-not-due p rules engine r;
+            not-due = step-not-woken p rules engine r;
             set = step-set p rules engine r;
             not-set = step-not-set p rules engine r;
           };
@@ -71,7 +73,7 @@ steps-mean p engine r rules =
       l = step-l p rules engine r;
       s = step-s p rules engine r;
       d = step-d p rules engine r;
-      due-x = λ i h e. step-x p rules engine r i h (due-moves p engine (r .d) t i e) ∙ sym (step-due p rules engine r i h e);
+      due-x = λ i h e. step-x p rules engine r i h (woken-moves p engine (r .d) t i e) ∙ sym (step-due p rules engine r i h e);
       not-moved = step-not-moved p rules engine r;
       clock = refl;
       next = command-means p t;

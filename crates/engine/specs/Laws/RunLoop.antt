@@ -7,19 +7,20 @@ use native.Mathlib.Omega.{arith}
 use lib.IntN.{ℤ}
 use lib.ListN.{length, length-append}
 use Rattle.bitset.specs.Mask.{each}
-use Rattle.plan.specs.Numbers.{M}
-use Rattle.plan.specs.Lists.{intAt}
-use Rattle.plan.specs.Laws.TestMeanings.{within-size}
 use Rattle.plan.specs.declared.Counts.{Counts}
 use Rattle.plan.specs.declared.Plan.{Plan}
+use Rattle.machine.specs.Held.{heldOf}
 use Rattle.machine.specs.Instant.{instant, eventsOf}
 use Rattle.machine.specs.Status.{isPaused, statusOf, runningPaused}
 use Rattle.machine.specs.Runs.{afterRun, eventsOfRun, eventsMost, roomOf}
-use Rattle.machine.specs.Sound.{SoundRunning, RunningWidths}
+use Rattle.machine.specs.Sound.{RunningWidths}
+use Rattle.machine.specs.Laws.SoundClauses.{SoundRunning}
 use Rattle.machine.specs.Laws.Lengths.{instant-bytes}
 use Rattle.machine.specs.Laws.Runs.{run-stopped, run-taken}
 use Rattle.machine.specs.Laws.Shapes.{instant-shaped}
+use Rattle.machine.specs.Laws.Held.{input-size}
 use Rattle.machine.specs.Laws.Soundness.{instant-sound}
+use Rattle.machine.specs.Laws.SoundTest.{clauses-words}
 use Rattle.machine.specs.Laws.Status.{paused-true, is-paused, true-paused}
 use Rattle.machine.specs.declared.Clocks.{Clocks}
 use Rattle.machine.specs.declared.Running.{Running}
@@ -48,8 +49,8 @@ pub source-values-ready : (p : Plan) (r : Running) → SoundRunning p r
     → NodesReady (p .nodes .a) (p .nodes .b) (p .nodes .lows) (p .nodes .highs) (outputAndInputValues (p .counts .n) (p .counts .m) (r .q) (r .inputs)) (p .counts .n + p .counts .m) (p .counts .k)
 source-values-ready p r ok =
     nodes-ready p (ok .plan) (outputAndInputValues (p .counts .n) (p .counts .m) (r .q) (r .inputs))
-    (first-sized p (r .q) (r .inputs) (ok .plan) (λ i h. ok .integrators i h .output)
-    (λ j h. within-size M (intAt (r .inputs) j) .0 (ok .inputs j h)))
+    (first-sized p (r .q) (r .inputs) (ok .plan) (ok .held .outputs)
+    (input-size p (ok .plan) (r .clocks .clock) (heldOf r) (ok .held)))
 
 -- ---- outputs and input values that are read out of the values of sources
 pub figures-read : (counts : Counts) (x s : List ℤ) (l d : List ℕ) (values : List ℤ) (clocks : Clocks) {q u : List ℤ}
@@ -62,8 +63,8 @@ running-read : (p : Plan) (r : Running) → RunningWidths r → SoundRunning p r
     → r ≡ runningOf (p .counts) (r .x) (r .s) (r .l) (r .d) values (r .clocks)
 running-read p r shaped ok {values} e =
     figures-read (p .counts) (r .x) (r .s) (r .l) (r .d) values (r .clocks)
-    (sym (rw e (outputs-read p (ok .plan) (r .q) (r .inputs) (shaped .q) (ok .running-unused .q))))
-    (sym (rw e (inputs-read p (ok .plan) (r .q) (r .inputs) (shaped .inputs) (ok .running-unused .inputs))))
+    (sym (rw e (outputs-read p (ok .plan) (r .q) (r .inputs) (shaped .q) (ok .held .unused-outputs))))
+    (sym (rw e (inputs-read p (ok .plan) (r .q) (r .inputs) (shaped .inputs) (ok .held .unused-inputs))))
 
 module _ (p : Plan) (engine : Engine) (budget : ℕ) (first : Running) (buffer₀ : List ℕ) where
   -- after `taken` instants: what is left of the run ends where the whole run ends, and its events go behind byte `end`
@@ -121,7 +122,7 @@ module _ {p : Plan} {engine : Engine} {budget : ℕ} {first : Running} {buffer�
     instant-ready ranges-are reach-is =
         record {
           shaped = now .shaped;
-          sound = now .sound;
+          sound = clauses-words p r (now .sound);
           paused = paused;
           tick = rw (ahead-known, ahead-is p r);
           due-set = rw (ahead-known, ahead-is p r);

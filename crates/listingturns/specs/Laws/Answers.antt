@@ -9,9 +9,11 @@ use borrow.Author.Tests.{eq-eqb, ne-eqb}
 use Rattle.machine.specs.Status.{statusNumber, statusOf, runningPaused}
 use Rattle.machine.specs.Runs.{eventsMost, roomOf}
 use Rattle.machine.specs.Sound.{Sound}
+use Rattle.machine.specs.Laws.SoundClauses.{SoundRunning}
 use Rattle.machine.specs.Laws.Status.{zero-paused, paused-zero, paused-false, is-paused}
 use Rattle.machine.specs.declared.State.{State}
 use Rattle.machine.specs.declared.Engine.the-variants.{Lazy}
+use Rattle.machine.specs.Laws.SoundTest.{words-clauses}
 use Rattle.words.specs.Laws.Putting.{behind, back, length-behind}
 use Rattle.listingtext.specs.Lines.{linesOf, endLine, refusalLine}
 use Rattle.listingtext.specs.Printed.{Printed}
@@ -48,10 +50,16 @@ module _ (file text : List ℕ) {loaded : Loaded} (e : loaded ≡ loadOf file) w
 -- ---- a turn, from what the run answers and the buffer that it leaves
 module _ (st : State) (ok : Sound st) (buffer : List ℕ) (room : 30720 ≤ length buffer) {ran : Ran} {bytes : List ℕ} (e : ran ≡ runOf Lazy st 64 buffer)
     (b : bytes ≡ bufferOfRun Lazy st 64 buffer) where
+  now-sound : SoundRunning (st .plan) (st .run)
+  now-sound = words-clauses (st .plan) (st .run) ok
+
+  next-sound : SoundRunning (turnState st .plan) (turnState st .run)
+  next-sound = words-clauses (turnState st .plan) (turnState st .run) (turns-end st ok .sound)
+
   -- it is accepted
   accepts : runOf Lazy st 64 buffer .number ≡ 0
   unfolding roomOf eventsMost
-  accepts = every-promise .every-number st buffer .run-accepted Lazy 64 ok (omega arith) (omega (arith, state-limits (st .plan) (st .run) ok .listing))
+  accepts = every-promise .every-number st buffer .run-accepted Lazy 64 ok (omega arith) (omega (arith, state-limits (st .plan) (st .run) now-sound .listing))
 
   abbrev events : List ℕ
   events = ranEvents Lazy st 64
@@ -79,7 +87,7 @@ module _ (st : State) (ok : Sound st) (buffer : List ℕ) (room : 30720 ≤ leng
 
   lines-most : length (linesOf bytes (ran .written / 12)) ≤ 66560
   unfolding ranEvents
-  lines-most = rw ran-lines (lines-fit (st .plan) (st .run) ok)
+  lines-most = rw ran-lines (lines-fit (st .plan) (st .run) now-sound)
 
   pub lines-ready : {space : ℕ} → 66600 ≤ space → (12 * (ran .written / 12) ≤ length bytes) × (length (linesOf bytes (ran .written / 12)) ≤ space)
   lines-ready h =
@@ -119,13 +127,13 @@ module _ (st : State) (ok : Sound st) (buffer : List ℕ) (room : 30720 ≤ leng
           length-behind middle size,
           lines-inside,
           ap length end-is,
-          closing-fits (turnState st .plan) (turnState st .run) (turns-end st ok .sound),
+          closing-fits (turnState st .plan) (turnState st .run) next-sound,
         )
 
     module _ {part : List ℕ} {more : ℕ} (q : Printed end (behind middle size) more part) where
       pub turn-length : size + more ≤ length text
       turn-length =
-          omega (arith, lines-inside, q .size, ap length end-is, closing-fits (turnState st .plan) (turnState st .run) (turns-end st ok .sound))
+          omega (arith, lines-inside, q .size, ap length end-is, closing-fits (turnState st .plan) (turnState st .run) next-sound)
 
       pub turn-stopped : (ran .status ≡ 0 → ⊥) → TurnAs text (record { length = size + more; more = false; state = ran .state }) (back middle size part)
       unfolding turnOf turnText turnMore runningPaused

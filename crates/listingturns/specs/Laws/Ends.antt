@@ -2,15 +2,15 @@
 use mathlib.Core.Path.{_≡_, refl, sym, _∙_}
 use mathlib.Core.Bool.{Bool, true, false, cond, true≢false}
 use mathlib.Core.List.{_++_, append-nil}
-use Prim.Native.Nat.{ℕ, zero, suc, _+_, _≤_, _<_}
+use Prim.Native.Nat.{ℕ, zero, suc, _+_, _≤_}
 use native.Mathlib.Omega.{arith}
 use lib.ListN.{replicate, replicate-append-replicate}
 use Rattle.plan.specs.declared.Plan.{Plan}
-use Rattle.machine.specs.Instant.{figuresAfter, nextTickOf, instant}
+use Rattle.machine.specs.Instant.{nextTickOf, instant}
 use Rattle.machine.specs.Status.{statusOf, runningPaused}
 use Rattle.machine.specs.Runs.{afterRun, eventsOfRun}
-use Rattle.machine.specs.Sound.{SoundRunning}
-use Rattle.machine.specs.Laws.Runs.{afterBy, after-by, events-by, after-append, events-append, run-stopped}
+use Rattle.machine.specs.Laws.SoundClauses.{SoundRunning}
+use Rattle.machine.specs.Laws.Runs.{afterBy, after-by, events-by, after-append, events-append, run-stopped, instant-clock}
 use Rattle.machine.specs.Laws.Soundness.{tick-after, instant-sound}
 use Rattle.machine.specs.Laws.Status.{is-paused, tick-horizon}
 use Rattle.machine.specs.declared.Running.{Running}
@@ -35,16 +35,12 @@ module _ (p : Plan) (engine : Engine) where
       )
       (events-append p (replicate a engine) (replicate b engine) r)
 
-  instant-clock : (r : Running) → SoundRunning p r → r .clocks .clock < instant p engine r .clocks .clock
-  unfolding instant figuresAfter
-  instant-clock r ok = tick-after p r ok
-
   -- ---- the budget that is enough: each instant moves the clock on, and none is behind the horizon
   pub stops : (b : ℕ) (r : Running) → SoundRunning p r → p .horizon ≤ b + r .clocks .clock → statusOf p (afterRun p engine b r) ≡ Paused → ⊥
   unfolding afterRun
   stops zero r ok h e =
       let l : nextTickOf p r ≤ p .horizon = tick-horizon p r (is-paused p r e) in omega (arith, tick-after p r ok)
-  stops (suc b) r ok h e = go (runningPaused p r) refl e (λ t. stops b (instant p engine r) (instant-sound p r ok t engine) (omega (arith, instant-clock r ok)))
+  stops (suc b) r ok h e = go (runningPaused p r) refl e (λ t. stops b (instant p engine r) (instant-sound p r ok t engine) (omega (arith, instant-clock p engine r ok)))
     where
       go : (c : Bool) → runningPaused p r ≡ c → statusOf p (cond c (afterRun p engine b (instant p engine r)) r) ≡ Paused
           → (runningPaused p r ≡ true → statusOf p (afterRun p engine b (instant p engine r)) ≡ Paused → ⊥) → ⊥

@@ -13,11 +13,13 @@ use Rattle.words.specs.Laws.Reading.{number-before, number-behind}
 use Rattle.plan.specs.Lists.{joined}
 use Rattle.plan.specs.declared.Plan.{Plan}
 use Rattle.machine.specs.Values.{valueWith}
-use Rattle.machine.specs.Reach.{changes}
-use Rattle.machine.specs.Instant.{bytesOfEvent, eventsAt, inputsThen, outputsThen, nextTickOf, instant, eventsOf}
+use Rattle.machine.specs.Held.{heldOf}
+use Rattle.machine.specs.Reach.{isDue, changes}
+use Rattle.machine.specs.Instant.{positionAt, bytesOfEvent, eventsAt, outcome, nextTickOf, instant, eventsOf}
 use Rattle.machine.specs.Status.{runningPaused}
 use Rattle.machine.specs.Runs.{eventsOfRun}
 use Rattle.machine.specs.Laws.EventWords.{length-event, event-source}
+use Rattle.machine.specs.Laws.OutcomeEvents.{outcome-is}
 use Rattle.machine.specs.declared.Running.{Running}
 use Rattle.machine.specs.declared.Engine.{Engine}
 
@@ -63,8 +65,9 @@ module _ (p : Plan) (few : p .counts .n + p .counts .m ≤ 10 ^ 2) where
   instant-list : (r : Running) → EventList (eventsOf p r)
   unfolding eventsOf eventsAt
   instant-list r =
-      let t = nextTickOf p r in
-      chosen (changes p (r .d) t) t (λ i. valueWith p (outputsThen p r t) (inputsThen p (r .inputs) t) zero i) (p .counts .n + p .counts .m) few
+      let t = nextTickOf p r in let then = outcome p r t .held in
+      rw (outcome-is p t (isDue (r .d) t) (positionAt r t) (heldOf r))
+      (chosen (changes p (r .d) t) t (λ i. valueWith p (then .q) (then .inputs) zero i) (p .counts .n + p .counts .m) few)
 
   pub run-list : (engine : Engine) (b : ℕ) (r : Running) → EventList (eventsOfRun p engine b r)
   unfolding eventsOfRun

@@ -11,9 +11,11 @@ use Rattle.words.specs.Word.{Bytes}
 use Rattle.plan.specs.declared.Plan.{Plan}
 use Rattle.machine.specs.Status.{statusNumber, statusOf}
 use Rattle.machine.specs.Runs.{eventsOfRun}
-use Rattle.machine.specs.Sound.{Sound, SoundRunning}
+use Rattle.machine.specs.Sound.{Sound}
+use Rattle.machine.specs.Laws.SoundClauses.{SoundRunning}
 use Rattle.machine.specs.Laws.Lengths.{events-are-bytes}
 use Rattle.machine.specs.Laws.Status.{number-most}
+use Rattle.machine.specs.Laws.SoundTest.{words-clauses}
 use Rattle.machine.specs.declared.Running.{Running}
 use Rattle.machine.specs.declared.State.{State}
 use Rattle.machine.specs.declared.Engine.the-variants.{Lazy}
@@ -52,17 +54,20 @@ pub turn-fits : (st : State) → Sound st → length (turnText st) ≤ 66600
 unfolding turnText turnState ranState ranEvents
 turn-fits st ok = go (turnMore st)
   where
+    now-sound : SoundRunning (st .plan) (st .run)
+    now-sound = words-clauses (st .plan) (st .run) ok
+
     lines : List ℕ
     lines = eventLines (eventsOfRun (st .plan) Lazy 64 (st .run))
 
     go : (more : Bool) → length (lines ++ cond more [] (endLineOf (st .plan) (turnState st .run))) ≤ 66600
-    go true = omega (arith, length-append lines [], lines-fit (st .plan) (st .run) ok)
+    go true = omega (arith, length-append lines [], lines-fit (st .plan) (st .run) now-sound)
     go false =
         omega (
           arith,
           length-append lines (endLineOf (st .plan) (turnState st .run)),
-          lines-fit (st .plan) (st .run) ok,
-          closing-fits (st .plan) (turnState st .run) (turns-end st ok .sound),
+          lines-fit (st .plan) (st .run) now-sound,
+          closing-fits (st .plan) (turnState st .run) (words-clauses (st .plan) (turnState st .run) (turns-end st ok .sound)),
         )
 
 pub refusal-fits : (file : List ℕ) → Bytes file → length (refusalLine (loadOf file .number) (loadOf file .entry)) ≤ 14

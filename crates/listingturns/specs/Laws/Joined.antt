@@ -12,9 +12,11 @@ use Rattle.plan.specs.Laws.CountLimits.{count-limits}
 use Rattle.plan.specs.declared.Plan.{Plan}
 use Rattle.machine.specs.Status.{statusOf, runningPaused}
 use Rattle.machine.specs.Runs.{afterRun, eventsOfRun}
-use Rattle.machine.specs.Sound.{Sound, SoundRunning}
-use Rattle.machine.specs.Laws.Runs.{afterBy, after-by, run-stopped, run-sound, clock-moves}
+use Rattle.machine.specs.Sound.{Sound}
+use Rattle.machine.specs.Laws.SoundClauses.{SoundRunning}
+use Rattle.machine.specs.Laws.Runs.{after-by, run-stopped, run-sound, clock-moves}
 use Rattle.machine.specs.Laws.Status.{is-paused}
+use Rattle.machine.specs.Laws.SoundTest.{clauses-words, words-clauses}
 use Rattle.machine.specs.declared.Running.{Running}
 use Rattle.machine.specs.declared.State.{State}
 use Rattle.machine.specs.declared.Engine.the-variants.{Lazy}
@@ -30,7 +32,7 @@ use Rattle.listingturns.specs.Laws.EventLists.{EventList, run-list}
 use Rattle.listingturns.specs.Laws.Ends.{after-parts, events-parts, stops, after-enough, events-enough}
 
 pub listing-stops : ListingStops
-listing-stops st ok = stops (st .plan) Lazy (st .plan .horizon) (st .run) ok (omega arith)
+listing-stops st ok = stops (st .plan) Lazy (st .plan .horizon) (st .run) (words-clauses (st .plan) (st .run) ok) (omega arith)
 
 -- ---- lines of events behind events
 pub lines-both : (front rest : List ℕ) → EventList front → EventList rest → eventLines (front ++ rest) ≡ eventLines front ++ eventLines rest
@@ -75,11 +77,12 @@ unfolding turnState ranState turnMore
 turns-end st ok =
     let p = st .plan in
     let r = st .run in
-    let sound : SoundRunning p (afterRun p Lazy 64 r) = rw (after-by p Lazy 64 r) (run-sound p (replicate 64 Lazy) r ok) in
+    let before = words-clauses p r ok in
+    let sound : SoundRunning p (afterRun p Lazy 64 r) = rw (after-by p Lazy 64 r) (run-sound p (replicate 64 Lazy) r before) in
     record {
-      sound = sound;
+      sound = clauses-words p (afterRun p Lazy 64 r) sound;
       plan = refl;
-      moves = λ e. (moved p r ok e, sound .clock);
+      moves = λ e. (moved p r before e, sound .clock);
     }
   where
     moved : (p : Plan) (r : Running) → SoundRunning p r → runningPaused p (afterRun p Lazy 64 r) ≡ true → r .clocks .clock < afterRun p Lazy 64 r .clocks .clock
@@ -100,15 +103,21 @@ print-from (suc turns) st ok h b l =
     next : Sound (turnState st)
     next = turns-end st ok .sound
 
+    now-sound : SoundRunning p (st .run)
+    now-sound = words-clauses p (st .run) ok
+
+    next-sound : SoundRunning p (turnState st .run)
+    next-sound = words-clauses p (turnState st .run) next
+
     lines : List ℕ
     lines = eventLines (eventsOfRun p Lazy 64 (st .run))
 
     go : (more : Bool) → turnMore st ≡ more → (turnMore st ≡ true → turnsFrom turns (turnState st) ≡ listingOfRun p b (turnState st .run))
         → (lines ++ cond more [] (endLineOf p (turnState st .run))) ++ cond more (turnsFrom turns (turnState st)) [] ≡ listingOfRun p b (st .run)
-    go true e ih = rw (append-nil lines, ih e) (sym (listed-turn p (st .run) ok next b l))
+    go true e ih = rw (append-nil lines, ih e) (sym (listed-turn p (st .run) now-sound next-sound b l))
     go false e ih =
-        rw (append-nil (lines ++ endLineOf p (turnState st .run)), listed-turn p (st .run) ok next b l)
-        (ap (λ end. lines ++ end) (sym (listed-stopped p (turnState st .run) next b (λ paused. true≢false (sym (is-paused p (turnState st .run) paused) ∙ e)))))
+        rw (append-nil (lines ++ endLineOf p (turnState st .run)), listed-turn p (st .run) now-sound next-sound b l)
+        (ap (λ end. lines ++ end) (sym (listed-stopped p (turnState st .run) next-sound b (λ paused. true≢false (sym (is-paused p (turnState st .run) paused) ∙ e)))))
 
 pub turns-print : TurnsPrint
 unfolding printedIn beginText listingOf

@@ -1,42 +1,83 @@
 -- Laws: an instant of either engine and one of the plain machine, from states that agree, lead to states that agree; and what is read from
 -- such states is the same. Assumes nothing.
-use mathlib.Core.Path.{_≡_, refl, sym, _∙_}
-use mathlib.Core.List.{List}
+use mathlib.Core.Path.{_≡_, refl, sym, ap, ap₂, _∙_}
+use mathlib.Core.Bool.{Bool}
 use Prim.Native.Nat.{ℕ, _+_, _-_, _≤_, _<_}
 use native.Mathlib.Omega.{arith}
 use lib.IntN.{ℤ, pos, _+ℤ_, _*ℤ_}
 use Rattle.integers.specs.Laws.Parts.{sum, prod, zs}
-use Rattle.plan.specs.Lists.{natAt, intAt, row}
+use Rattle.plan.specs.Lists.{natAt, intAt}
 use Rattle.plan.specs.Laws.Rows.{row-at, row-ext}
 use Rattle.plan.specs.Laws.CountLimits.{count-limits}
 use Rattle.plan.specs.declared.Plan.{Plan}
-use Rattle.machine.specs.Values.{rateOf}
-use Rattle.machine.specs.Due.{dueOf}
+use Rattle.machine.specs.Held.{heldOf, nextTick}
 use Rattle.machine.specs.Start.{startSlope, startDue, startOf}
-use Rattle.machine.specs.Instant.{positionAt, inputsThen, moves, outputsThen, slopeThen, dueThen, figuresAfter, nextTickOf, instant, eventsOf}
+use Rattle.machine.specs.Reach.{isDue}
+use Rattle.machine.specs.Instant.{positionAt, Outcome, dueThen, figuresAfter, outcome, movedAt, nextTickOf, instant, eventsOf}
 use Rattle.machine.specs.Status.{statusOf}
 use Rattle.machine.specs.Runs.{positionOf}
-use Rattle.machine.specs.Plain.{Plain, withRatesAndDues, plainStart, plainNextTick, plainPosition, plainOutputs, plainInstant, plainEventsOf}
-use Rattle.machine.specs.Plain.{plainStatus}
-use Rattle.machine.specs.Sound.{SoundRunning}
-use Rattle.machine.specs.Laws.Soundness.{covers, tick-after}
-use Rattle.machine.specs.Laws.Next.{tick-due}
-use Rattle.machine.specs.Laws.Status.{status-same}
-use Rattle.machine.specs.Laws.InstantFigures.{x-then}
-use Rattle.machine.specs.Laws.InstantByRule.{slopes-then, dues-then, place-then}
+use Rattle.machine.specs.Plain.{Plain, settled, plainStart, plainNextTick, plainPosition, plainOutcome, plainInstant, plainEventsOf, plainStatus}
+use Rattle.machine.specs.Laws.SoundClauses.{SoundRunning}
+use Rattle.machine.specs.Laws.InstantByRule.{Keeps, Covers, slopes-then, dues-then, place-then}
+use Rattle.machine.specs.Laws.Soundness.{covers, keeps-then, none-due-before, tick-after}
+use Rattle.machine.specs.Laws.Alike.{Alike, outcomes-alike, status-alike}
+use Rattle.machine.specs.Laws.OutcomeEvents.{events-alike}
 use Rattle.machine.specs.declared.Running.{Running}
 use Rattle.machine.specs.declared.Engine.{Engine}
 
--- "Plain machine and engines are compared on everything but l, the stored x and updates": the positions at the clock
-pub record Agrees (p : Plan) (r : Running) (m : Plain) : Type 0 where
-  pub q : r .q ≡ m .q
+-- the plain machine brought forward: at its own clock or later, on everything but l, the stored x, updates and the clock
+pub record Forward (p : Plan) (r : Running) (m : Plain) : Type 0 where
+  pub held : heldOf r ≡ m .held
   pub s : r .s ≡ m .s
   pub d : r .d ≡ m .d
-  pub inputs : r .inputs ≡ m .inputs
+  pub behind : m .clock ≤ r .clocks .clock
+  pub place : (i : ℕ) → i < p .counts .n → positionOf r i ≡ intAt (m .x) i +ℤ intAt (m .s) i *ℤ pos (r .clocks .clock - m .clock)
+
+-- "Plain machine and engines are compared on everything but l, the stored x and updates": the case of equal clocks
+pub record Agrees (p : Plan) (r : Running) (m : Plain) : Type 0 where
+  pub forward : Forward p r m
   pub clock : r .clocks .clock ≡ m .clock
-  pub next : r .clocks .next ≡ m .next
-  pub instants : r .clocks .instants ≡ m .instants
-  pub place : (i : ℕ) → i < p .counts .n → positionOf r i ≡ intAt (m .x) i
+
+unmoved : (x s : ℤ) (a b : ℕ) → a ≤ b → x +ℤ s *ℤ pos (a - b) ≡ x
+unmoved x s a b h = let none : a - b ≡ 0 = omega arith in rw none (omega (arith, zs, prod s (pos 0), sum x (s *ℤ pos 0)))
+
+in-two : (x s : ℤ) (a b : ℕ) → x +ℤ s *ℤ pos (a + b) ≡ x +ℤ s *ℤ pos a +ℤ s *ℤ pos b
+in-two x s a b =
+    let y = x +ℤ s *ℤ pos a in
+    omega (arith, zs, prod s (pos (a + b)), prod s (pos a), prod s (pos b), sum x (s *ℤ pos (a + b)), sum x (s *ℤ pos a), sum y (s *ℤ pos b))
+
+-- where the clocks are equal, the positions at the clock are the plain machine's
+stands : (p : Plan) (r : Running) (m : Plain) → r .clocks .clock ≡ m .clock → ((i : ℕ) → i < p .counts .n → positionOf r i ≡ intAt (m .x) i)
+    → (i : ℕ) → i < p .counts .n → positionOf r i ≡ intAt (m .x) i +ℤ intAt (m .s) i *ℤ pos (r .clocks .clock - m .clock)
+stands p r m e place i h = place i h ∙ sym (unmoved (intAt (m .x) i) (intAt (m .s) i) (r .clocks .clock) (m .clock) (omega arith))
+
+pub place-of : (p : Plan) (r : Running) (m : Plain) → Agrees p r m → (i : ℕ) → i < p .counts .n → positionOf r i ≡ intAt (m .x) i
+place-of p r m a i h =
+    a .forward .place i h ∙ unmoved (intAt (m .x) i) (intAt (m .s) i) (r .clocks .clock) (m .clock) (omega (arith, a .clock))
+
+-- ---- whoever moves: the state after an outcome agrees with the plain machine after one like it
+module _ (p : Plan) (r : Running) (ok : SoundRunning p r) (t : ℕ) (since : r .clocks .clock ≤ t) (o : Outcome)
+    {woken touched : ℕ → Bool} (keeps : Keeps p r t o woken touched) (moved : ℕ → Bool) (covers : Covers p touched moved) (w : ℕ)
+    {t′ : ℕ} (o′ : Outcome) (same-t : t ≡ t′) (alike : Alike p o o′) where
+  same-due : (i : ℕ) → i < p .counts .n → dueThen p t o i ≡ dueThen p t′ o′ i
+  unfolding dueThen
+  same-due i h = rw (alike .held, alike .x i h, alike .s i h, same-t)
+
+  agrees-by : Agrees p (figuresAfter p r t o moved w) (settled p t′ o′)
+  unfolding figuresAfter settled positionOf
+  agrees-by =
+      record {
+        clock = same-t;
+        forward = record {
+          held = alike .held;
+          s = slopes-then p r ok t since o keeps moved covers w ∙ row-ext (pos 0) 32 (p .counts .n) _ _ (alike .s);
+          d = dues-then p r ok t since o keeps moved covers w ∙ row-ext 0 32 (p .counts .n) _ _ same-due;
+          behind = omega arith;
+          place = stands p (figuresAfter p r t o moved w) (settled p t′ o′) same-t (λ i h.
+              place-then p r ok t since o keeps moved covers w i h ∙ alike .x i h
+              ∙ sym (row-at (pos 0) 32 (p .counts .n) (o′ .x) i (count-limits p (ok .plan .counts) .n) h));
+        };
+      }
 
 module _ (p : Plan) (r : Running) (ok : SoundRunning p r) where
   tick-from : r .clocks .clock ≤ nextTickOf p r
@@ -47,88 +88,61 @@ module _ (p : Plan) (r : Running) (ok : SoundRunning p r) where
   unfolding positionOf positionAt
   later t i h l =
       let split : t - natAt (r .l) i ≡ (r .clocks .clock - natAt (r .l) i) + (t - r .clocks .clock) = omega (arith, ok .integrators i l .moved) in
-      rw split (forward (intAt (r .x) i) (intAt (r .s) i) (r .clocks .clock - natAt (r .l) i) (t - r .clocks .clock))
-    where
-      forward : (x s : ℤ) (a b : ℕ) → x +ℤ s *ℤ pos (a + b) ≡ x +ℤ s *ℤ pos a +ℤ s *ℤ pos b
-      forward x s a b =
-          let y = x +ℤ s *ℤ pos a in
-          omega (arith, zs, prod s (pos (a + b)), prod s (pos a), prod s (pos b), sum x (s *ℤ pos (a + b)), sum x (s *ℤ pos a), sum y (s *ℤ pos b))
+      rw split (in-two (intAt (r .x) i) (intAt (r .s) i) (r .clocks .clock - natAt (r .l) i) (t - r .clocks .clock))
 
-  module _ (m : Plain) (a : Agrees p r m) where
+  module _ (m : Plain) (a : Forward p r m) where
     pub same-tick : nextTickOf p r ≡ plainNextTick p m
     unfolding nextTickOf plainNextTick
-    same-tick = rw (a .d, a .next)
+    same-tick = ap₂ (nextTick p) (a .d) (a .held)
 
     pub same-position : (i : ℕ) → i < p .counts .n → positionAt r (nextTickOf p r) i ≡ plainPosition p m i
     unfolding plainPosition
-    same-position i h = later (nextTickOf p r) i tick-from h ∙ rw (same-tick, a .place i h, a .s, a .clock)
+    same-position i h =
+        later (nextTickOf p r) i tick-from h
+        ∙ ap₂ (λ y s. y +ℤ intAt s i *ℤ pos (nextTickOf p r - r .clocks .clock)) (a .place i h) (a .s)
+        ∙ sym (in-two (intAt (m .x) i) (intAt (m .s) i) (r .clocks .clock - m .clock) (nextTickOf p r - r .clocks .clock))
+        ∙ ap (λ e. intAt (m .x) i +ℤ intAt (m .s) i *ℤ pos e) between
+        ∙ ap (λ t. intAt (m .x) i +ℤ intAt (m .s) i *ℤ pos (t - m .clock)) same-tick
+      where
+        between : (r .clocks .clock - m .clock) + (nextTickOf p r - r .clocks .clock) ≡ nextTickOf p r - m .clock
+        between = omega (arith, a .behind, tick-from)
+
+    pub same-dues : (i : ℕ) → i < p .counts .n → isDue (r .d) (nextTickOf p r) i ≡ isDue (m .d) (plainNextTick p m) i
+    same-dues i h = rw (same-tick, a .d)
 
     -- ---- what is read from the state
     pub same-status : statusOf p r ≡ plainStatus p m
     unfolding statusOf plainStatus
-    same-status = status-same p (r .d) (nextTickOf p r) _ _ same-position ∙ rw (same-tick, a .d)
+    same-status = status-alike p same-tick same-dues same-position (a .held)
 
-    pub same-outputs : outputsThen p r (nextTickOf p r) ≡ plainOutputs p m
-    unfolding outputsThen plainOutputs
-    same-outputs = row-ext (pos 0) 32 (p .counts .n) _ _ (λ i h. rw (same-position i h, same-tick, a .d, a .q))
-
-    pub same-inputs-then : inputsThen p (r .inputs) (nextTickOf p r) ≡ inputsThen p (m .inputs) (plainNextTick p m)
-    same-inputs-then = rw (same-tick, a .inputs)
+    same-outcome : Alike p (outcome p r (nextTickOf p r)) (plainOutcome p m)
+    same-outcome = outcomes-alike p same-tick same-dues same-position (a .held)
 
     pub same-events : eventsOf p r ≡ plainEventsOf p m
     unfolding eventsOf plainEventsOf
-    same-events = rw (same-outputs, same-inputs-then, same-tick, a .d)
+    same-events = events-alike p same-tick same-dues same-position (a .held)
 
     -- ---- one instant
-    abbrev new-slope : ℕ → ℤ
-    new-slope = rateOf p (plainOutputs p m) (inputsThen p (m .inputs) (plainNextTick p m))
-
-    same-slope : (i : ℕ) → slopeThen p r (nextTickOf p r) i ≡ new-slope i
-    unfolding slopeThen
-    same-slope i = rw (same-outputs, same-inputs-then)
-
-    abbrev new-x : List ℤ
-    new-x = row (pos 0) 32 (p .counts .n) (plainPosition p m)
-
-    new-x-at : (i : ℕ) → i < p .counts .n → intAt new-x i ≡ plainPosition p m i
-    new-x-at i h = row-at (pos 0) 32 (p .counts .n) (plainPosition p m) i (count-limits p (ok .plan .counts) .n) h
-
-    same-due : (i : ℕ) → i < p .counts .n → dueThen p r (nextTickOf p r) i ≡ dueOf p (plainOutputs p m) i (plainNextTick p m) (intAt new-x i) (new-slope i)
-    unfolding dueThen
-    same-due i h =
-        rw (x-then p (count-limits p (ok .plan .counts)) r (nextTickOf p r) i h, same-position i h, same-outputs, same-slope i, new-x-at i h, same-tick)
-
     pub agrees-then : (engine : Engine) → Agrees p (instant p engine r) (plainInstant p m)
-    unfolding instant figuresAfter plainInstant withRatesAndDues positionOf
+    unfolding instant plainInstant
     agrees-then engine =
         let t = nextTickOf p r in
-        let who = moves p engine (r .d) t in
-        let cover = covers p engine (r .d) t in
-        record {
-          q = same-outputs;
-          s = slopes-then p r ok t tick-from (tick-due p r) who cover ∙ row-ext (pos 0) 32 (p .counts .n) _ _ (λ i h. same-slope i);
-          d = dues-then p r ok t tick-from (tick-due p r) who cover ∙ row-ext 0 32 (p .counts .n) _ _ same-due;
-          inputs = same-inputs-then;
-          clock = same-tick;
-          next = rw same-tick;
-          instants = rw (a .instants);
-          place = λ i h. place-then p r ok t tick-from (tick-due p r) who cover i h ∙ same-position i h ∙ sym (new-x-at i h);
-        }
+        agrees-by p r ok t tick-from (outcome p r t) (keeps-then p r ok t (none-due-before p r)) (movedAt p r t engine)
+        (covers p r t engine) _ (plainOutcome p m) same-tick same-outcome
 
 -- ---- the start
 pub start-agrees : (p : Plan) → p .counts .n ≤ 32 → Agrees p (startOf p) (plainStart p)
-unfolding startOf startSlope startDue plainStart withRatesAndDues positionOf positionAt
+unfolding startOf startSlope startDue plainStart settled dueThen positionOf positionAt
 start-agrees p wide =
     record {
-      q = refl;
-      s = refl;
-      d = refl;
-      inputs = refl;
       clock = refl;
-      next = refl;
-      instants = refl;
-      place = λ i h. unmoved (intAt (p .integrators .starts) i) (intAt (startOf p .s) i) (natAt (startOf p .l) i);
+      forward = record {
+        held = refl;
+        s = refl;
+        d = refl;
+        behind = omega arith;
+        place = stands p (startOf p) (plainStart p) refl (λ i h.
+            unmoved (intAt (p .integrators .starts) i) (intAt (startOf p .s) i) 0 (natAt (startOf p .l) i) (omega arith)
+            ∙ sym (row-at (pos 0) 32 (p .counts .n) (intAt (p .integrators .starts)) i wide h));
+      };
     }
-  where
-    unmoved : (x s : ℤ) (l : ℕ) → x +ℤ s *ℤ pos (0 - l) ≡ x
-    unmoved x s l = let none : 0 - l ≡ 0 = omega arith in rw none (omega (arith, zs, prod s (pos 0), sum x (s *ℤ pos 0)))

@@ -1,6 +1,6 @@
 -- Laws: the events of an instant are read as they were written: tick, source and signed value of each. Assumes nothing.
 use mathlib.Core.Path.{_≡_, ap, _∙_}
-use mathlib.Core.Bool.{true}
+use mathlib.Core.Bool.{Bool, true}
 use mathlib.Core.List.{List, [], _∷_}
 use Prim.Native.Nat.{ℕ, zero, _+_, _*_, _^_, _≤_, _<_}
 use native.Mathlib.Nat.{add-zero}
@@ -17,7 +17,6 @@ use Rattle.plan.specs.Numbers.{M}
 use Rattle.plan.specs.Laws.Small.{size-mag}
 use Rattle.plan.specs.declared.Plan.{Plan}
 use Rattle.machine.specs.Values.{valueWith}
-use Rattle.machine.specs.Reach.{changes}
 use Rattle.machine.specs.Instant.{bytesOfEvent, eventsAt}
 use Rattle.machine.specs.Laws.SelectedBlocks.{length-chosen, number-chosen, bytes-chosen}
 
@@ -47,32 +46,32 @@ module _ (t source : ℕ) (value : ℤ) where
 abbrev pub eventOf : (p : Plan) (t : ℕ) (q u : List ℤ) (i : ℕ) → List ℕ
 eventOf p t q u i = bytesOfEvent t i (valueWith p q u zero i)
 
-module _ (p : Plan) (d : List ℕ) (t : ℕ) (q u : List ℤ) where
+module _ (p : Plan) (t : ℕ) (changed : ℕ → Bool) (q u : List ℤ) where
   length-one : (i : ℕ) → length (eventOf p t q u i) ≡ 12
   length-one i = length-event t i (valueWith p q u zero i)
 
-  pub length-events : length (eventsAt p d t q u) ≡ 12 * countOf (changes p d t) (p .counts .n + p .counts .m)
+  pub length-events : length (eventsAt p t changed q u) ≡ 12 * countOf changed (p .counts .n + p .counts .m)
   unfolding eventsAt
-  length-events = length-chosen (changes p d t) (eventOf p t q u) 12 length-one (p .counts .n + p .counts .m)
+  length-events = length-chosen changed (eventOf p t q u) 12 length-one (p .counts .n + p .counts .m)
 
   -- the event of source i stands behind those of the sources below it
-  module _ (i : ℕ) (h : i < p .counts .n + p .counts .m) (c : changes p d t i ≡ true) where
+  module _ (i : ℕ) (h : i < p .counts .n + p .counts .m) (c : changed i ≡ true) where
     pub events-number : (bytes at : ℕ) → at + bytes ≤ 12
-        → numberAt bytes (eventsAt p d t q u) (12 * countOf (changes p d t) i + at) ≡ numberAt bytes (eventOf p t q u i) at
+        → numberAt bytes (eventsAt p t changed q u) (12 * countOf changed i + at) ≡ numberAt bytes (eventOf p t q u i) at
     unfolding eventsAt
-    events-number bytes at l = number-chosen (changes p d t) (eventOf p t q u) 12 length-one bytes (p .counts .n + p .counts .m) i at h c l
+    events-number bytes at l = number-chosen changed (eventOf p t q u) 12 length-one bytes (p .counts .n + p .counts .m) i at h c l
 
-    pub events-tick : t < 2 ^ 32 → word (eventsAt p d t q u) (12 * countOf (changes p d t) i) ≡ t
+    pub events-tick : t < 2 ^ 32 → word (eventsAt p t changed q u) (12 * countOf changed i) ≡ t
     events-tick s = rw add-zero at (events-number 4 0 (omega arith)) ∙ event-tick t i (valueWith p q u zero i) s
 
-    pub events-source : i < 2 ^ 32 → word (eventsAt p d t q u) (12 * countOf (changes p d t) i + 4) ≡ i
+    pub events-source : i < 2 ^ 32 → word (eventsAt p t changed q u) (12 * countOf changed i + 4) ≡ i
     events-source s = events-number 4 4 (omega arith) ∙ event-source t i (valueWith p q u zero i) s
 
     pub events-value : ∣ valueWith p q u zero i ∣ ≤ M
-        → signedWord (eventsAt p d t q u) (12 * countOf (changes p d t) i + 8) ≡ valueWith p q u zero i
+        → signedWord (eventsAt p t changed q u) (12 * countOf changed i + 8) ≡ valueWith p q u zero i
     events-value s = ap (signedOf 4) (events-number 4 8 (omega arith)) ∙ event-value t i (valueWith p q u zero i) s
 
 -- the events are bytes
-pub bytes-events : (p : Plan) (d : List ℕ) (t : ℕ) (q u : List ℤ) → Bytes (eventsAt p d t q u)
+pub bytes-events : (p : Plan) (t : ℕ) (changed : ℕ → Bool) (q u : List ℤ) → Bytes (eventsAt p t changed q u)
 unfolding eventsAt bytesOfEvent
-bytes-events p d t q u = bytes-chosen (changes p d t) (eventOf p t q u) (λ i. bytes-flat _) (p .counts .n + p .counts .m)
+bytes-events p t changed q u = bytes-chosen changed (eventOf p t q u) (λ i. bytes-flat _) (p .counts .n + p .counts .m)

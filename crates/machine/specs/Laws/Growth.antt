@@ -11,13 +11,14 @@ use Rattle.bitset.specs.Laws.Counts.{countOf-ext, countOf-all, countOf-le}
 use Rattle.plan.specs.Lists.{natAt}
 use Rattle.plan.specs.Laws.CountLimits.{count-limits}
 use Rattle.plan.specs.declared.Plan.{Plan}
-use Rattle.machine.specs.Instant.{moves, figuresAfter, nextTickOf, instant}
-use Rattle.machine.specs.Plain.{Plain, plainNextTick, lazyCount}
+use Rattle.machine.specs.Instant.{moves, Outcome, figuresAfter, outcome, movedAt, nextTickOf, instant}
+use Rattle.machine.specs.Plain.{Plain, lazyCount}
 use Rattle.machine.specs.Updates.{growth, movedNow}
-use Rattle.machine.specs.Sound.{SoundRunning}
+use Rattle.machine.specs.Laws.SoundClauses.{SoundRunning}
 use Rattle.machine.specs.Laws.InstantFigures.{l-at}
 use Rattle.machine.specs.Laws.Soundness.{tick-after}
-use Rattle.machine.specs.Laws.Agreement.{Agrees, same-tick}
+use Rattle.machine.specs.Laws.Agreement.{Forward, same-tick, same-position, same-dues}
+use Rattle.machine.specs.Laws.Alike.{touched-alike}
 use Rattle.machine.specs.declared.Running.{Running}
 use Rattle.machine.specs.declared.Engine.{Engine}
 use Rattle.machine.specs.declared.Engine.the-variants.{Lazy, Eager}
@@ -33,34 +34,40 @@ unfolding growth
 growth-most p Lazy m = growth-least p Eager m
 growth-most p Eager m = omega arith
 
-module _ (p : Plan) (r : Running) (ok : SoundRunning p r) (m : Plain) (a : Agrees p r m) (engine : Engine) where
+-- whatever the outcome of an instant: those that moved are those with l = c after it
+moved-now : (p : Plan) (r : Running) → SoundRunning p r → (t : ℕ) → r .clocks .clock < t → (o : Outcome) (moved : ℕ → Bool) (w : ℕ)
+    → movedNow p (figuresAfter p r t o moved w) ≡ countOf moved (p .counts .n)
+unfolding movedNow figuresAfter
+moved-now p r ok t after o moved w = countOf-ext _ _ (p .counts .n) marked
+  where
+    marked : (i : ℕ) → i < p .counts .n → eqb (natAt (figuresAfter p r t o moved w .l) i) t ≡ moved i
+    marked i h = rw (l-at p (count-limits p (ok .plan .counts)) r t o moved w i h) (go (moved i))
+      where
+        go : (b : Bool) → eqb (cond b t (natAt (r .l) i)) t ≡ b
+        go true = eq-eqb t t refl
+        go false = ne-eqb (natAt (r .l) i) t (λ e. omega (arith, after, ok .integrators i h .moved))
+
+-- 6. "updates grows by the number of integrators moved, each counted once"
+updates-then : (p : Plan) (r : Running) (engine : Engine)
+    → instant p engine r .clocks .updates ≡ r .clocks .updates + countOf (movedAt p r (nextTickOf p r) engine) (p .counts .n)
+unfolding instant figuresAfter
+updates-then p r engine = refl
+
+module _ (p : Plan) (r : Running) (ok : SoundRunning p r) (m : Plain) (a : Forward p r m) (engine : Engine) where
   -- how many the engine moves
-  moved-count : countOf (moves p engine (r .d) (nextTickOf p r)) (p .counts .n) ≡ growth p engine m
+  moved-count : countOf (movedAt p r (nextTickOf p r) engine) (p .counts .n) ≡ growth p engine m
   unfolding growth lazyCount moves
-  moved-count = rw (same-tick p r ok m a, a .d) (go engine)
+  moved-count = go engine
     where
-      go : (e : Engine) → countOf (moves p e (m .d) (plainNextTick p m)) (p .counts .n) ≡ growth p e m
-      go Lazy = refl
+      go : (e : Engine) → countOf (movedAt p r (nextTickOf p r) e) (p .counts .n) ≡ growth p e m
+      go Lazy =
+          countOf-ext _ _ (p .counts .n) (touched-alike p (same-tick p r ok m a) (same-dues p r ok m a) (same-position p r ok m a) (a .held))
       go Eager = countOf-all (p .counts .n)
 
   pub instant-updates : instant p engine r .clocks .updates ≡ r .clocks .updates + growth p engine m
-  unfolding instant figuresAfter
-  instant-updates = rw moved-count
+  instant-updates = updates-then p r engine ∙ rw moved-count
 
   -- "either way this is the number of integrators with l = c after it"
   pub instant-moved : movedNow p (instant p engine r) ≡ growth p engine m
-  unfolding movedNow instant figuresAfter
-  instant-moved = countOf-ext _ _ (p .counts .n) marked ∙ moved-count
-    where
-      t : ℕ
-      t = nextTickOf p r
-
-      who : ℕ → Bool
-      who = moves p engine (r .d) t
-
-      marked : (i : ℕ) → i < p .counts .n → eqb (natAt (figuresAfter p r t who .l) i) t ≡ who i
-      marked i h = rw (l-at p (count-limits p (ok .plan .counts)) r t who i h) (go (who i))
-        where
-          go : (b : Bool) → eqb (cond b t (natAt (r .l) i)) t ≡ b
-          go true = eq-eqb t t refl
-          go false = ne-eqb (natAt (r .l) i) t (λ e. omega (arith, tick-after p r ok, ok .integrators i h .moved))
+  unfolding instant
+  instant-moved = moved-now p r ok (nextTickOf p r) (tick-after p r ok) (outcome p r (nextTickOf p r)) _ _ ∙ moved-count

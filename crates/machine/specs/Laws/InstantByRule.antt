@@ -1,106 +1,108 @@
--- Laws: one instant, whoever moves besides those due or reached: outputs, slopes, due ticks and positions after it are those by rule, and
--- do not depend on who moved. Assumes nothing.
+-- Laws: one instant, of any outcome that keeps what is neither woken nor reached (`Keeps`), whoever moves besides those: slopes, due ticks
+-- and positions after it are those of the outcome, and do not depend on who moved. Assumes nothing.
 use mathlib.Core.Path.{_≡_, refl, sym, ap, _∙_}
-use mathlib.Core.Bool.{Bool, true, false, cond, _||_}
+use mathlib.Core.Bool.{Bool, true, false, cond}
 use Prim.Native.Nat.{ℕ, _-_, _≤_, _<_}
 use native.Mathlib.Omega.{arith}
 use lib.IntN.{pos, _+ℤ_, _*ℤ_, +ℤ-idr, *ℤ-zero}
-use borrow.Author.Tests.{eqb-false}
 use Rattle.plan.specs.Lists.{natAt, intAt, row}
 use Rattle.plan.specs.Laws.Rows.{row-at, row-ext}
-use Rattle.plan.specs.Laws.Searches.{or-false}
 use Rattle.plan.specs.Laws.CountLimits.{CountLimits, count-limits}
 use Rattle.plan.specs.declared.Plan.{Plan}
-use Rattle.machine.specs.Due.{upperLevel, lowerLevel, dueOf}
-use Rattle.machine.specs.Reach.{isDue, reached}
-use Rattle.machine.specs.Instant.{positionAt, outputsThen, slopeThen, dueThen, figuresAfter}
-use Rattle.machine.specs.Sound.{SoundRunning}
-use Rattle.machine.specs.Laws.BetweenLevels.{BetweenLevels}
+use Rattle.machine.specs.Due.{BetweenLevels, dueOf}
+use Rattle.machine.specs.Instant.{positionAt, Outcome, dueThen, figuresAfter}
+use Rattle.machine.specs.Laws.BetweenLevels.{due-by-output}
+use Rattle.machine.specs.Laws.SoundClauses.{SoundRunning}
 use Rattle.machine.specs.Laws.Due.{due-later}
-use Rattle.machine.specs.Laws.InstantFigures.{output-kept, x-then, x-at, l-at}
-use Rattle.machine.specs.Laws.Unreached.{slope-unreached}
+use Rattle.machine.specs.Laws.InstantFigures.{x-at, l-at}
 use Rattle.machine.specs.Laws.Positions.{inside, due-is, moved-before, stays-inside}
 use Rattle.machine.specs.declared.Running.{Running}
 
--- at a tick from the clock on, up to which nothing is due
-module _ (p : Plan) (r : Running) (ok : SoundRunning p r) (t : ℕ) (after : r .clocks .clock ≤ t) (least : (i : ℕ) → i < p .counts .n → t ≤ natAt (r .d) i) where
+-- Who is not woken keeps its output, is where its course takes it, and is due later; who is not touched is not woken, and keeps its slope.
+pub record Keeps (p : Plan) (r : Running) (t : ℕ) (o : Outcome) (woken touched : ℕ → Bool) : Type 0 where
+  pub output : (i : ℕ) → i < p .counts .n → woken i ≡ false → intAt (o .held .q) i ≡ intAt (r .q) i
+  pub place : (i : ℕ) → i < p .counts .n → woken i ≡ false → o .x i ≡ positionAt r t i
+  pub later : (i : ℕ) → i < p .counts .n → woken i ≡ false → t < natAt (r .d) i
+  pub not-woken : (i : ℕ) → i < p .counts .n → touched i ≡ false → woken i ≡ false
+  pub slope : (i : ℕ) → i < p .counts .n → touched i ≡ false → o .s i ≡ intAt (r .s) i
+
+-- those that move are all that are touched, and perhaps others
+abbrev pub Covers : (p : Plan) (touched moved : ℕ → Bool) → Type 0
+Covers p touched moved = (i : ℕ) → i < p .counts .n → moved i ≡ false → touched i ≡ false
+
+-- at a tick from the clock on
+module _ (p : Plan) (r : Running) (ok : SoundRunning p r) (t : ℕ) (since : r .clocks .clock ≤ t) where
   pub limits : CountLimits p
   limits = count-limits p (ok .plan .counts)
 
-  not-yet : (i : ℕ) → i < p .counts .n → isDue (r .d) t i ≡ false → t < natAt (r .d) i
-  unfolding isDue
-  not-yet i h e = omega (arith, least i h, eqb-false (natAt (r .d) i) t e)
+  -- one that is due later stays between its levels, and its due tick stays what it is
+  pub between-then : (i : ℕ) → i < p .counts .n → t < natAt (r .d) i → BetweenLevels p (r .q) i (positionAt r t i)
+  between-then i h e = stays-inside p r ok i h t since e
 
-  -- one that is not due stays between its levels, and its due tick stays what it is
-  pub between-then : (i : ℕ) → i < p .counts .n → isDue (r .d) t i ≡ false → BetweenLevels p (r .q) i (positionAt r t i)
-  between-then i h e = stays-inside p r ok i h t after (not-yet i h e)
-
-  due-same : (i : ℕ) → i < p .counts .n → isDue (r .d) t i ≡ false → dueOf p (r .q) i t (positionAt r t i) (intAt (r .s) i) ≡ natAt (r .d) i
+  due-same : (i : ℕ) → i < p .counts .n → t < natAt (r .d) i → dueOf p (r .q) i t (positionAt r t i) (intAt (r .s) i) ≡ natAt (r .d) i
   unfolding dueOf positionAt
   due-same i h e =
       let old = inside p r ok i h in
-      let before = rw (due-is p r ok i h) at (not-yet i h e) in
-      due-later (natAt (r .l) i) t _ _ _ _ (old .above) (old .below) (moved-before p r ok i h t after) before ∙ sym (due-is p r ok i h)
+      let before = rw (due-is p r ok i h) at e in
+      due-later (natAt (r .l) i) t _ _ _ _ (old .above) (old .below) (moved-before p r ok i h t since) before ∙ sym (due-is p r ok i h)
 
-  -- an integrator that is not reached keeps its slope; one that is not due either keeps its due tick
-  pub slope-kept : (i : ℕ) → i < p .counts .n → reached p (r .d) t i ≡ false → slopeThen p r t i ≡ intAt (r .s) i
-  slope-kept i h e = slope-unreached p limits r t i e ∙ sym (ok .integrators i h .rate)
+  module _ (o : Outcome) {woken touched : ℕ → Bool} (keeps : Keeps p r t o woken touched) where
+    due-kept : (i : ℕ) → i < p .counts .n → touched i ≡ false → dueThen p t o i ≡ natAt (r .d) i
+    unfolding dueThen
+    due-kept i h f =
+        let e = keeps .not-woken i h f in
+        rw (keeps .place i h e, keeps .slope i h f) (due-by-output p (r .q) i (o .held .q) (keeps .output i h e) _ _ _ ∙ due-same i h (keeps .later i h e))
 
-  pub due-kept : (i : ℕ) → i < p .counts .n → isDue (r .d) t i ≡ false → reached p (r .d) t i ≡ false → dueThen p r t i ≡ natAt (r .d) i
-  unfolding dueThen dueOf upperLevel lowerLevel
-  due-kept i h e f = rw (x-then p limits r t i h, slope-kept i h f, output-kept p limits r t i h e) (due-same i h e)
+    -- whoever moves
+    module _ (moved : ℕ → Bool) (covers : Covers p touched moved) where
+      -- one that does not move has its slope stored
+      stored-slope : (i : ℕ) → i < p .counts .n → moved i ≡ false → o .s i ≡ intAt (r .s) i
+      stored-slope i h e = keeps .slope i h (covers i h e)
 
-  -- whoever moves
-  module _ (moved : ℕ → Bool) (covers : (i : ℕ) → i < p .counts .n → moved i ≡ false → (isDue (r .d) t i || reached p (r .d) t i) ≡ false) where
-    pub not-due : (i : ℕ) → i < p .counts .n → moved i ≡ false → isDue (r .d) t i ≡ false
-    not-due i h e = or-false (isDue (r .d) t i) (reached p (r .d) t i) (covers i h e) .0
+      -- the due tick is by rule from where and when the integrator was moved last
+      pub due-by-rule : (i : ℕ) → i < p .counts .n
+          → dueThen p t o i ≡ dueOf p (o .held .q) i (cond (moved i) t (natAt (r .l) i)) (cond (moved i) (o .x i) (intAt (r .x) i)) (o .s i)
+      unfolding dueThen
+      due-by-rule i h = go (moved i) refl
+        where
+          go : (b : Bool) → moved i ≡ b
+              → dueThen p t o i ≡ dueOf p (o .held .q) i (cond b t (natAt (r .l) i)) (cond b (o .x i) (intAt (r .x) i)) (o .s i)
+          go true e = refl
+          go false e =
+              due-kept i h (covers i h e) ∙ ok .integrators i h .due
+              ∙ rw (stored-slope i h e) (sym (due-by-output p (r .q) i (o .held .q) (keeps .output i h (keeps .not-woken i h (covers i h e))) _ _ _))
 
-    not-reached : (i : ℕ) → i < p .counts .n → moved i ≡ false → reached p (r .d) t i ≡ false
-    not-reached i h e = or-false (isDue (r .d) t i) (reached p (r .d) t i) (covers i h e) .1
+      -- with any update count after it
+      module _ (w : ℕ) where
+        pub slopes-then : figuresAfter p r t o moved w .s ≡ row (pos 0) 32 (p .counts .n) (o .s)
+        unfolding figuresAfter
+        slopes-then = row-ext (pos 0) 32 (p .counts .n) _ _ (λ i h. go i h (moved i) refl)
+          where
+            go : (i : ℕ) → i < p .counts .n → (b : Bool) → moved i ≡ b → cond b (o .s i) (intAt (r .s) i) ≡ o .s i
+            go i h true e = refl
+            go i h false e = sym (stored-slope i h e)
 
-    pub slopes-then : figuresAfter p r t moved .s ≡ row (pos 0) 32 (p .counts .n) (slopeThen p r t)
-    unfolding figuresAfter
-    slopes-then = row-ext (pos 0) 32 (p .counts .n) _ _ (λ i h. go i h (moved i) refl)
-      where
-        go : (i : ℕ) → i < p .counts .n → (b : Bool) → moved i ≡ b → cond b (slopeThen p r t i) (intAt (r .s) i) ≡ slopeThen p r t i
-        go i h true e = refl
-        go i h false e = sym (slope-kept i h (not-reached i h e))
+        pub dues-then : figuresAfter p r t o moved w .d ≡ row 0 32 (p .counts .n) (dueThen p t o)
+        unfolding figuresAfter
+        dues-then = row-ext 0 32 (p .counts .n) _ _ (λ i h. go i h (moved i) refl)
+          where
+            go : (i : ℕ) → i < p .counts .n → (b : Bool) → moved i ≡ b → cond b (dueThen p t o i) (natAt (r .d) i) ≡ dueThen p t o i
+            go i h true e = refl
+            go i h false e = sym (due-kept i h (covers i h e))
 
-    pub dues-then : figuresAfter p r t moved .d ≡ row 0 32 (p .counts .n) (dueThen p r t)
-    unfolding figuresAfter
-    dues-then = row-ext 0 32 (p .counts .n) _ _ (λ i h. go i h (moved i) refl)
-      where
-        go : (i : ℕ) → i < p .counts .n → (b : Bool) → moved i ≡ b → cond b (dueThen p r t i) (natAt (r .d) i) ≡ dueThen p r t i
-        go i h true e = refl
-        go i h false e = sym (due-kept i h (not-due i h e) (not-reached i h e))
+        pub slope-at : (i : ℕ) → i < p .counts .n → intAt (figuresAfter p r t o moved w .s) i ≡ o .s i
+        slope-at i h = rw slopes-then (row-at (pos 0) 32 (p .counts .n) _ i (limits .n) h)
 
-    pub slope-at : (i : ℕ) → i < p .counts .n → intAt (figuresAfter p r t moved .s) i ≡ slopeThen p r t i
-    slope-at i h = rw slopes-then (row-at (pos 0) 32 (p .counts .n) _ i (limits .n) h)
+        pub due-at : (i : ℕ) → i < p .counts .n → natAt (figuresAfter p r t o moved w .d) i ≡ dueThen p t o i
+        due-at i h = rw dues-then (row-at 0 32 (p .counts .n) _ i (limits .n) h)
 
-    pub due-at : (i : ℕ) → i < p .counts .n → natAt (figuresAfter p r t moved .d) i ≡ dueThen p r t i
-    due-at i h = rw dues-then (row-at 0 32 (p .counts .n) _ i (limits .n) h)
-
-    -- the position at the instant's tick does not depend on who moved
-    pub place-then : (i : ℕ) → i < p .counts .n → positionAt (figuresAfter p r t moved) t i ≡ positionAt r t i
-    unfolding positionAt
-    place-then i h = rw (x-at p limits r t moved i h, l-at p limits r t moved i h, slope-at i h) (go (moved i) refl)
-      where
-        go : (b : Bool) → moved i ≡ b →
-            cond b (positionAt r t i) (intAt (r .x) i) +ℤ slopeThen p r t i *ℤ pos (t - cond b t (natAt (r .l) i)) ≡ positionAt r t i
-        go true e =
-            let z : t - t ≡ 0 = omega arith in
-            rw z (ap (λ y. positionAt r t i +ℤ y) (*ℤ-zero (slopeThen p r t i)) ∙ +ℤ-idr (positionAt r t i))
-        go false e = rw (slope-kept i h (not-reached i h e))
-
-    -- and the due tick is by rule from where and when the integrator was moved last
-    pub due-by-rule : (i : ℕ) → i < p .counts .n →
-        dueThen p r t i ≡ dueOf p (outputsThen p r t) i (cond (moved i) t (natAt (r .l) i)) (cond (moved i) (positionAt r t i) (intAt (r .x) i)) (slopeThen p r t i)
-    unfolding dueThen dueOf upperLevel lowerLevel
-    due-by-rule i h = go (moved i) refl
-      where
-        go : (b : Bool) → moved i ≡ b →
-            dueThen p r t i ≡ dueOf p (outputsThen p r t) i (cond b t (natAt (r .l) i)) (cond b (positionAt r t i) (intAt (r .x) i)) (slopeThen p r t i)
-        go true e = rw (x-then p limits r t i h)
-        go false e =
-            due-kept i h (not-due i h e) (not-reached i h e) ∙ ok .integrators i h .due
-            ∙ rw (output-kept p limits r t i h (not-due i h e), slope-kept i h (not-reached i h e))
+        -- the position at the instant's tick does not depend on who moved
+        pub place-then : (i : ℕ) → i < p .counts .n → positionAt (figuresAfter p r t o moved w) t i ≡ o .x i
+        unfolding positionAt
+        place-then i h = rw (x-at p limits r t o moved w i h, l-at p limits r t o moved w i h, slope-at i h) (go (moved i) refl)
+          where
+            go : (b : Bool) → moved i ≡ b → cond b (o .x i) (intAt (r .x) i) +ℤ o .s i *ℤ pos (t - cond b t (natAt (r .l) i)) ≡ o .x i
+            go true e =
+                let z : t - t ≡ 0 = omega arith in
+                rw z (ap (λ y. o .x i +ℤ y) (*ℤ-zero (o .s i)) ∙ +ℤ-idr (o .x i))
+            go false e = rw (stored-slope i h e) (sym (keeps .place i h (keeps .not-woken i h (covers i h e))))

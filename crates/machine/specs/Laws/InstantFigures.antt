@@ -1,64 +1,50 @@
--- Laws: the figures of each integrator after an instant, entry by entry, whoever moves. Assumes nothing.
+-- Laws: outputs, positions and the figures of each integrator after an instant, entry by entry, whoever moves. Assumes nothing.
 use mathlib.Core.Path.{_≡_, refl, _∙_}
 use mathlib.Core.Bool.{Bool, true, false, cond}
 use mathlib.Core.List.{List}
 use Prim.Native.Nat.{ℕ, _<_}
 use lib.IntN.{ℤ, pos}
-use borrow.Author.Tests.{eq-eqb, ne-eqb}
-use Rattle.plan.specs.Lists.{natAt, intAt, row}
+use Rattle.plan.specs.Lists.{natAt, intAt}
 use Rattle.plan.specs.Laws.Rows.{row-at}
 use Rattle.plan.specs.Laws.CountLimits.{CountLimits}
 use Rattle.plan.specs.declared.Plan.{Plan}
-use Rattle.machine.specs.Reach.{isDue}
-use Rattle.machine.specs.Instant.{positionAt, outputsThen, slopeThen, xThen, dueThen, figuresAfter}
+use Rattle.machine.specs.Instant.{Outcome, outputsBy, placeBy, dueThen, figuresAfter}
 use Rattle.machine.specs.declared.Running.{Running}
 
--- ---- 1. the outputs after tick t, by any due ticks, positions at t and outputs before it
-module _ (p : Plan) (limits : CountLimits p) (d : List ℕ) (t : ℕ) (position : ℕ → ℤ) (q : List ℤ) where
-  abbrev outputsBy : List ℤ
-  outputsBy = row (pos 0) 32 (p .counts .n) (λ i. cond (isDue d t i) (position i) (intAt q i))
+-- ---- by who is woken, where each integrator is put, and the outputs before
+module _ (p : Plan) (limits : CountLimits p) (woken : ℕ → Bool) (place : ℕ → ℤ) (q : List ℤ) (i : ℕ) (h : i < p .counts .n) where
+  pub outputs-at : intAt (outputsBy p woken place q) i ≡ cond (woken i) (place i) (intAt q i)
+  unfolding outputsBy
+  outputs-at = row-at (pos 0) 32 (p .counts .n) _ i (limits .n) h
 
-  pub output-due : (i : ℕ) → i < p .counts .n → natAt d i ≡ t → intAt outputsBy i ≡ position i
-  unfolding isDue
-  output-due i h e = row-at (pos 0) 32 (p .counts .n) _ i (limits .n) h ∙ rw (eq-eqb (natAt d i) t e)
-
-  pub output-not-due : (i : ℕ) → i < p .counts .n → (natAt d i ≡ t → ⊥) → intAt outputsBy i ≡ intAt q i
-  unfolding isDue
-  output-not-due i h e = row-at (pos 0) 32 (p .counts .n) _ i (limits .n) h ∙ rw (ne-eqb (natAt d i) t e)
-
-module _ (p : Plan) (limits : CountLimits p) (r : Running) (t : ℕ) where
-  pub outputs-at : (i : ℕ) → i < p .counts .n → intAt (outputsThen p r t) i ≡ cond (isDue (r .d) t i) (positionAt r t i) (intAt (r .q) i)
-  unfolding outputsThen
-  outputs-at i h = row-at (pos 0) 32 (p .counts .n) _ i (limits .n) h
-
-  -- those that are not due keep their outputs
-  pub output-kept : (i : ℕ) → i < p .counts .n → isDue (r .d) t i ≡ false → intAt (outputsThen p r t) i ≡ intAt (r .q) i
-  output-kept i h e = outputs-at i h ∙ rw e
+  -- those that are not woken keep their outputs
+  pub output-kept : woken i ≡ false → intAt (outputsBy p woken place q) i ≡ intAt q i
+  output-kept e = outputs-at ∙ rw e
 
   -- "x becomes x+s×(t−l) .. A due integrator gets x = q", which is the same
-  pub x-then : (i : ℕ) → i < p .counts .n → xThen p r t i ≡ positionAt r t i
-  unfolding xThen
-  x-then i h = go (isDue (r .d) t i) (outputs-at i h)
+  pub x-then : placeBy woken (outputsBy p woken place q) place i ≡ place i
+  unfolding placeBy
+  x-then = go (woken i) outputs-at
     where
-      go : (b : Bool) → intAt (outputsThen p r t) i ≡ cond b (positionAt r t i) (intAt (r .q) i)
-          → cond b (intAt (outputsThen p r t) i) (positionAt r t i) ≡ positionAt r t i
+      go : (b : Bool) → intAt (outputsBy p woken place q) i ≡ cond b (place i) (intAt q i)
+          → cond b (intAt (outputsBy p woken place q) i) (place i) ≡ place i
       go true e = e
       go false e = refl
 
-  -- ---- by who moves
-  module _ (moved : ℕ → Bool) (i : ℕ) (h : i < p .counts .n) where
-    pub x-at : intAt (figuresAfter p r t moved .x) i ≡ cond (moved i) (positionAt r t i) (intAt (r .x) i)
-    unfolding figuresAfter
-    x-at = row-at (pos 0) 32 (p .counts .n) _ i (limits .n) h ∙ rw (x-then i h)
+-- ---- by who moves, for any outcome at tick t and any update count w
+module _ (p : Plan) (limits : CountLimits p) (r : Running) (t : ℕ) (o : Outcome) (moved : ℕ → Bool) (w i : ℕ) (h : i < p .counts .n) where
+  pub x-at : intAt (figuresAfter p r t o moved w .x) i ≡ cond (moved i) (o .x i) (intAt (r .x) i)
+  unfolding figuresAfter
+  x-at = row-at (pos 0) 32 (p .counts .n) _ i (limits .n) h
 
-    pub l-at : natAt (figuresAfter p r t moved .l) i ≡ cond (moved i) t (natAt (r .l) i)
-    unfolding figuresAfter
-    l-at = row-at 0 32 (p .counts .n) _ i (limits .n) h
+  pub l-at : natAt (figuresAfter p r t o moved w .l) i ≡ cond (moved i) t (natAt (r .l) i)
+  unfolding figuresAfter
+  l-at = row-at 0 32 (p .counts .n) _ i (limits .n) h
 
-    pub s-at : intAt (figuresAfter p r t moved .s) i ≡ cond (moved i) (slopeThen p r t i) (intAt (r .s) i)
-    unfolding figuresAfter
-    s-at = row-at (pos 0) 32 (p .counts .n) _ i (limits .n) h
+  pub s-at : intAt (figuresAfter p r t o moved w .s) i ≡ cond (moved i) (o .s i) (intAt (r .s) i)
+  unfolding figuresAfter
+  s-at = row-at (pos 0) 32 (p .counts .n) _ i (limits .n) h
 
-    pub d-at : natAt (figuresAfter p r t moved .d) i ≡ cond (moved i) (dueThen p r t i) (natAt (r .d) i)
-    unfolding figuresAfter
-    d-at = row-at 0 32 (p .counts .n) _ i (limits .n) h
+  pub d-at : natAt (figuresAfter p r t o moved w .d) i ≡ cond (moved i) (dueThen p t o i) (natAt (r .d) i)
+  unfolding figuresAfter
+  d-at = row-at 0 32 (p .counts .n) _ i (limits .n) h

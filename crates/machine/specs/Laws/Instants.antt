@@ -16,7 +16,7 @@ use Rattle.machine.specs.Instant.{instant, eventsOf}
 use Rattle.machine.specs.Status.{isPaused, runningPaused}
 use Rattle.machine.specs.Plain.{Plain, plainStart, plainStatus, plainAfter, lazyCount}
 use Rattle.machine.specs.Updates.{growth, growthUpTo, isEager, eagerInstants, lazyGrowth, movedNow}
-use Rattle.machine.specs.Sound.{SoundRunning}
+use Rattle.machine.specs.Laws.SoundClauses.{SoundRunning}
 use Rattle.machine.specs.Laws.Status.{paused-true}
 use Rattle.machine.specs.Laws.Agreement.{Agrees, same-status, start-agrees}
 use Rattle.machine.specs.Laws.Growth.{instant-updates, instant-moved}
@@ -82,10 +82,10 @@ module _ (p : Plan) (ok : SoundRunning p (startOf p)) (engines : List Engine) wh
   -- paused or not as the plain machine is
   paused-as : (k : ℕ) → k ≤ length engines → runningPaused p (stateAt p engines k) ≡ isPaused (plainStatus p (plainAfter p k))
   unfolding runningPaused
-  paused-as k h = ap isPaused (same-status p (stateAt p engines k) (state-sound k) (plainAfter p k) (state-agrees k h))
+  paused-as k h = ap isPaused (same-status p (stateAt p engines k) (state-sound k) (plainAfter p k) (state-agrees k h .forward))
 
   -- ---- instant k + 1, where it is taken
-  module _ (k : ℕ) (taken : k < plainAfter p (length engines) .instants) where
+  module _ (k : ℕ) (taken : k < plainAfter p (length engines) .held .instants) where
     inside : k < length engines
     inside = omega (arith, takes-most p (length engines))
 
@@ -112,19 +112,19 @@ module _ (p : Plan) (ok : SoundRunning p (startOf p)) (engines : List Engine) wh
     pub moved-next : movedNow p (stateAt p engines (k + 1)) ≡ growth p (engineOf engines (k + 1)) (plainAfter p k)
     moved-next =
         let h : k ≤ length engines = omega (arith, inside) in
-        rw state-next (instant-moved p (stateAt p engines k) (state-sound k) (plainAfter p k) (state-agrees k h) (engineOf engines (k + 1)))
+        rw state-next (instant-moved p (stateAt p engines k) (state-sound k) (plainAfter p k) (state-agrees k h .forward) (engineOf engines (k + 1)))
 
     updates-next : stateAt p engines (k + 1) .clocks .updates ≡ stateAt p engines k .clocks .updates + growth p (engineOf engines (k + 1)) (plainAfter p k)
     updates-next =
         let h : k ≤ length engines = omega (arith, inside) in
-        rw state-next (instant-updates p (stateAt p engines k) (state-sound k) (plainAfter p k) (state-agrees k h) (engineOf engines (k + 1)))
+        rw state-next (instant-updates p (stateAt p engines k) (state-sound k) (plainAfter p k) (state-agrees k h .forward) (engineOf engines (k + 1)))
 
   -- ---- up to instant k
-  pub instants-at : (k : ℕ) → k ≤ plainAfter p (length engines) .instants → stateAt p engines k .clocks .instants ≡ k
+  pub instants-at : (k : ℕ) → k ≤ plainAfter p (length engines) .held .instants → stateAt p engines k .clocks .instants ≡ k
   instants-at k h =
-      state-agrees k (omega (arith, takes-most p (length engines))) .instants ∙ taken-so-far p k (length engines) h
+      ap (λ h. h .instants) (state-agrees k (omega (arith, takes-most p (length engines))) .forward .held) ∙ taken-so-far p k (length engines) h
 
-  pub updates-at : (k : ℕ) → k ≤ plainAfter p (length engines) .instants → stateAt p engines k .clocks .updates ≡ growthUpTo p (engineOf engines) k
+  pub updates-at : (k : ℕ) → k ≤ plainAfter p (length engines) .held .instants → stateAt p engines k .clocks .updates ≡ growthUpTo p (engineOf engines) k
   unfolding stateAt afterBy growthUpTo startOf
   updates-at zero h = refl
   updates-at (suc k) h =
@@ -132,12 +132,12 @@ module _ (p : Plan) (ok : SoundRunning p (startOf p)) (engines : List Engine) wh
       rw next (updates-next k h ∙ ap (λ (n : ℕ). n + growth p (engineOf engines (k + 1)) (plainAfter p k)) (updates-at k (omega arith)))
 
   -- the whole run is over after the instants that it takes
-  pub state-end : afterBy p engines (startOf p) ≡ stateAt p engines (plainAfter p (length engines) .instants)
+  pub state-end : afterBy p engines (startOf p) ≡ stateAt p engines (plainAfter p (length engines) .held .instants)
   unfolding stateAt
   state-end = go (ltb k (length engines)) refl
     where
       k : ℕ
-      k = plainAfter p (length engines) .instants
+      k = plainAfter p (length engines) .held .instants
 
       go : (b : Bool) → ltb k (length engines) ≡ b → afterBy p engines (startOf p) ≡ afterBy p (take k engines) (startOf p)
       go true e =
@@ -148,5 +148,5 @@ module _ (p : Plan) (ok : SoundRunning p (startOf p)) (engines : List Engine) wh
           ∙ after-stopped p (drop k engines) (stateAt p engines k) stop
       go false e = ap (λ es. afterBy p es (startOf p)) (sym (take-all k engines (ltb-false k (length engines) e)))
 
-  pub updates-end : afterBy p engines (startOf p) .clocks .updates ≡ growthUpTo p (engineOf engines) (plainAfter p (length engines) .instants)
-  updates-end = ap (λ r. r .clocks .updates) state-end ∙ updates-at (plainAfter p (length engines) .instants) (omega arith)
+  pub updates-end : afterBy p engines (startOf p) .clocks .updates ≡ growthUpTo p (engineOf engines) (plainAfter p (length engines) .held .instants)
+  updates-end = ap (λ r. r .clocks .updates) state-end ∙ updates-at (plainAfter p (length engines) .held .instants) (omega arith)

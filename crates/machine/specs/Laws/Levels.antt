@@ -16,8 +16,7 @@ use Rattle.plan.specs.Numbers.{M}
 use Rattle.plan.specs.Lists.{intAt}
 use Rattle.plan.specs.Rules.{IntegratorRule}
 use Rattle.plan.specs.declared.Plan.{Plan}
-use Rattle.machine.specs.Due.{upperLevel, lowerLevel, distance, ticksTo}
-use Rattle.machine.specs.Laws.BetweenLevels.{BetweenLevels}
+use Rattle.machine.specs.Due.{upperLevel, lowerLevel, BetweenLevels, distance, ticksTo}
 use Rattle.machine.specs.Laws.Due.{moving, slope-cases, distance-positive}
 
 pub ticks-positive : (x upper lower s : ℤ) → 1 ≤ ticksTo x upper lower s

@@ -1,20 +1,19 @@
 -- Laws: the next instant's tick is the least of all due ticks and the next command's, and the next command is the first above the clock.
 -- Assumes nothing.
 use mathlib.Core.Path.{_≡_, refl, sym, _∙_}
-use mathlib.Core.Bool.{Bool, true, false, cond}
+use mathlib.Core.Bool.{true}
 use mathlib.Core.Logic.{_⊎_, inl, inr}
 use mathlib.Core.List.{List}
 use Prim.Native.Nat.{ℕ, zero, suc, _≤_, _<_, min}
 use native.Mathlib.Omega.{arith, min-cases}
-use lib.Dec.{ltb}
-use borrow.Author.Tests.{ltb-true, ltb-false, lt-ltb, le-ltb}
 use Rattle.plan.specs.Numbers.{never}
 use Rattle.plan.specs.Lists.{natAt}
-use Rattle.plan.specs.Laws.Searches.{below-suc, First, first, first-unique}
+use Rattle.plan.specs.Laws.Searches.{below-suc}
 use Rattle.plan.specs.declared.Plan.{Plan}
-use Rattle.machine.specs.Instant.{nextTickOf}
-use Rattle.machine.specs.declared.Running.{Running}
-use Rattle.machine.specs.Next.{nextCommand, commandTick, leastDue, nextTick}
+use Rattle.machine.specs.Next.{nextCommand, leastDue}
+use Rattle.machine.specs.Held.{Held, entriesTick, nextTick}
+use Rattle.machine.specs.Laws.SoundClauses.{NextByRule}
+use Rattle.machine.specs.Laws.Entries.{entry-below, entry-above, entry-one, next-earlier, next-later, next-most, next-is, next-above}
 
 -- ---- the least of the first n due ticks
 least-below : (d : List ℕ) (n i : ℕ) → i < n → leastDue d n ≤ natAt d i
@@ -43,92 +42,81 @@ least-one d (suc n) h =
 
 -- ---- the next command
 module _ (p : Plan) (c : ℕ) where
-  found : First (λ e. ltb c (natAt (p .commands .ticks) e)) 0 (p .counts .commands) (nextCommand p c)
-  unfolding nextCommand
-  found = first (λ e. ltb c (natAt (p .commands .ticks) e)) 0 (p .counts .commands)
-
   pub command-earlier : (e : ℕ) → e < nextCommand p c → natAt (p .commands .ticks) e ≤ c
-  command-earlier e h = ltb-false c (natAt (p .commands .ticks) e) (found .earlier e (omega arith) h)
+  unfolding nextCommand
+  command-earlier e h =
+      let past : c < natAt (p .commands .ticks) e → ⊥ = λ l. next-earlier (p .commands .ticks) (λ e. true) (p .counts .commands) c e h (l, refl) in
+      omega (arith, past)
 
   pub command-first : nextCommand p c < p .counts .commands → c < natAt (p .commands .ticks) (nextCommand p c)
-  command-first h = ltb-true c (natAt (p .commands .ticks) (nextCommand p c)) (found .passes (omega arith))
+  unfolding nextCommand
+  command-first h = next-later (p .commands .ticks) (λ e. true) (p .counts .commands) c h .0
 
   pub command-most : nextCommand p c ≤ p .counts .commands
-  command-most = omega (arith, found .most)
+  unfolding nextCommand
+  command-most = next-most (p .commands .ticks) (λ e. true) (p .counts .commands) c
 
   -- these determine it
   pub command-is : (next : ℕ) → next ≤ p .counts .commands → ((e : ℕ) → e < next → natAt (p .commands .ticks) e ≤ c) → (next < p .counts .commands → c < natAt (p .commands .ticks) next)
       → next ≡ nextCommand p c
   unfolding nextCommand
   command-is next h before this =
-      first-unique (λ e. ltb c (natAt (p .commands .ticks) e)) 0 (p .counts .commands) next
-      (record {
-        from = omega arith;
-        most = omega arith;
-        earlier = λ e l k. le-ltb c (natAt (p .commands .ticks) e) (before e k);
-        passes = λ l. lt-ltb c (natAt (p .commands .ticks) next) (this (omega arith));
-      })
+      next-is (p .commands .ticks) (λ e. true) (p .counts .commands) c next h (λ d l n. omega (arith, before d l, n .0)) (λ l. (this l, refl))
 
--- ---- the tick of the next instant, by any due ticks and any next command
-module _ (p : Plan) (d : List ℕ) (next : ℕ) where
-  next-most : nextTick p d next ≤ never
+-- ---- the tick that the plan's entries make
+module _ (p : Plan) (h : Held) where
+  pub entries-below : h .next < p .counts .commands → entriesTick p h ≤ natAt (p .commands .ticks) (h .next)
+  unfolding entriesTick
+  entries-below = entry-below (p .commands .ticks) (p .counts .commands) (h .next)
+
+  entries-never : (h .next < p .counts .commands → never ≤ natAt (p .commands .ticks) (h .next)) → never ≤ entriesTick p h
+  unfolding entriesTick
+  entries-never = entry-above (p .commands .ticks) (p .counts .commands) (h .next) never (omega arith)
+
+  -- it is the next command's
+  abbrev pub EntryAt : ℕ → Type 0
+  EntryAt t = (h .next < p .counts .commands) × (natAt (p .commands .ticks) (h .next) ≡ t)
+
+  entries-one : entriesTick p h < never → EntryAt (entriesTick p h)
+  unfolding entriesTick
+  entries-one = entry-one (p .commands .ticks) (p .counts .commands) (h .next)
+
+  -- where the next ones are by rule, it lies past the clock
+  pub entries-after : (c : ℕ) → NextByRule p c h → c < never → c < entriesTick p h
+  unfolding entriesTick nextCommand
+  entries-after c by l = rw (by .command) (next-above (p .commands .ticks) (λ e. true) (p .counts .commands) c l)
+
+-- ---- the tick of the next instant, by any due ticks and whatever is held
+module _ (p : Plan) (d : List ℕ) (h : Held) where
+  tick-most : nextTick p d h ≤ never
   unfolding nextTick
-  next-most = omega (arith, least-most d (p .counts .n))
+  tick-most = omega (arith, least-most d (p .counts .n))
 
-  pub next-due : (i : ℕ) → i < p .counts .n → nextTick p d next ≤ natAt d i
+  pub tick-due : (i : ℕ) → i < p .counts .n → nextTick p d h ≤ natAt d i
   unfolding nextTick
-  next-due i h = omega (arith, least-below d (p .counts .n) i h)
+  tick-due i l = omega (arith, least-below d (p .counts .n) i l)
 
-  pub next-command : next < p .counts .commands → nextTick p d next ≤ natAt (p .commands .ticks) next
-  unfolding nextTick commandTick
-  next-command h = rw (lt-ltb next (p .counts .commands) h) (omega arith)
+  pub tick-command : h .next < p .counts .commands → nextTick p d h ≤ natAt (p .commands .ticks) (h .next)
+  unfolding nextTick
+  tick-command l = omega (arith, entries-below p h l)
 
   -- what stands at or below all of them
-  pub next-above : (c : ℕ) → c ≤ never → ((i : ℕ) → i < p .counts .n → c ≤ natAt d i) → (next < p .counts .commands → c ≤ natAt (p .commands .ticks) next) → c ≤ nextTick p d next
-  unfolding nextTick commandTick
-  next-above c h f g = go (ltb next (p .counts .commands)) refl
-    where
-      go : (b : Bool) → ltb next (p .counts .commands) ≡ b → c ≤ min (leastDue d (p .counts .n)) (cond b (natAt (p .commands .ticks) next) never)
-      go true e = omega (arith, least-above d (p .counts .n) c h f, g (ltb-true next (p .counts .commands) e))
-      go false e = omega (arith, least-above d (p .counts .n) c h f)
+  pub tick-above : (c : ℕ) → c ≤ never → ((i : ℕ) → i < p .counts .n → c ≤ natAt d i) → c ≤ entriesTick p h → c ≤ nextTick p d h
+  unfolding nextTick
+  tick-above c l f g = omega (arith, least-above d (p .counts .n) c l f)
 
-  pub next-never : ((i : ℕ) → i < p .counts .n → never ≤ natAt d i) → (next < p .counts .commands → never ≤ natAt (p .commands .ticks) next) → nextTick p d next ≡ never
-  next-never f g = omega (arith, next-most, next-above never (omega arith) f g)
+  pub tick-never : ((i : ℕ) → i < p .counts .n → never ≤ natAt d i) → (h .next < p .counts .commands → never ≤ natAt (p .commands .ticks) (h .next))
+      → nextTick p d h ≡ never
+  tick-never f g = omega (arith, tick-most, tick-above never (omega arith) f (entries-never p h g))
 
   -- it is one of them
-  pub next-one : nextTick p d next < never
-      → ((i : ℕ) × (i < p .counts .n) × (natAt d i ≡ nextTick p d next)) ⊎ ((next < p .counts .commands) × (natAt (p .commands .ticks) next ≡ nextTick p d next))
-  unfolding nextTick commandTick
-  next-one h =
-      min-cases least command (One (min least command)) (λ l e. let f = least-one d (p .counts .n) (omega arith) in inl (f .0, f .1, f .2 ∙ sym e))
-      (λ l e. inr (own (ltb next (p .counts .commands)) refl (omega arith) (sym e)))
+  pub tick-one : nextTick p d h < never
+      → ((i : ℕ) × (i < p .counts .n) × (natAt d i ≡ nextTick p d h)) ⊎ EntryAt p h (nextTick p d h)
+  unfolding nextTick
+  tick-one l =
+      min-cases (leastDue d (p .counts .n)) (entriesTick p h) (One (min (leastDue d (p .counts .n)) (entriesTick p h)))
+      (λ b e. let f = least-one d (p .counts .n) (omega arith) in inl (f .0, f .1, f .2 ∙ sym e))
+      (λ b e. inr (rw e (entries-one p h (omega arith))))
     where
-      least : ℕ
-      least = leastDue d (p .counts .n)
-
-      command : ℕ
-      command = commandTick p next
-
       One : ℕ → Type 0
-      One t = ((i : ℕ) × (i < p .counts .n) × (natAt d i ≡ t)) ⊎ ((next < p .counts .commands) × (natAt (p .commands .ticks) next ≡ t))
-
-      -- a command's tick below never is one of a command
-      own : {t : ℕ} (b : Bool) → ltb next (p .counts .commands) ≡ b → cond b (natAt (p .commands .ticks) next) never < never → cond b (natAt (p .commands .ticks) next) never ≡ t
-          → (next < p .counts .commands) × (natAt (p .commands .ticks) next ≡ t)
-      own true e l k = (ltb-true next (p .counts .commands) e, k)
-      own false e l k = absurd (omega arith)
-
--- ---- by an engine's
-module _ (p : Plan) (r : Running) where
-  pub tick-due : (i : ℕ) → i < p .counts .n → nextTickOf p r ≤ natAt (r .d) i
-  unfolding nextTickOf
-  tick-due = next-due p (r .d) (r .clocks .next)
-
-  pub tick-command : r .clocks .next < p .counts .commands → nextTickOf p r ≤ natAt (p .commands .ticks) (r .clocks .next)
-  unfolding nextTickOf
-  tick-command = next-command p (r .d) (r .clocks .next)
-
-  pub tick-above : (c : ℕ) → c ≤ never → ((i : ℕ) → i < p .counts .n → c ≤ natAt (r .d) i) → (r .clocks .next < p .counts .commands → c ≤ natAt (p .commands .ticks) (r .clocks .next))
-      → c ≤ nextTickOf p r
-  unfolding nextTickOf
-  tick-above = next-above p (r .d) (r .clocks .next)
+      One t = ((i : ℕ) × (i < p .counts .n) × (natAt d i ≡ t)) ⊎ EntryAt p h t

@@ -12,15 +12,15 @@ use Rattle.integers.specs.Laws.Parts.{sum, prod, tight, zs}
 use Rattle.plan.specs.Numbers.{M, never}
 use Rattle.plan.specs.Lists.{natAt, intAt}
 use Rattle.plan.specs.Rules.{IntegratorRule}
-use Rattle.plan.specs.Laws.TestMeanings.{within-size}
 use Rattle.plan.specs.declared.Plan.{Plan}
-use Rattle.machine.specs.Due.{upperLevel, lowerLevel, distance, ticksTo, dueTick, dueOf}
+use Rattle.machine.specs.Values.{slopeMost, slopeLimit}
+use Rattle.machine.specs.Due.{upperLevel, lowerLevel, BetweenLevels, distance, ticksTo, dueTick, dueOf}
+use Rattle.machine.specs.Held.{heldOf}
 use Rattle.machine.specs.Instant.{positionAt}
 use Rattle.machine.specs.Runs.{positionOf}
-use Rattle.machine.specs.Sound.{SoundRunning}
-use Rattle.machine.specs.Laws.BetweenLevels.{BetweenLevels, near-between}
+use Rattle.machine.specs.Laws.SoundClauses.{SoundRunning}
 use Rattle.machine.specs.Laws.Due.{due-still, due-moving, slope-cases, distance-positive, ticks-rounded, later-above, later-below}
-use Rattle.machine.specs.Laws.Sizes.{rate-size}
+use Rattle.machine.specs.Laws.Held.{slope-most}
 use Rattle.machine.specs.Laws.Levels.{inside-size, distance-most, ticks-most}
 use Rattle.machine.specs.declared.Running.{Running}
 
@@ -36,7 +36,7 @@ move-most l t x upper lower s above below since early =
 
 module _ (p : Plan) (r : Running) (sound : SoundRunning p r) (i : ℕ) (used : i < p .counts .n) where
   pub inside : BetweenLevels p (r .q) i (intAt (r .x) i)
-  inside = near-between p (r .q) i (intAt (r .x) i) .0 (sound .integrators i used .near)
+  inside = sound .integrators i used .between
 
   pub due-is : natAt (r .d) i ≡ dueTick (natAt (r .l) i) (intAt (r .x) i) (upperLevel p (r .q) i) (lowerLevel p (r .q) i) (intAt (r .s) i)
   unfolding dueOf
@@ -46,18 +46,13 @@ module _ (p : Plan) (r : Running) (sound : SoundRunning p r) (i : ℕ) (used : i
   rule = sound .plan .integrators i used
 
   output : ∣ intAt (r .q) i ∣ ≤ M
-  output = sound .integrators i used .output
+  output = sound .held .outputs i used
 
   pub moved-before : (t : ℕ) → r .clocks .clock ≤ t → natAt (r .l) i ≤ t
   moved-before t since = omega (arith, sound .integrators i used .moved)
 
-  pub slope-size : ∣ intAt (r .s) i ∣ ≤ 56 * 2 ^ 38
-  slope-size =
-      rw (sound .integrators i used .rate)
-      (rate-size p (r .q) (r .inputs) (sound .plan)
-      (λ j h. sound .integrators j h .output)
-      (λ j h. within-size M (intAt (r .inputs) j) .0 (sound .inputs j h))
-      i)
+  pub slope-size : ∣ intAt (r .s) i ∣ ≤ slopeMost
+  slope-size = rw (sound .integrators i used .slope) (slope-most p (sound .plan) (r .clocks .clock) (heldOf r) (sound .held) i)
 
   -- before its due tick it stays strictly between its levels
   pub stays-inside : (t : ℕ) → r .clocks .clock ≤ t → t < natAt (r .d) i → BetweenLevels p (r .q) i (positionAt r t i)
@@ -93,18 +88,18 @@ module _ (p : Plan) (r : Running) (sound : SoundRunning p r) (i : ℕ) (used : i
       (λ m. inr (due-soon m))
 
   -- up to the due tick: the distance is below 2^31, and the last tick's move goes past the level by less than the slope's size
-  move-size : (t : ℕ) → r .clocks .clock ≤ t → t ≤ natAt (r .d) i → ∣ intAt (r .s) i *ℤ pos (t - natAt (r .l) i) ∣ < 2 ^ 31 + 56 * 2 ^ 38
+  move-size : (t : ℕ) → r .clocks .clock ≤ t → t ≤ natAt (r .d) i → ∣ intAt (r .s) i *ℤ pos (t - natAt (r .l) i) ∣ < 2 ^ 31 + slopeMost
   move-size t since early =
       let x = intAt (r .x) i in let s = intAt (r .s) i in let d = distance x (upperLevel p (r .q) i) (lowerLevel p (r .q) i) s in
       let e = rw due-is at early in
       let move = move-most _ t _ _ _ _ (inside .above) (inside .below) (moved-before t since) e in
       omega (arith, zs, prod s (pos (t - natAt (r .l) i)), slope-size, distance-most p (r .q) i rule output x inside s, tight d)
 
-  pub elapsed-size : (t : ℕ) → r .clocks .clock ≤ t → t ≤ natAt (r .d) i → ∣ intAt (r .s) i *ℤ pos (t - natAt (r .l) i) ∣ < 2 ^ 32 + 2 ^ 44
+  pub elapsed-size : (t : ℕ) → r .clocks .clock ≤ t → t ≤ natAt (r .d) i → ∣ intAt (r .s) i *ℤ pos (t - natAt (r .l) i) ∣ < 2 ^ 32 + slopeLimit
   elapsed-size t since early = omega (arith, move-size t since early)
 
   -- the value that it takes there
-  pub value-at-due : ∣ positionAt r (natAt (r .d) i) i ∣ < 2 ^ 32 + 2 ^ 44
+  pub value-at-due : ∣ positionAt r (natAt (r .d) i) i ∣ < 2 ^ 32 + slopeLimit
   unfolding positionAt
   value-at-due =
       let x = intAt (r .x) i in let d = natAt (r .d) i in

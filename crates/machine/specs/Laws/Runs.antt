@@ -11,7 +11,7 @@ use Rattle.machine.specs.Instant.{figuresAfter, instant, eventsOf}
 use Rattle.machine.specs.Status.{isPaused, statusOf, runningPaused}
 use Rattle.machine.specs.Runs.{afterRun, eventsOfRun}
 use Rattle.machine.specs.Plain.{Plain, plainInstant, plainStatus, plainFrom, plainEventsFrom}
-use Rattle.machine.specs.Sound.{SoundRunning}
+use Rattle.machine.specs.Laws.SoundClauses.{SoundRunning}
 use Rattle.machine.specs.Laws.Status.{is-paused, paused-false}
 use Rattle.machine.specs.Laws.Soundness.{tick-after, instant-sound}
 use Rattle.machine.specs.Laws.Agreement.{Agrees, same-status, same-events, agrees-then}
@@ -114,7 +114,7 @@ module _ (p : Plan) where
   run-sound = along (λ r end. SoundRunning p end) (λ r ok. ok) (λ engine r end ok ih. ih)
 
   -- ---- the clock goes on
-  instant-clock : (engine : Engine) (r : Running) → SoundRunning p r → r .clocks .clock < instant p engine r .clocks .clock
+  pub instant-clock : (engine : Engine) (r : Running) → SoundRunning p r → r .clocks .clock < instant p engine r .clocks .clock
   unfolding instant figuresAfter
   instant-clock engine r ok = tick-after p r ok
 
@@ -145,17 +145,17 @@ module _ (p : Plan) where
   together [] r m ok a = record { agrees = a; bytes = refl }
   together (engine ∷ engines) r m ok a =
       go (runningPaused p r) refl
-      (λ e. together engines (instant p engine r) (plainInstant p m) (instant-sound p r ok e engine) (agrees-then p r ok m a engine))
+      (λ e. together engines (instant p engine r) (plainInstant p m) (instant-sound p r ok e engine) (agrees-then p r ok m (a .forward) engine))
     where
       same : runningPaused p r ≡ isPaused (plainStatus p m)
-      same = ap isPaused (same-status p r ok m a)
+      same = ap isPaused (same-status p r ok m (a .forward))
 
       go : (b : Bool) → runningPaused p r ≡ b → (runningPaused p r ≡ true → Together engines (instant p engine r) (plainInstant p m))
           → Together (engine ∷ engines) r m
       go true e ih =
           let t = ih e in
           let f : isPaused (plainStatus p m) ≡ true = sym same ∙ e in
-          record { agrees = rw (e, f) (t .agrees); bytes = rw (e, f) (ap₂ (λ xs ys. xs ++ ys) (same-events p r ok m a) (t .bytes)) }
+          record { agrees = rw (e, f) (t .agrees); bytes = rw (e, f) (ap₂ (λ xs ys. xs ++ ys) (same-events p r ok m (a .forward)) (t .bytes)) }
       go false e ih =
           let f : isPaused (plainStatus p m) ≡ false = sym same ∙ e in
           record { agrees = rw (e, f) a; bytes = rw (e, f) }

@@ -1,5 +1,5 @@
 -- Laws: blocks of one length, one behind the other, of those numbers that pass a test: where each stands. Assumes nothing.
-use mathlib.Core.Path.{_≡_, ap, _∙_}
+use mathlib.Core.Path.{_≡_, refl, ap, _∙_}
 use mathlib.Core.Bool.{Bool, true, false, cond}
 use mathlib.Core.List.{List, []}
 use Prim.Native.Nat.{ℕ, zero, suc, _+_, _*_, _≤_, _<_}
@@ -41,3 +41,9 @@ bytes-chosen test block b (suc n) = bytes-append (bytes-chosen test block b n) (
     go : (c : Bool) → Bytes (cond c (block n) [])
     go true = b n
     go false = no-bytes
+
+-- blocks that are the same, one by one
+pub joined-ext : (f g : ℕ → List ℕ) (n : ℕ) → ((i : ℕ) → i < n → f i ≡ g i) → joined f n ≡ joined g n
+unfolding joined
+joined-ext f g zero e = refl
+joined-ext f g (suc n) e = rw (e n (omega arith), joined-ext f g n (λ i h. e i (omega arith)))

@@ -5,8 +5,9 @@ use lib.IntN.{pos}
 use Rattle.plan.specs.Format.{PlanWidths}
 use Rattle.plan.specs.Laws.Rows.{length-row}
 use Rattle.plan.specs.declared.Plan.{Plan}
+use Rattle.machine.specs.Held.{inputsThen}
 use Rattle.machine.specs.Start.{startOf}
-use Rattle.machine.specs.Instant.{inputsThen, outputsThen, figuresAfter, instant}
+use Rattle.machine.specs.Instant.{outputsBy, figuresAfter, instant}
 use Rattle.machine.specs.Status.{runningPaused}
 use Rattle.machine.specs.Runs.{afterRun}
 use Rattle.machine.specs.Sound.{RunningWidths}
@@ -27,7 +28,7 @@ module _ (p : Plan) where
       }
 
   pub instant-shaped : (engine : Engine) (r : Running) → RunningWidths (instant p engine r)
-  unfolding instant figuresAfter outputsThen inputsThen
+  unfolding instant figuresAfter outputsBy inputsThen
   instant-shaped engine r =
       record {
         x = length-row (pos 0) 32 (p .counts .n) _;

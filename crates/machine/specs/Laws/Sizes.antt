@@ -23,7 +23,7 @@ use Rattle.plan.specs.Laws.CountLimits.{CountLimits, count-limits}
 use Rattle.plan.specs.Laws.TestMeanings.{within-size}
 use Rattle.plan.specs.Laws.Small.{node-limits}
 use Rattle.plan.specs.declared.Plan.{Plan}
-use Rattle.machine.specs.Values.{clipped, nodeValue, valueWith, valueOf, sumOver, rateOf}
+use Rattle.machine.specs.Values.{clipped, nodeValue, rateMost, valueWith, valueOf, sumOver, rateOf}
 use Rattle.machine.specs.Laws.OwnLinks.{ownLinks, own-before}
 
 size-cond : (t : Bool) (x y : ℤ) (b : ℕ) → ∣ x ∣ ≤ b → ∣ y ∣ ≤ b → ∣ cond t x y ∣ ≤ b
@@ -102,9 +102,6 @@ module _ (p : Plan) (q u : List ℤ) (rules : PlanRules p) (outputs : (i : ℕ) 
   pub sum-size : (i e : ℕ) → e ≤ p .counts .links → ∣ sumOver p q u i e ∣ ≤ 56 * 2 ^ 54
   sum-size i e h = omega (arith, sum-by-links i e h, own-before p rules i e h)
 
-  pub rate-size : (i : ℕ) → ∣ rateOf p q u i ∣ ≤ 56 * 2 ^ 38
+  pub rate-size : (i : ℕ) → ∣ rateOf p q u i ∣ ≤ rateMost
   unfolding rateOf
-  rate-size i = floor-size (sumOver p q u i (p .counts .links)) 65536 (56 * 2 ^ 38) (sum-size i (p .counts .links) (omega arith))
-
-  pub rate-most : (i : ℕ) → ∣ rateOf p q u i ∣ < 2 ^ 44
-  rate-most i = omega (arith, rate-size i)
+  rate-size i = floor-size (sumOver p q u i (p .counts .links)) 65536 rateMost (sum-size i (p .counts .links) (omega arith))

@@ -1,21 +1,20 @@
--- Laws: what the status is, its number and integrator, and what a paused one says, for any due ticks, tick and values. Assumes nothing.
+-- Laws: what the status is, its number and integrator, and what a paused one says, for any tick, set of those that give
+-- their positions as outputs, and values. Assumes nothing.
 use mathlib.Core.Path.{_≡_, refl, sym}
 use mathlib.Core.Bool.{Bool, true, false, cond, not, _&&_, _||_, true≢false, or-true}
 use mathlib.Core.Logic.{_⊎_, inl, inr, _↔_}
-use mathlib.Core.List.{List}
 use Prim.Native.Nat.{ℕ, _≤_, _<_}
 use native.Mathlib.Omega.{arith}
 use lib.IntN.{ℤ}
 use lib.Dec.{ltb, eqb}
-use borrow.Author.Tests.{ltb-true, ltb-false, lt-ltb, le-ltb, eqb-true, eq-eqb, ne-eqb}
+use borrow.Author.Tests.{ltb-true, ltb-false, lt-ltb, le-ltb, eq-eqb, ne-eqb}
 use Rattle.integers.specs.Parts.{∣_∣}
 use Rattle.integers.specs.Range.{within}
 use Rattle.integers.specs.Laws.Range.{within-true, within-false}
 use Rattle.plan.specs.Numbers.{M, never}
-use Rattle.plan.specs.Lists.{natAt}
 use Rattle.plan.specs.Laws.Searches.{First, first, first-unique, first-ext}
 use Rattle.plan.specs.declared.Plan.{Plan}
-use Rattle.machine.specs.Reach.{isDue}
+use Rattle.machine.specs.Reach.{isDue, gives}
 use Rattle.machine.specs.Status.{statusNumber, statusIntegrator, isPaused, bars, barring, statusBy, statusAt, statusOf, runningPaused}
 use Rattle.machine.specs.Instant.{positionAt, nextTickOf}
 use Rattle.machine.specs.declared.Running.{Running}
@@ -61,44 +60,44 @@ pub paused-zero : (status : Status) → status ≡ Paused → statusNumber statu
 unfolding statusNumber
 paused-zero status e = rw e
 
-module _ (d : List ℕ) (t : ℕ) (value : ℕ → ℤ) (i : ℕ) where
+module _ (giving : ℕ → Bool) (value : ℕ → ℤ) (i : ℕ) where
   -- ---- integrator i bars the instant, or does not
-  bars-true : natAt d i ≡ t → M < ∣ value i ∣ → bars d t value i ≡ true
-  unfolding bars isDue
-  bars-true e h = rw (eq-eqb (natAt d i) t e, within-false M (value i) .1 h)
+  bars-true : giving i ≡ true → M < ∣ value i ∣ → bars giving value i ≡ true
+  unfolding bars
+  bars-true e h = rw (e, within-false M (value i) .1 h)
 
-  bars-false : (bars d t value i ≡ false) ↔ (natAt d i ≡ t → ∣ value i ∣ ≤ M)
-  unfolding bars isDue
-  bars-false = (λ e k. kept (within M (value i)) refl (rw (eq-eqb (natAt d i) t k) at e), λ f. clear (eqb (natAt d i) t) refl f)
+  bars-false : (bars giving value i ≡ false) ↔ (giving i ≡ true → ∣ value i ∣ ≤ M)
+  unfolding bars
+  bars-false = (λ e k. kept (within M (value i)) refl (rw k at e), λ f. clear (giving i) refl f)
     where
       kept : (b : Bool) → within M (value i) ≡ b → not b ≡ false → ∣ value i ∣ ≤ M
       kept true w e = within-true M (value i) .0 w
       kept false w e = absurd (true≢false e)
 
-      clear : (b : Bool) → eqb (natAt d i) t ≡ b → (natAt d i ≡ t → ∣ value i ∣ ≤ M) → (b && not (within M (value i))) ≡ false
-      clear true e f = rw (within-true M (value i) .1 (f (eqb-true (natAt d i) t e)))
+      clear : (b : Bool) → giving i ≡ b → (giving i ≡ true → ∣ value i ∣ ≤ M) → (b && not (within M (value i))) ≡ false
+      clear true e f = rw (within-true M (value i) .1 (f e))
       clear false e f = refl
 
-module _ (p : Plan) (d : List ℕ) (t : ℕ) (value : ℕ → ℤ) where
-  found : First (bars d t value) 0 (p .counts .n) (barring p d t value)
+module _ (p : Plan) (t : ℕ) (giving : ℕ → Bool) (value : ℕ → ℤ) where
+  found : First (bars giving value) 0 (p .counts .n) (barring p giving value)
   unfolding barring
-  found = first (bars d t value) 0 (p .counts .n)
+  found = first (bars giving value) 0 (p .counts .n)
 
   -- none below it bars the instant, and it does where it is an integrator
-  barring-is : (f : ℕ) → f ≤ p .counts .n → ((j : ℕ) → j < f → natAt d j ≡ t → ∣ value j ∣ ≤ M) → (f < p .counts .n → bars d t value f ≡ true)
-      → f ≡ barring p d t value
+  barring-is : (f : ℕ) → f ≤ p .counts .n → ((j : ℕ) → j < f → giving j ≡ true → ∣ value j ∣ ≤ M) → (f < p .counts .n → bars giving value f ≡ true)
+      → f ≡ barring p giving value
   unfolding barring
   barring-is f h none this =
-      first-unique (bars d t value) 0 (p .counts .n) f
+      first-unique (bars giving value) 0 (p .counts .n) f
       (record { from = omega arith; most = omega arith; earlier = clear; passes = λ l. this (omega arith) })
     where
-      clear : (j : ℕ) → 0 ≤ j → j < f → bars d t value j ≡ false
-      clear j k l = bars-false d t value j .1 (none j l)
+      clear : (j : ℕ) → 0 ≤ j → j < f → bars giving value j ≡ false
+      clear j k l = bars-false giving value j .1 (none j l)
 
   -- no integrator bars the instant
-  barring-none : (p .counts .n ≤ barring p d t value) ↔ ((i : ℕ) → i < p .counts .n → natAt d i ≡ t → ∣ value i ∣ ≤ M)
+  barring-none : (p .counts .n ≤ barring p giving value) ↔ ((i : ℕ) → i < p .counts .n → giving i ≡ true → ∣ value i ∣ ≤ M)
   barring-none = (
-    λ h i l. bars-false d t value i .0 (found .earlier i (omega arith) (omega arith)),
+    λ h i l. bars-false giving value i .0 (found .earlier i (omega arith) (omega arith)),
     λ f. omega (arith, barring-is (p .counts .n) (omega arith) f (λ l. absurd (omega arith))),
   )
 
@@ -106,41 +105,41 @@ module _ (p : Plan) (d : List ℕ) (t : ℕ) (value : ℕ → ℤ) where
   going : (t ≡ never → ⊥) → t ≤ p .horizon → (eqb t never || ltb (p .horizon) t) ≡ false
   going h l = rw (ne-eqb t never h, le-ltb (p .horizon) t l)
 
-  pub status-finished : (t ≡ never) ⊎ (p .horizon < t) → statusAt p d t value ≡ Finished
+  pub status-finished : (t ≡ never) ⊎ (p .horizon < t) → statusAt p t giving value ≡ Finished
   unfolding statusAt statusBy
   status-finished (inl e) = rw (eq-eqb t never e)
   status-finished (inr h) = rw (lt-ltb (p .horizon) t h, or-true (eqb t never))
 
   -- with the lowest integrator that bars it
-  pub status-range : (t ≡ never → ⊥) → t ≤ p .horizon → (i : ℕ) → i < p .counts .n → natAt d i ≡ t → M < ∣ value i ∣
-      → ((j : ℕ) → j < i → natAt d j ≡ t → ∣ value j ∣ ≤ M) → statusAt p d t value ≡ Range i
+  pub status-range : (t ≡ never → ⊥) → t ≤ p .horizon → (i : ℕ) → i < p .counts .n → giving i ≡ true → M < ∣ value i ∣
+      → ((j : ℕ) → j < i → giving j ≡ true → ∣ value j ∣ ≤ M) → statusAt p t giving value ≡ Range i
   unfolding statusAt statusBy
   status-range h l i k e b f =
-      let this = barring-is i (omega arith) f (λ m. bars-true d t value i e b) in
+      let this = barring-is i (omega arith) f (λ m. bars-true giving value i e b) in
       rw (going h l, ← this, lt-ltb i (p .counts .n) k)
 
-  pub status-paused : (t ≡ never → ⊥) → t ≤ p .horizon → ((i : ℕ) → i < p .counts .n → natAt d i ≡ t → ∣ value i ∣ ≤ M)
-      → statusAt p d t value ≡ Paused
+  pub status-paused : (t ≡ never → ⊥) → t ≤ p .horizon → ((i : ℕ) → i < p .counts .n → giving i ≡ true → ∣ value i ∣ ≤ M)
+      → statusAt p t giving value ≡ Paused
   unfolding statusAt statusBy
-  status-paused h l f = rw (going h l, le-ltb (barring p d t value) (p .counts .n) (barring-none .1 f))
+  status-paused h l f = rw (going h l, le-ltb (barring p giving value) (p .counts .n) (barring-none .1 f))
 
-  pub integrator-most : p .counts .n ≤ 32 → statusIntegrator (statusAt p d t value) ≤ 31
+  pub integrator-most : p .counts .n ≤ 32 → statusIntegrator (statusAt p t giving value) ≤ 31
   unfolding statusAt statusBy statusIntegrator
-  integrator-most h = go (eqb t never || ltb (p .horizon) t) (ltb (barring p d t value) (p .counts .n)) refl
+  integrator-most h = go (eqb t never || ltb (p .horizon) t) (ltb (barring p giving value) (p .counts .n)) refl
     where
-      go : (a b : Bool) → ltb (barring p d t value) (p .counts .n) ≡ b
-          → statusIntegrator (cond a Finished (cond b (Range (barring p d t value)) Paused)) ≤ 31
+      go : (a b : Bool) → ltb (barring p giving value) (p .counts .n) ≡ b
+          → statusIntegrator (cond a Finished (cond b (Range (barring p giving value)) Paused)) ≤ 31
       go true b e = omega arith
-      go false true e = omega (arith, ltb-true (barring p d t value) (p .counts .n) e)
+      go false true e = omega (arith, ltb-true (barring p giving value) (p .counts .n) e)
       go false false e = omega arith
 
   -- ---- what a paused status says
-  module _ (paused : statusAt p d t value ≡ Paused) where
-    tests : (eqb t never ≡ false) × (ltb (p .horizon) t ≡ false) × (ltb (barring p d t value) (p .counts .n) ≡ false)
+  module _ (paused : statusAt p t giving value ≡ Paused) where
+    tests : (eqb t never ≡ false) × (ltb (p .horizon) t ≡ false) × (ltb (barring p giving value) (p .counts .n) ≡ false)
     unfolding statusAt statusBy isPaused
-    tests = go (eqb t never) (ltb (p .horizon) t) (ltb (barring p d t value) (p .counts .n)) (paused-true (statusAt p d t value) paused)
+    tests = go (eqb t never) (ltb (p .horizon) t) (ltb (barring p giving value) (p .counts .n)) (paused-true (statusAt p t giving value) paused)
       where
-        go : (a b c : Bool) → isPaused (cond (a || b) Finished (cond c (Range (barring p d t value)) Paused)) ≡ true
+        go : (a b c : Bool) → isPaused (cond (a || b) Finished (cond c (Range (barring p giving value)) Paused)) ≡ true
             → (a ≡ false) × (b ≡ false) × (c ≡ false)
         go true b c e = absurd (true≢false (sym e))
         go false true c e = absurd (true≢false (sym e))
@@ -150,16 +149,18 @@ module _ (p : Plan) (d : List ℕ) (t : ℕ) (value : ℕ → ℤ) where
     pub paused-horizon : t ≤ p .horizon
     paused-horizon = ltb-false (p .horizon) t (tests .1)
 
-    pub paused-size : (i : ℕ) → i < p .counts .n → natAt d i ≡ t → ∣ value i ∣ ≤ M
-    paused-size = barring-none .0 (ltb-false (barring p d t value) (p .counts .n) (tests .2))
+    pub paused-size : (i : ℕ) → i < p .counts .n → giving i ≡ true → ∣ value i ∣ ≤ M
+    paused-size = barring-none .0 (ltb-false (barring p giving value) (p .counts .n) (tests .2))
 
--- ---- values that agree give one status
-module _ (p : Plan) (d : List ℕ) (t : ℕ) (value value′ : ℕ → ℤ) (same : (i : ℕ) → i < p .counts .n → value i ≡ value′ i) where
-  barring-same : barring p d t value ≡ barring p d t value′
+-- ---- what agrees on the integrators gives one status
+module _ (p : Plan) (t : ℕ) (giving giving′ : ℕ → Bool) (value value′ : ℕ → ℤ) (same-giving : (i : ℕ) → i < p .counts .n → giving i ≡ giving′ i)
+    (same-value : (i : ℕ) → i < p .counts .n → value i ≡ value′ i) where
+  barring-same : barring p giving value ≡ barring p giving′ value′
   unfolding barring bars
-  barring-same = first-ext (bars d t value) (bars d t value′) 0 (p .counts .n) (λ i h. rw (same i (omega arith)))
+  barring-same =
+      first-ext (bars giving value) (bars giving′ value′) 0 (p .counts .n) (λ i h. rw (same-giving i (omega arith), same-value i (omega arith)))
 
-  pub status-same : statusAt p d t value ≡ statusAt p d t value′
+  pub status-same : statusAt p t giving value ≡ statusAt p t giving′ value′
   unfolding statusAt statusBy
   status-same = rw barring-same
 
@@ -170,14 +171,17 @@ module _ (p : Plan) (r : Running) where
   is-paused = paused-true (statusOf p r)
 
   module _ (paused : runningPaused p r ≡ true) where
+    abbrev giving-next : ℕ → Bool
+    giving-next = gives (isDue (r .d) (nextTickOf p r))
+
     pub paused-status : statusOf p r ≡ Paused
     unfolding runningPaused
     paused-status = true-paused (statusOf p r) paused
 
     pub tick-horizon : nextTickOf p r ≤ p .horizon
     unfolding statusOf
-    tick-horizon = paused-horizon p (r .d) (nextTickOf p r) (positionAt r (nextTickOf p r)) paused-status
+    tick-horizon = paused-horizon p (nextTickOf p r) giving-next (positionAt r (nextTickOf p r)) paused-status
 
-    pub due-size : (i : ℕ) → i < p .counts .n → natAt (r .d) i ≡ nextTickOf p r → ∣ positionAt r (nextTickOf p r) i ∣ ≤ M
+    pub given-size : (i : ℕ) → i < p .counts .n → giving-next i ≡ true → ∣ positionAt r (nextTickOf p r) i ∣ ≤ M
     unfolding statusOf
-    due-size = paused-size p (r .d) (nextTickOf p r) (positionAt r (nextTickOf p r)) paused-status
+    given-size = paused-size p (nextTickOf p r) giving-next (positionAt r (nextTickOf p r)) paused-status

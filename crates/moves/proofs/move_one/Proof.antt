@@ -7,7 +7,7 @@ use mir.Facts.{toZ-ofZ}
 use Rattle.integers.specs.Laws.Signed64.{rd}
 use Rattle.plan.specs.Lists.{intAt}
 use Rattle.timing.specs.Laws.Arithmetic.{upper-made, lower-made, upper-read, lower-read}
-use Rattle.moves.specs.Motion.{motion, positionThen, slopeOf}
+use Rattle.moves.specs.Motion.{motion, positionThen, slopeFrom}
 use Rattle.moves.specs.Laws.Moving.{move-stores}
 use Rattle.moves.proofs.move_one.Statement.{statement}
 use Rattle.moves.proofs.move_one.Tie as tie
@@ -25,8 +25,8 @@ x-then c =
     toZ-ofZ (sfits-of (c .position .ok)) ∙ (rw (toZ-ofZ x, toZ-ofZ s) at (c .position .ensures))
 
 slope : (c : tie.After-rate) → let a = c .before .before .before .before .before .before .before .args in
-    rd (c .rate .result) ≡ slopeOf (a .quanta .now) (a .sources .now) (a .coefficients .now) (a .ranges .now) (a .t) (a .values .now) (a .i)
-unfolding slopeOf
+    rd (c .rate .result) ≡ slopeFrom (a .quanta .now) (a .sources .now) (a .coefficients .now) (a .ranges .now) (a .t) (a .values .now) (a .i)
+unfolding slopeFrom
 slope c = toZ-ofZ (sfits-of (c .rate .ok)) ∙ c .rate .ensures
 
 mul-position : tie.Need-mul-position

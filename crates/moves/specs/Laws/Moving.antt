@@ -15,7 +15,7 @@ use Rattle.bitset.specs.Laws.Visiting.{has-lowest, has-rest}
 use Rattle.plan.specs.Lists.{natAt, intAt}
 use Rattle.machine.specs.Due.{dueTick}
 use Rattle.timing.specs.Ticks.{upperIn, lowerIn}
-use Rattle.moves.specs.Motion.{Motion, motion, positionThen, slopeOf, dueFrom, afterMove, Movable, AllMovable}
+use Rattle.moves.specs.Motion.{Motion, motion, positionThen, slopeFrom, dueFrom, afterMove, Movable, AllMovable}
 
 -- the figures of one integrator
 pub record Figures : Type 0 where
@@ -44,7 +44,7 @@ module _ (quanta : List ℤ) (sources : List ℕ) (coefficients : List ℤ) (ran
       let xThen = f .x +ℤ f .s *ℤ pos (t - f .l) in
       record {
         x = xThen;
-        s = slopeOf quanta sources coefficients ranges t values i;
+        s = slopeFrom quanta sources coefficients ranges t values i;
         l = t;
         d = dueFrom quanta sources coefficients ranges t values i xThen;
       }
@@ -52,7 +52,7 @@ module _ (quanta : List ℤ) (sources : List ℕ) (coefficients : List ℤ) (ran
   -- stored one by one
   pub move-stores : (j : ℕ) (m : Motion) {xThen slope : ℤ} {due : ℕ}
       → xThen ≡ positionThen quanta sources coefficients ranges t values j m
-      → slope ≡ slopeOf quanta sources coefficients ranges t values j
+      → slope ≡ slopeFrom quanta sources coefficients ranges t values j
       → due ≡ dueTick t xThen (upperIn values quanta j) (lowerIn values quanta j) slope
       → motion (set (m .x) j xThen) (set (m .s) j slope) (set (m .l) j t) (set (m .d) j due) ≡ move j m
   unfolding afterMove dueFrom

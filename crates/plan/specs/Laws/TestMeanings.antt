@@ -5,11 +5,11 @@ use mathlib.Core.Logic.{_↔_, Iff·symm, Iff·trans, _⊎_, inl, inr}
 use mathlib.Core.List.{List}
 use Prim.Native.Nat.{ℕ, zero, suc, _-_, _≤_, _<_}
 use native.Mathlib.Omega.{arith}
-use lib.IntN.{ℤ, pos}
+use lib.IntN.{ℤ, pos, _-ℤ_}
 use lib.Dec.{leb, ltb, eqb, eqb·suc-zero}
 use borrow.Author.Tests.{leb-true, le-leb, ltb-true, lt-ltb, eqb-true, eq-eqb}
 use Rattle.integers.specs.Parts.{∣_∣}
-use Rattle.integers.specs.Laws.Parts.{tight, zs}
+use Rattle.integers.specs.Laws.Parts.{dif, tight, zs}
 use Rattle.integers.specs.Laws.Order.{leZ-true}
 use Rattle.integers.specs.Range.{within}
 use Rattle.integers.specs.Laws.Range.{within-true}
@@ -38,6 +38,9 @@ eqb-means a b = (eqb-true a b, eq-eqb a b)
 
 pub zero-means : (z : ℤ) → Means (eqb ∣ z ∣ 0) (z ≡ pos 0)
 zero-means z = (λ e. let h = eqb-true ∣ z ∣ 0 e in omega (arith, zs), λ h. eq-eqb ∣ z ∣ 0 (omega (arith, zs, tight z)))
+
+pub same-means : (x y : ℤ) → Means (eqb ∣ x -ℤ y ∣ 0) (x ≡ y)
+same-means x y = Iff·trans (zero-means (x -ℤ y)) (λ e. omega (arith, zs, dif x y), λ e. omega (arith, zs, dif x y))
 
 -- ---- connectives
 pub both : {a b : Bool} {P Q : Type 0} → Means a P → Means b Q → Means (a && b) (P × Q)

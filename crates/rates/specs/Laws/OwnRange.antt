@@ -1,5 +1,5 @@
 -- Laws: the rate over an integrator's range of links is document 01's sum over all links with that target: links ascend by target, so its
--- own stand together. Assumes nothing.
+-- own stand together. By it the slopes of what is held. Assumes nothing.
 use mathlib.Core.Path.{_≡_, refl, sym, ap, _∙_}
 use mathlib.Core.Logic.{inl, inr}
 use mathlib.Core.Bool.{Bool, true, false}
@@ -21,8 +21,10 @@ use Rattle.plan.specs.Laws.TestMeanings.{within-size}
 use Rattle.plan.specs.Laws.Rows.{row-at, row-ext}
 use Rattle.plan.specs.declared.Plan.{Plan}
 use Rattle.machine.specs.Values.{valueOf, sumOver, rateOf}
+use Rattle.machine.specs.Held.{Held, slopeOf}
 use Rattle.machine.specs.Laws.Ascending.{Before, ascending}
 use Rattle.machine.specs.Laws.OwnLinks.{sources-most}
+use Rattle.machine.specs.Laws.Held.{slope-is}
 use Rattle.rates.specs.Links.{firstLink, rangesOf, term, sumFrom, rangeRate, RateReady, RatesReady}
 use Rattle.rates.specs.Laws.Ranges.{first-link, first-most, first-ascends}
 
@@ -135,11 +137,17 @@ module _ (p : Plan) (rules : PlanRules p) where
             let none : sumOver p q u i a ≡ pos 0 = rw all at (sum-past p q u i 0 a (λ e h l t. omega (arith, before i e (omega arith)))) in
             rw none (omega (arith, zs, sum (pos 0) s))
 
-    pub own-rate : (i : ℕ) → i < p .counts .n
+    own-rate : (i : ℕ) → i < p .counts .n
         → rangeRate (p .links .sources) (p .links .coefficients) values (natAt (rangesOf p) i) (natAt (rangesOf p) (i + 1)) ≡ rateOf p q u i
     unfolding rangeRate rateOf
     own-rate i h = rw (ranges-at i (omega arith), ranges-at (i + 1) (omega arith)) (ap floor65536 (own-sum i))
 
-    pub own-rates : row (pos 0) 32 (p .counts .n) (λ i. rangeRate (p .links .sources) (p .links .coefficients) values (natAt (rangesOf p) i) (natAt (rangesOf p) (i + 1)))
-        ≡ row (pos 0) 32 (p .counts .n) (rateOf p q u)
-    own-rates = row-ext (pos 0) 32 (p .counts .n) _ _ own-rate
+  -- ---- the slopes, by what is held
+  module _ (values : List ℤ) (h : Held) (same : (i : ℕ) → i < p .counts .n + p .counts .m + p .counts .k → intAt values i ≡ valueOf p (h .q) (h .inputs) i) where
+    pub own-slope : (i : ℕ) → i < p .counts .n
+        → rangeRate (p .links .sources) (p .links .coefficients) values (natAt (rangesOf p) i) (natAt (rangesOf p) (i + 1)) ≡ slopeOf p h i
+    own-slope i l = own-rate values (h .q) (h .inputs) same i l ∙ sym (slope-is p h i)
+
+    pub own-slopes : row (pos 0) 32 (p .counts .n) (λ i. rangeRate (p .links .sources) (p .links .coefficients) values (natAt (rangesOf p) i) (natAt (rangesOf p) (i + 1)))
+        ≡ row (pos 0) 32 (p .counts .n) (slopeOf p h)
+    own-slopes = row-ext (pos 0) 32 (p .counts .n) _ _ own-slope

@@ -16,7 +16,7 @@ use Rattle.plan.specs.Lists.{natAt, some}
 use Rattle.plan.specs.Rules.{PlanRules}
 use Rattle.plan.specs.Laws.CountLimits.{count-limits}
 use Rattle.plan.specs.declared.Plan.{Plan}
-use Rattle.machine.specs.Reach.{isDue, isCommanded, changes, dependsWith, linkReaches, reached}
+use Rattle.machine.specs.Reach.{isCommanded, changesBy, dependsWith, linkReaches, reached}
 use Rattle.reach.specs.Table.{linkEntries, ownEntries, followedDown, tableFrom, reachTable, entriesOf, LinksReady, OperandsReady}
 use Rattle.reach.specs.Laws.Some.{some-ext, some-none, some-only}
 use Rattle.reach.specs.Laws.Masks.{mask-is, has-low, joined-is}
@@ -110,74 +110,83 @@ module _ (p : Plan) (rules : PlanRules p) where
     own-past j h =
         own-high j ∙ some-none _ (p .counts .k) (λ i l. other (chosen (p .counts .n + p .counts .m + i)) (32 + j) (32 + i) (λ e. omega arith))
 
-  module _ (d : List ℕ) (t : ℕ) where
+  -- ---- over any set of integrators and inputs that change
+  module _ (changed : ℕ → Bool) (inside : (i : ℕ) → p .counts .n + p .counts .m ≤ i → changed i ≡ false) where
+    abbrev depends : ℕ → ℕ → Bool
+    depends = dependsWith p changed
+
     -- a node that is not looked at yet
-    not-yet : (j i : ℕ) → p .counts .n + p .counts .m + j ≤ i → dependsWith p d t j i ≡ false
-    unfolding dependsWith changes
-    not-yet zero i h = rw (le-ltb i (p .counts .n) (omega arith), le-ltb i (p .counts .n + p .counts .m) (omega arith))
+    not-yet : (j i : ℕ) → p .counts .n + p .counts .m + j ≤ i → depends j i ≡ false
+    unfolding dependsWith
+    not-yet zero i h = inside i (omega arith)
     not-yet (suc j) i h = rw (ne-eqb i (p .counts .n + p .counts .m + j) (λ e. omega arith)) (not-yet j i (omega arith))
 
     -- with j nodes' entries added to their operands', the sources that change have what all that depend on them have without
     followed-has : (j b : ℕ) (table : List ℕ) → j ≤ p .counts .k → length table ≡ 64
-        → inEntries (followedDown (p .nodes .kinds) (p .nodes .a) (p .nodes .b) (p .counts .n + p .counts .m) j table) (changes p d t) b
-        ≡ inEntries table (dependsWith p d t j) b
+        → inEntries (followedDown (p .nodes .kinds) (p .nodes .a) (p .nodes .b) (p .counts .n + p .counts .m) j table) changed b
+        ≡ inEntries table (depends j) b
     unfolding followedDown dependsWith
     followed-has zero b table h len = refl
     followed-has (suc j) b table h len =
         followed-has j b _ (omega arith) (operands-length (p .nodes .kinds) (p .nodes .a) (p .nodes .b) (p .counts .n + p .counts .m) j table ∙ len)
-        ∙ operands-entries (p .nodes .kinds) (p .nodes .a) (p .nodes .b) (p .counts .n + p .counts .m) (p .counts .k) table-wired table (dependsWith p d t j) b j len h
+        ∙ operands-entries (p .nodes .kinds) (p .nodes .a) (p .nodes .b) (p .counts .n + p .counts .m) (p .counts .k) table-wired table (depends j) b j len h
         (not-yet j (p .counts .n + p .counts .m + j) (omega arith))
 
-    not-reached : (i : ℕ) → p .counts .n ≤ i → reached p d t i ≡ false
+    not-reached : (i : ℕ) → p .counts .n ≤ i → reached p changed i ≡ false
     unfolding reached linkReaches
     not-reached i h = some-none _ (p .counts .links) (λ e l. rw (ne-eqb (natAt (p .links .targets) e) i (λ q. omega (arith, rules .links e l .target))))
 
-    -- ---- the sources that change, as a mask
-    module _ (changed : ℕ) (all : changed ≡ maskOf (changes p d t) (p .counts .n + p .counts .m)) where
+    -- ---- as a mask
+    module _ (mask : ℕ) (all : mask ≡ maskOf changed (p .counts .n + p .counts .m)) where
       abbrev entries : ℕ
-      entries = entriesOf (reachTable p) changed
+      entries = entriesOf (reachTable p) mask
 
-      changed-has : (i : ℕ) → has changed i ≡ changes p d t i
-      unfolding dependsWith
-      changed-has i = rw all (go (ltb i (p .counts .n + p .counts .m)) refl)
+      mask-has : (i : ℕ) → has mask i ≡ changed i
+      mask-has i = rw all (go (ltb i (p .counts .n + p .counts .m)) refl)
         where
-          go : (b : Bool) → ltb i (p .counts .n + p .counts .m) ≡ b → has (maskOf (changes p d t) (p .counts .n + p .counts .m)) i ≡ changes p d t i
-          go true e = has-maskOf (changes p d t) (p .counts .n + p .counts .m) i (ltb-true i (p .counts .n + p .counts .m) e)
+          go : (b : Bool) → ltb i (p .counts .n + p .counts .m) ≡ b → has (maskOf changed (p .counts .n + p .counts .m)) i ≡ changed i
+          go true e = has-maskOf changed (p .counts .n + p .counts .m) i (ltb-true i (p .counts .n + p .counts .m) e)
           go false e =
               let h = ltb-false i (p .counts .n + p .counts .m) e in
-              has-high _ (p .counts .n + p .counts .m) i (maskOf-lt (changes p d t) (p .counts .n + p .counts .m)) h ∙ sym (not-yet 0 i (omega arith))
+              has-high _ (p .counts .n + p .counts .m) i (maskOf-lt changed (p .counts .n + p .counts .m)) h ∙ sym (inside i h)
 
-      entries-has : (b : ℕ) → has entries b ≡ inEntries own (dependsWith p d t (p .counts .k)) b
+      entries-has : (b : ℕ) → has entries b ≡ inEntries own (depends (p .counts .k)) b
       unfolding reachTable tableFrom
       entries-has b =
-          entries-of-has (reachTable p) changed b ∙ entries-ext (reachTable p) (has changed) (changes p d t) b changed-has
+          entries-of-has (reachTable p) mask b ∙ entries-ext (reachTable p) (has mask) changed b mask-has
           ∙ followed-has (p .counts .k) b own (omega arith) own-length
 
-      low-has : (i : ℕ) → i < 32 → has (entries % 2 ^ 32) i ≡ reached p d t i
+      low-has : (i : ℕ) → i < 32 → has (entries % 2 ^ 32) i ≡ reached p changed i
       unfolding reached linkReaches
-      low-has i h = has-low entries 32 i h ∙ entries-has i ∙ own-low (dependsWith p d t (p .counts .k)) i h
+      low-has i h = has-low entries 32 i h ∙ entries-has i ∙ own-low (depends (p .counts .k)) i h
 
-      pub reached-mask : entriesOf (reachTable p) changed % 2 ^ 32 ≡ maskOf (reached p d t) (p .counts .n)
+      pub reached-mask : entriesOf (reachTable p) mask % 2 ^ 32 ≡ maskOf (reached p changed) (p .counts .n)
       reached-mask =
-          mask-is (entries % 2 ^ 32) (p .counts .n) (reached p d t) (λ i h. low-has i (omega (arith, count-limits p (rules .counts) .n)))
+          mask-is (entries % 2 ^ 32) (p .counts .n) (reached p changed) (λ i h. low-has i (omega (arith, count-limits p (rules .counts) .n)))
           (λ i h. above i h (ltb i 32) refl)
         where
           above : (i : ℕ) → p .counts .n ≤ i → (b : Bool) → ltb i 32 ≡ b → has (entries % 2 ^ 32) i ≡ false
           above i h true e = low-has i (ltb-true i 32 e) ∙ not-reached i h
           above i h false e = has-high (entries % 2 ^ 32) 32 i (mod-lt entries (pow-pos 32)) (ltb-false i 32 e)
 
-      high-has : (j : ℕ) → has (entries / 2 ^ 32) j ≡ inEntries own (dependsWith p d t (p .counts .k)) (32 + j)
+      high-has : (j : ℕ) → has (entries / 2 ^ 32) j ≡ inEntries own (depends (p .counts .k)) (32 + j)
       high-has j = has-shr entries 32 j ∙ entries-has (32 + j)
 
-      pub touched-mask : entriesOf (reachTable p) changed / 2 ^ 32 ≡ maskOf (λ j. dependsWith p d t (p .counts .k) (p .counts .n + p .counts .m + j)) (p .counts .k)
+      pub touched-mask : entriesOf (reachTable p) mask / 2 ^ 32 ≡ maskOf (λ j. dependsWith p changed (p .counts .k) (p .counts .n + p .counts .m + j)) (p .counts .k)
       touched-mask =
-          mask-is (entries / 2 ^ 32) (p .counts .k) (λ j. dependsWith p d t (p .counts .k) (p .counts .n + p .counts .m + j))
-          (λ j h. high-has j ∙ own-node (dependsWith p d t (p .counts .k)) j h) (λ j h. high-has j ∙ own-past (dependsWith p d t (p .counts .k)) j h)
+          mask-is (entries / 2 ^ 32) (p .counts .k) (λ j. depends (p .counts .k) (p .counts .n + p .counts .m + j))
+          (λ j h. high-has j ∙ own-node (depends (p .counts .k)) j h) (λ j h. high-has j ∙ own-past (depends (p .counts .k)) j h)
 
--- what the engine hands over: the due integrators and the commanded inputs, joined
-pub joined-changes : (p : Plan) (d : List ℕ) (t due commanded : ℕ) → due ≡ maskOf (isDue d t) (p .counts .n)
-    → commanded ≡ maskOf (isCommanded p t) (p .counts .m) → unionShifted due commanded (p .counts .n) ≡ maskOf (changes p d t) (p .counts .n + p .counts .m)
-unfolding changes
-joined-changes p d t due commanded e f =
-    rw (e, f)
-    (joined-is (isDue d t) (isCommanded p t) (p .counts .n) (p .counts .m) ∙ maskOf-ext _ _ (p .counts .n + p .counts .m) (λ i h. rw (lt-ltb i (p .counts .n + p .counts .m) h)))
+-- ---- what the engine hands over: the woken integrators and the commanded inputs, joined
+module _ (p : Plan) (woken : ℕ → Bool) (t : ℕ) where
+  pub changes-inside : (i : ℕ) → p .counts .n + p .counts .m ≤ i → changesBy p woken t i ≡ false
+  unfolding changesBy
+  changes-inside i h = rw (le-ltb i (p .counts .n) (omega arith), le-ltb i (p .counts .n + p .counts .m) h)
+
+  pub joined-changes : (awake commanded : ℕ) → awake ≡ maskOf woken (p .counts .n) → commanded ≡ maskOf (isCommanded p t) (p .counts .m)
+      → unionShifted awake commanded (p .counts .n) ≡ maskOf (changesBy p woken t) (p .counts .n + p .counts .m)
+  unfolding changesBy
+  joined-changes awake commanded e f =
+      rw (e, f)
+      (joined-is woken (isCommanded p t) (p .counts .n) (p .counts .m)
+      ∙ maskOf-ext _ _ (p .counts .n + p .counts .m) (λ i h. rw (lt-ltb i (p .counts .n + p .counts .m) h)))

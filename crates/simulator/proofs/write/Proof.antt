@@ -4,7 +4,7 @@ use mathlib.Core.Bool.{true}
 use borrow.Author.Needs.{needs}
 use borrow.Author.Tests.{not-true, not-false}
 use Rattle.machine.specs.SoundTest.{isSound}
-use Rattle.machine.specs.Laws.SoundTest.{sound-means}
+use Rattle.machine.specs.Laws.SoundTest.{test-clauses}
 use Rattle.simulator.specs.Laws.Answers.{write-unsound, write-short, write-whole}
 use Rattle.simulator.proofs.write.Statement.{statement}
 use Rattle.simulator.proofs.write.Tie as tie
@@ -20,7 +20,7 @@ sound : (c : tie.Else1) → isSound (c .before .before .before .args .state) ≡
 sound c = sym (c .before .is-sound .ensures) ∙ not-false _ (c .if1 .left)
 
 write-plan-requires : tie.Need-write-plan-requires
-write-plan-requires c κs = sound-means _ .0 (sound (c .before .before)) .plan
+write-plan-requires c κs = test-clauses _ .0 (sound (c .before .before)) .plan
 
 enum-told : tie.Need-enum-told
 enum-told c = search needs

@@ -18,7 +18,7 @@ use Rattle.planwriter.specs.declared.PlanWritten.{PlanWritten}
 use Rattle.planwriter.specs.declared.PlanWritten.the-variants.{Short, Length}
 use Rattle.machine.specs.Start.{startState, idleState}
 use Rattle.machine.specs.SoundTest.{isSound}
-use Rattle.machine.specs.Laws.SoundTest.{sound-means}
+use Rattle.machine.specs.Laws.SoundTest.{test-clauses, sound-means}
 use Rattle.machine.specs.declared.State.{State}
 use Rattle.machine.specs.Instant.{positionAt}
 use Rattle.machine.specs.Status.{statusNumber, statusIntegrator}
@@ -129,7 +129,7 @@ module _ (st : State) (i : ℕ) where
     module _ (known : i < st .plan .counts .n) where
       pub position-ready : PositionReady (intAt (st .run .x) i) (intAt (st .run .s) i) (natAt (st .run .l) i) (st .run .clocks .clock)
       position-ready =
-          let sound = sound-means st .0 yes in
+          let sound = test-clauses st .0 yes in
           ready-at (st .plan) (st .run) sound (st .run .clocks .clock) (omega arith) i known (omega (arith, sound .integrators i known .ahead))
 
       pub position-known : PositionedAs 0 (intAt (st .run .x) i +ℤ intAt (st .run .s) i *ℤ pos (st .run .clocks .clock - natAt (st .run .l) i))

@@ -7,17 +7,17 @@ use mathlib.Core.Path.{_≡_, refl, ap}
 use mir.Facts.{toZ-ofZ}
 use Rattle.soundintegrators.specs.Figures.{figuresSound}
 use Rattle.unusedentries.specs.Laws.EarlyReturns.{passes, Passed, begin, next, passed-at, fails, last}
-use Rattle.soundintegrators.specs.Laws.OneIntegrator.{figureClauses, figure-tests, same-rate, other-rate}
+use Rattle.soundintegrators.specs.Laws.OneIntegrator.{figureClauses, figure-tests, same-slope, other-slope}
 use Rattle.soundintegrators.specs.Laws.OneIntegrator.{above-lower, below-upper, due-ready}
 use Rattle.soundintegrators.proofs.figures_sound.Statement.{statement}
 use Rattle.soundintegrators.proofs.figures_sound.Tie as tie
 
 -- the tests in their order, of the arguments at the entry
 abbrev tests : tie.Start → List Bool
-tests c = let a = c .args in figureClauses (a .upper) (a .lower) (a .rate) (a .clock) (a .x) (a .s) (a .l) (a .d)
+tests c = let a = c .args in figureClauses (a .upper) (a .lower) (a .slope) (a .clock) (a .x) (a .s) (a .l) (a .d)
 
-all-of : (c : tie.Start) → let a = c .args in passes (tests c) 6 ≡ figuresSound (a .upper) (a .lower) (a .rate) (a .clock) (a .x) (a .s) (a .l) (a .d)
-all-of c = let a = c .args in figure-tests (a .upper) (a .lower) (a .rate) (a .clock) (a .x) (a .s) (a .l) (a .d)
+all-of : (c : tie.Start) → let a = c .args in passes (tests c) 6 ≡ figuresSound (a .upper) (a .lower) (a .slope) (a .clock) (a .x) (a .s) (a .l) (a .d)
+all-of c = let a = c .args in figure-tests (a .upper) (a .lower) (a .slope) (a .clock) (a .x) (a .s) (a .l) (a .d)
 
 returns : tie.Need-returns
 returns c = fails (begin tests (c .before)) all-of (lit< tt) (lt-leb _ _ (c .if1 .taken))
@@ -55,12 +55,12 @@ passed4 c =
 returns-5 : tie.Need-returns-5
 returns-5 c =
     let a = c .before .before .before .before .before .args in
-    fails (passed4 (c .before)) all-of (lit< tt) (other-rate (a .s) (a .rate) (c .if5 .taken))
+    fails (passed4 (c .before)) all-of (lit< tt) (other-slope (a .s) (a .slope) (c .if5 .taken))
 
 abbrev passed5 : tie.Else5 → Passed tests 5
 passed5 c =
     let f = c .before .before .before .before .before .fits in
-    next (passed4 (c .before)) (same-rate (f .s) (f .rate) (c .if5 .left))
+    next (passed4 (c .before)) (same-slope (f .s) (f .slope) (c .if5 .left))
 
 due-tick-requires : tie.Need-due-tick-requires
 due-tick-requires c κs =

@@ -14,17 +14,17 @@ use Rattle.soundintegrators.proofs.integrators_sound.Statement.{stateme
 use Rattle.soundintegrators.proofs.integrators_sound.Tie as tie
 
 abbrev Inv-loop : tie.InvT-loop
-Inv-loop n quanta rates clock x q s l d i₀ i = (i ≤ n) × (every (figuresIn quanta rates clock x q s l d) i ≡ true)
+Inv-loop n quanta slopes clock x q s l d i₀ i = (i ≤ n) × (every (figuresIn quanta slopes clock x q s l d) i ≡ true)
 
 abbrev μ-loop : tie.MeasureT-loop
-μ-loop n quanta rates clock x q s l d i₀ i = n - i
+μ-loop n quanta slopes clock x q s l d i₀ i = n - i
 
 loop-holds : tie.Need-loop-holds Inv-loop μ-loop
 loop-holds c = (search needs, every-none _)
 
 -- what is asked of the integrator whose turn it is
 ready : (c : tie.After-output Inv-loop μ-loop) → let a = c .before .before .before .args in
-    IntegratorReady (now (a .quanta)) (now (a .rates)) (a .clock) (now (a .q)) (c .before .before .loop .i)
+    IntegratorReady (now (a .quanta)) (now (a .slopes)) (a .clock) (now (a .q)) (c .before .before .loop .i)
 ready c = c .before .before .before .pre .1 (c .before .before .loop .i) (c .before .loop-test .taken)
 
 mul-output : tie.Need-mul-output Inv-loop μ-loop
@@ -99,7 +99,7 @@ turn c = c .before .before .before .before .before .before .before .before .befo
 -- what the call has said of the integrator
 answer : (c : tie.After-figures-sound Inv-loop μ-loop) → let t = turn c .before in let a = t .before .args in
     c .figures-sound .result
-    ≡ figuresIn (now (a .quanta)) (now (a .rates)) (a .clock) (now (a .x)) (now (a .q)) (now (a .s)) (now (a .l)) (now (a .d)) (t .loop .i)
+    ≡ figuresIn (now (a .quanta)) (now (a .slopes)) (a .clock) (now (a .x)) (now (a .q)) (now (a .s)) (now (a .l)) (now (a .d)) (t .loop .i)
 answer c =
     let a3 = c .before .before .before in let a2 = a3 .before in let a1 = a2 .before in
     let l = a1 .before in let u = l .before in let o = u .before in let output = sfits-of (o .output .given) in

@@ -2,7 +2,6 @@
 -- `rd z`, the number read back from its bits. Assumes nothing.
 use mathlib.Core.Path.{_≡_, refl, ap}
 use mathlib.Core.Bool.{Bool, true, false, not}
-use mathlib.Core.Logic.{Iff·trans}
 use mathlib.Core.List.{List, [], _∷_}
 use Prim.Native.Nat.{ℕ}
 use native.Mathlib.Omega.{arith}
@@ -14,25 +13,25 @@ use mir.Val.{SFits, ofZ}
 use mir.Facts.{toZ-ofZ}
 use borrow.Author.Tests.{leb-true}
 use Rattle.integers.specs.Parts.{∣_∣}
-use Rattle.integers.specs.Laws.Parts.{dif, zs}
+use Rattle.integers.specs.Laws.Parts.{zs}
 use Rattle.integers.specs.Laws.Signed64.{rd, same-bits}
 use Rattle.plan.specs.Lists.{natAt, intAt, every}
-use Rattle.plan.specs.Laws.TestMeanings.{Means, zero-means, means-false}
+use Rattle.plan.specs.Laws.TestMeanings.{same-means, means-false}
 use Rattle.machine.specs.Due.{dueTick}
 use Rattle.timing.specs.Ticks.{upperIn, lowerIn, DueReady}
 use Rattle.soundintegrators.specs.Figures.{figuresSound, FiguresReady}
 use Rattle.unusedentries.specs.Laws.EarlyReturns.{passes}
 
 -- the tests of integrator i, where the numbers stand in arrays
-abbrev pub figuresIn : (quanta rates : List ℤ) (clock : ℕ) (x q s : List ℤ) (l d : List ℕ) (i : ℕ) → Bool
-figuresIn quanta rates clock x q s l d i =
-    figuresSound (upperIn q quanta i) (lowerIn q quanta i) (intAt rates i) clock (intAt x i) (intAt s i) (natAt l i) (natAt d i)
+abbrev pub figuresIn : (quanta slopes : List ℤ) (clock : ℕ) (x q s : List ℤ) (l d : List ℕ) (i : ℕ) → Bool
+figuresIn quanta slopes clock x q s l d i =
+    figuresSound (upperIn q quanta i) (lowerIn q quanta i) (intAt slopes i) clock (intAt x i) (intAt s i) (natAt l i) (natAt d i)
 
 not-at-most : (a b : ℤ) (t : Bool) → leZ a b ≡ t → ltZ b a ≡ not t
 not-at-most a b true e = omega (arith, zs)
 not-at-most a b false e = omega (arith, zs)
 
-module _ (upper lower rate : ℤ) (clock : ℕ) (x s : ℤ) (l d : ℕ) where
+module _ (upper lower slope : ℤ) (clock : ℕ) (x s : ℤ) (l d : ℕ) where
   -- in the order of the code, which is the definition's
   abbrev pub figureClauses : List Bool
   figureClauses =
@@ -40,24 +39,21 @@ module _ (upper lower rate : ℤ) (clock : ℕ) (x s : ℤ) (l d : ℕ) where
       ∷ ltb clock d
       ∷ ltZ lower x
       ∷ ltZ x upper
-      ∷ eqb ∣ s -ℤ rate ∣ 0
+      ∷ eqb ∣ s -ℤ slope ∣ 0
       ∷ eqb d (dueTick l x upper lower s)
       ∷ []
 
-  pub figure-tests : passes figureClauses 6 ≡ figuresSound upper lower rate clock x s l d
+  pub figure-tests : passes figureClauses 6 ≡ figuresSound upper lower slope clock x s l d
   unfolding passes every figuresSound
   figure-tests = refl
 
--- ---- the rate
-rate-means : (s rate : ℤ) → Means (eqb ∣ s -ℤ rate ∣ 0) (s ≡ rate)
-rate-means s rate = Iff·trans (zero-means (s -ℤ rate)) (λ e. omega (arith, zs, dif s rate), λ e. omega (arith, zs, dif s rate))
-
+-- ---- the slope
 -- `==` on signed numbers compares their bits
-pub same-rate : {s rate : ℤ} → SFits w64 s → SFits w64 rate → ofZ w64 s ≡ ofZ w64 rate → eqb ∣ s -ℤ rate ∣ 0 ≡ true
-same-rate {s} {rate} f g e = rate-means s rate .1 (same-bits f g e)
+pub same-slope : {s slope : ℤ} → SFits w64 s → SFits w64 slope → ofZ w64 s ≡ ofZ w64 slope → eqb ∣ s -ℤ slope ∣ 0 ≡ true
+same-slope {s} {slope} f g e = same-means s slope .1 (same-bits f g e)
 
-pub other-rate : (s rate : ℤ) → (ofZ w64 s ≡ ofZ w64 rate → ⊥) → eqb ∣ s -ℤ rate ∣ 0 ≡ false
-other-rate s rate h = means-false (rate-means s rate .0) (λ e. h (ap (ofZ w64) e))
+pub other-slope : (s slope : ℤ) → (ofZ w64 s ≡ ofZ w64 slope → ⊥) → eqb ∣ s -ℤ slope ∣ 0 ≡ false
+other-slope s slope h = means-false (same-means s slope .0) (λ e. h (ap (ofZ w64) e))
 
 -- ---- the levels
 module _ {x level : ℤ} (fx : SFits w64 x) (fl : SFits w64 level) where
@@ -68,13 +64,13 @@ module _ {x level : ℤ} (fx : SFits w64 x) (fl : SFits w64 level) where
   below-upper t e = not-at-most level x t (rw (toZ-ofZ fx, toZ-ofZ fl) at e)
 
 -- ---- the due tick, behind all tests but its own
-pub due-ready : {upper lower rate : ℤ} {clock : ℕ} → FiguresReady upper lower rate clock → (x s : ℤ) (l : ℕ)
-    → leb l clock ≡ true → ltZ lower x ≡ true → ltZ x upper ≡ true → eqb ∣ s -ℤ rate ∣ 0 ≡ true → DueReady l x upper lower s
-due-ready {rate = rate} {clock = clock} ready x s l moved above below same =
+pub due-ready : {upper lower slope : ℤ} {clock : ℕ} → FiguresReady upper lower slope clock → (x s : ℤ) (l : ℕ)
+    → leb l clock ≡ true → ltZ lower x ≡ true → ltZ x upper ≡ true → eqb ∣ s -ℤ slope ∣ 0 ≡ true → DueReady l x upper lower s
+due-ready {slope = slope} {clock = clock} ready x s l moved above below same =
     record {
       early = omega (arith, leb-true l clock moved, ready .early);
       above = omega (arith, zs);
       below = omega (arith, zs);
       apart = ready .apart;
-      slow = rw (rate-means s rate .0 same) (ready .slow);
+      slow = rw (same-means s slope .0 same) (ready .slow);
     }

@@ -1,6 +1,7 @@
 -- Laws: the clauses of a sound state's running figures in the order in which the code tests them, and what its tests ask. Assumes nothing.
-use mathlib.Core.Path.{_≡_, refl}
-use mathlib.Core.Bool.{Bool, true, false, _&&_, and-true, and-false, and-comm, and-assoc}
+use mathlib.Core.Path.{_≡_, refl, sym}
+use mathlib.Core.Bool.{Bool, true, false, _&&_}
+use mathlib.Core.Logic.{Iff·rfl}
 use mathlib.Core.List.{List, [], _∷_}
 use Prim.Native.Nat.{ℕ, zero, suc, _+_, _*_, _≤_, _<_}
 use native.Mathlib.Nat.{mul-le-mul-right}
@@ -16,15 +17,17 @@ use Rattle.integers.specs.Laws.Range.{within-true}
 use Rattle.plan.specs.Numbers.{M}
 use Rattle.plan.specs.Lists.{natAt, intAt, row, every}
 use Rattle.plan.specs.Rules.{PlanRules}
+use Rattle.plan.specs.Unused.{natsZeroFrom, intsZeroFrom}
 use Rattle.plan.specs.declared.Plan.{Plan}
 use Rattle.plan.specs.Laws.CountLimits.{count-limits}
 use Rattle.plan.specs.Laws.Rows.{row-at}
 use Rattle.plan.specs.Laws.Searches.{every-true}
-use Rattle.machine.specs.Values.{rateOf}
+use Rattle.plan.specs.Laws.TestMeanings.{Means, both}
 use Rattle.machine.specs.Due.{upperLevel, lowerLevel, dueOf}
 use Rattle.machine.specs.Next.{nextCommand}
-use Rattle.machine.specs.SoundTest.{runningUnusedZero, integratorSound, runningSound}
-use Rattle.machine.specs.Laws.Sizes.{rate-most}
+use Rattle.machine.specs.Held.{heldOf, slopeOf}
+use Rattle.machine.specs.SoundTest.{heldSound, movedUnusedZero, integratorSound, runningSound}
+use Rattle.machine.specs.Laws.Held.{slope-within}
 use Rattle.machine.specs.declared.Running.{Running}
 use Rattle.values.specs.Sources.{valuesOf, outputAndInputValues, NodesReady}
 use Rattle.values.specs.Laws.SourceValues.{nodes-ready, first-sized, values-sized}
@@ -36,27 +39,19 @@ use Rattle.soundintegrators.specs.Figures.{figuresSound, IntegratorsReady}
 use Rattle.soundintegrators.specs.Laws.OneIntegrator.{figuresIn}
 use Rattle.unusedentries.specs.Laws.EarlyReturns.{passes}
 
--- ---- "|q| ≤ M" split off the clauses of an integrator
-every-both : (test f g : ℕ → Bool) → ((i : ℕ) → test i ≡ (f i && g i)) → (n : ℕ) → every test n ≡ (every f n && every g n)
-unfolding every
-every-both test f g e zero = refl
-every-both test f g e (suc n) = rw (every-both test f g e n, e n) (paired (every f n) (every g n) (f n) (g n))
-  where
-    paired : (a b c d : Bool) → (a && b && (c && d)) ≡ (a && c && (b && d))
-    paired true true c d = refl
-    paired true false true d = refl
-    paired true false false d = refl
-    paired false b c d = refl
-
 every-same : (f g : ℕ → Bool) (n : ℕ) → ((i : ℕ) → i < n → f i ≡ g i) → every f n ≡ every g n
 unfolding every
 every-same f g zero e = refl
 every-same f g (suc n) e = rw (every-same f g n (λ i h. e i (omega arith)), e n (omega arith))
 
--- a test made later
-later : (a b c : Bool) → (a && b && c) ≡ (a && c && b)
-later true b c = and-comm b c
-later false b c = refl
+-- tests that pass together are one test
+together : (a b : Bool) → (a ≡ true → b ≡ true) → (b ≡ true → a ≡ true) → a ≡ b
+together true b f g = sym (f refl)
+together false true f g = g refl
+together false false f g = refl
+
+itself : (b : Bool) → Means b (b ≡ true)
+itself b = Iff·rfl
 
 module _ (p : Plan) (r : Running) where
   abbrev pub outputAt : ℕ → Bool
@@ -65,22 +60,15 @@ module _ (p : Plan) (r : Running) where
   abbrev pub inputAt : ℕ → Bool
   inputAt j = within M (intAt (r .inputs) j)
 
-  -- the other clauses of integrator i
+  -- the clauses of integrator i
   abbrev pub figuresAt : ℕ → Bool
   figuresAt i =
-      figuresSound (upperLevel p (r .q) i) (lowerLevel p (r .q) i) (rateOf p (r .q) (r .inputs) i) (r .clocks .clock)
+      figuresSound (upperLevel p (r .q) i) (lowerLevel p (r .q) i) (slopeOf p (heldOf r) i) (r .clocks .clock)
       (intAt (r .x) i) (intAt (r .s) i) (natAt (r .l) i) (natAt (r .d) i)
 
-  integrator-both : (i : ℕ) → integratorSound p r i ≡ (outputAt i && figuresAt i)
+  integrators-are : every (integratorSound p r) (p .counts .n) ≡ every figuresAt (p .counts .n)
   unfolding integratorSound figuresSound dueOf
-  integrator-both i = go (outputAt i) refl
-    where
-      go : (b : Bool) → outputAt i ≡ b → integratorSound p r i ≡ (outputAt i && figuresAt i)
-      go true e = rw (e, and-true)
-      go false e = rw (e, and-false)
-
-  integrators-both : every (integratorSound p r) (p .counts .n) ≡ (every outputAt (p .counts .n) && every figuresAt (p .counts .n))
-  integrators-both = every-both (integratorSound p r) outputAt figuresAt integrator-both (p .counts .n)
+  integrators-are = every-same (integratorSound p r) figuresAt (p .counts .n) (λ i h. refl)
 
   -- ---- the order of the code
   abbrev pub clauses : List Bool
@@ -96,18 +84,43 @@ module _ (p : Plan) (r : Running) where
       ∷ []
 
   pub running-tests : passes clauses 8 ≡ runningSound p r
-  unfolding passes every runningSound runningUnusedZero runningUnusedZeroBy
+  unfolding passes every runningSound heldSound movedUnusedZero runningUnusedZeroBy
   running-tests =
-      let clock = leb (r .clocks .clock) (p .horizon) in let outputs = every outputAt (p .counts .n) in let inputs = every inputAt (p .counts .m) in
-      rw (integrators-both, ← and-assoc clock, later (clock && outputs) inputs (every figuresAt (p .counts .n)))
+      rw integrators-are
+      (in-order (leb (r .clocks .clock) (p .horizon)) (every outputAt (p .counts .n)) (every inputAt (p .counts .m)) (every figuresAt (p .counts .n))
+      (eqb (r .clocks .next) (nextCommand p (r .clocks .clock))) (leb (r .clocks .instants) (r .clocks .clock))
+      (leb (r .clocks .updates) (p .counts .n * r .clocks .instants))
+      (intsZeroFrom (p .counts .n) (r .x)) (intsZeroFrom (p .counts .n) (r .q)) (intsZeroFrom (p .counts .n) (r .s))
+      (natsZeroFrom (p .counts .n) (r .l)) (natsZeroFrom (p .counts .n) (r .d)) (intsZeroFrom (p .counts .m) (r .inputs)))
+    where
+      -- the code's order and the definition's
+      in-order : (clock outputs inputs figures next instants updates x q s l d u : Bool)
+          → (clock && outputs && inputs && figures && next && instants && updates && (x && q && s && l && d && u))
+          ≡ (clock && figures && (outputs && inputs && next && instants && q && u) && updates && (x && s && l && d))
+      in-order clock outputs inputs figures next instants updates x q s l d u =
+          let values = both (both (itself clock) (itself outputs)) (itself inputs) in
+          let counts = both (both (both (both values (itself figures)) (itself next)) (itself instants)) (itself updates) in
+          let first = both counts (both (both (both (both (both (itself x) (itself q)) (itself s)) (itself l)) (itself d)) (itself u)) in
+          let held = both (both (both (both (both (itself outputs) (itself inputs)) (itself next)) (itself instants)) (itself q)) (itself u) in
+          let moved = both (both (both (itself x) (itself s)) (itself l)) (itself d) in
+          let then = both (both (both (both (itself clock) (itself figures)) held) (itself updates)) moved in
+          together _ _
+          (λ e. let f = first .0 e in let c = f .0 in let w = f .1 in then .1 (
+            ((((c .0 .0 .0 .0 .0 .0, c .0 .0 .0 .1), (((((c .0 .0 .0 .0 .0 .1, c .0 .0 .0 .0 .1), c .0 .0 .1), c .0 .1), w .0 .0 .0 .0 .1), w .1)), c .1)),
+            (((w .0 .0 .0 .0 .0, w .0 .0 .0 .1), w .0 .0 .1), w .0 .1),
+          ))
+          (λ e. let f = then .0 e in let c = f .0 in let h = c .0 .1 in let w = f .1 in first .1 (
+            ((((((c .0 .0 .0, h .0 .0 .0 .0 .0), h .0 .0 .0 .0 .1), c .0 .0 .1), h .0 .0 .0 .1), h .0 .0 .1), c .1),
+            (((((w .0 .0 .0, h .0 .1), w .0 .0 .1), w .0 .1), w .1), h .1),
+          ))
 
   -- ---- what testing the integrators asks, once the clock, the outputs and the inputs have passed
   abbrev pub slopes : List ℤ
-  slopes = row (pos 0) 32 (p .counts .n) (rateOf p (r .q) (r .inputs))
+  slopes = row (pos 0) 32 (p .counts .n) (slopeOf p (heldOf r))
 
   module _ (rules : PlanRules p) where
-    slope-at : (i : ℕ) → i < p .counts .n → intAt slopes i ≡ rateOf p (r .q) (r .inputs) i
-    slope-at i h = row-at (pos 0) 32 (p .counts .n) (rateOf p (r .q) (r .inputs)) i (count-limits p (rules .counts) .n) h
+    slope-at : (i : ℕ) → i < p .counts .n → intAt slopes i ≡ slopeOf p (heldOf r) i
+    slope-at i h = row-at (pos 0) 32 (p .counts .n) (slopeOf p (heldOf r)) i (count-limits p (rules .counts) .n) h
 
     module _ (outputs : every outputAt (p .counts .n) ≡ true) (inputs : every inputAt (p .counts .m) ≡ true) where
       output-size : (i : ℕ) → i < p .counts .n → ∣ intAt (r .q) i ∣ ≤ M
@@ -134,7 +147,7 @@ module _ (p : Plan) (r : Running) where
                 record {
                   early = omega (arith, leb-true (r .clocks .clock) (p .horizon) clock, rules .horizon .1);
                   apart = levels-apart p (r .q) i rule;
-                  slow = rate-most p (r .q) (r .inputs) rules output-size input-size i;
+                  slow = omega (arith, slope-within p rules (heldOf r) output-size input-size i);
                 });
           }
 

@@ -45,8 +45,8 @@ start-dues-requires c κs =
     let r = c .before .before .before .before in let b = entry (valued (ranged r)) in let p = b .args .t1 in
     (count-limits p (b .pre .counts) .n, start-dues-ready p (b .pre) (slopes r))
 
-next-command-requires : tie.Need-next-command-requires
-next-command-requires c κs =
+next-entry-requires : tie.Need-next-entry-requires
+next-entry-requires c κs =
     let b = entry (valued (ranged (c .before .before .before .before .before .before .before))) in
     count-limits (b .args .t1) (b .pre .counts) .commands
 
@@ -55,7 +55,7 @@ unfolding nextCommand
 returns c =
     let d = c .before .before .before .before .before in let r = d .before .before .before .before .before in
     let b = entry (valued (ranged r)) in let p = b .args .t1 in
-    start-is p (slopes r) (start-dues p (b .pre) (slopes r) (d .start-dues .ensures)) (c .before .before .next-command .ensures)
+    start-is p (slopes r) (start-dues p (b .pre) (slopes r) (d .start-dues .ensures)) (c .before .before .next-entry .ensures)
 
 pub start-spec : {M : Type 1} → statement M
 start-spec =
@@ -65,5 +65,5 @@ start-spec =
     link-ranges-requires
     rates-requires
     start-dues-requires
-    next-command-requires
+    next-entry-requires
     returns)

@@ -17,12 +17,13 @@ use Rattle.plan.specs.Laws.Rows.{table-ext, row-at, row-ext, row-none}
 use Rattle.plan.specs.declared.Plan.{Plan}
 use Rattle.machine.specs.Due.{dueTick}
 use Rattle.machine.specs.Next.{nextCommand}
+use Rattle.machine.specs.Held.{runningBy, heldStart}
 use Rattle.machine.specs.Start.{startSlope, startDue, startOf}
 use Rattle.machine.specs.declared.Running.{Running}
 use Rattle.values.specs.Sources.{valuesOf, outputAndInputValues, nodeStep, NodesReady}
 use Rattle.values.specs.Laws.SourceValues.{nodes-ready, first-sized, values-at, values-sized, all-nodes}
 use Rattle.rates.specs.Links.{firstLink, rangesOf, rangeRate, RatesReady}
-use Rattle.rates.specs.Laws.OwnRange.{own-rated, own-rates}
+use Rattle.rates.specs.Laws.OwnRange.{own-rated, own-slopes}
 use Rattle.timing.specs.Ticks.{upperIn, lowerIn}
 use Rattle.timing.specs.Laws.Dues.{level-ready-start, due-ready-start, due-is-start}
 use Rattle.starts.specs.Starting.{StartsReady}
@@ -66,7 +67,7 @@ module _ (p : Plan) (rules : PlanRules p) where
         → s ≡ row (pos 0) 32 (p .counts .n) (λ i. rangeRate (p .links .sources) (p .links .coefficients) values (natAt ranges i) (natAt ranges (i + 1)))
         → s ≡ row (pos 0) 32 (p .counts .n) (startSlope p)
     unfolding startSlope
-    start-slopes e = rw (values-are, ranges-are) at e ∙ own-rates p rules _ (p .integrators .starts) (p .inputs .firsts) (values-at p (p .integrators .starts) (p .inputs .firsts) rules)
+    start-slopes e = rw (values-are, ranges-are) at e ∙ own-slopes p rules _ (heldStart p) (values-at p (p .integrators .starts) (p .inputs .firsts) rules)
 
   -- ---- the due ticks
   module _ {s : List ℤ} (slopes : s ≡ row (pos 0) 32 (p .counts .n) (startSlope p)) where
@@ -86,15 +87,8 @@ module _ (p : Plan) (rules : PlanRules p) where
 -- as it is made, with the slopes s and the due ticks d
 abbrev pub startWith : (p : Plan) (s : List ℤ) (d : List ℕ) (next : ℕ) → Running
 startWith p s d next =
-    record {
-      x = p .integrators .starts;
-      q = p .integrators .starts;
-      s = s;
-      l = replicate 32 0;
-      d = d;
-      inputs = p .inputs .firsts;
-      clocks = record { clock = 0; next = next; instants = 0; updates = 0 };
-    }
+    let starts = p .integrators .starts in
+    runningBy (record { q = starts; inputs = p .inputs .firsts; next = next; instants = 0 }) starts s (replicate 32 0) d 0 0
 
 pub start-is : (p : Plan) {s : List ℤ} {d : List ℕ} {next : ℕ} → s ≡ row (pos 0) 32 (p .counts .n) (startSlope p) → d ≡ row 0 32 (p .counts .n) (startDue p)
     → next ≡ nextCommand p 0 → startWith p s d next ≡ startOf p

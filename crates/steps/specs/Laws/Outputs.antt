@@ -1,5 +1,7 @@
--- Laws: the walk over the due integrators sets the outputs that document 01 asks for, at their source numbers. Assumes nothing.
+-- Laws: the walk over the due integrators sets the outputs that document 01 asks for, at their source numbers; over any set of integrators
+-- each takes its position. Assumes nothing.
 use mathlib.Core.Path.{_≡_, sym, _∙_}
+use mathlib.Core.Bool.{Bool, cond}
 use mathlib.Core.List.{List}
 use Prim.Native.Nat.{ℕ, _≤_, _<_}
 use native.Mathlib.Omega.{arith}
@@ -11,9 +13,10 @@ use Rattle.plan.specs.Lists.{intAt}
 use Rattle.plan.specs.Numbers.{sourceWidth}
 use Rattle.plan.specs.Laws.CountLimits.{CountLimits}
 use Rattle.plan.specs.declared.Plan.{Plan}
-use Rattle.machine.specs.Reach.{isDue}
-use Rattle.machine.specs.Instant.{positionAt, outputsThen}
+use Rattle.machine.specs.Reach.{isDue, woken, placed}
+use Rattle.machine.specs.Instant.{positionAt, outputsBy}
 use Rattle.machine.specs.Laws.InstantFigures.{outputs-at}
+use Rattle.machine.specs.Laws.Woken.{woken-is, placed-is}
 use Rattle.machine.specs.declared.Running.{Running}
 use Rattle.steps.specs.Outputs.{afterOutput}
 use Rattle.steps.specs.Laws.MaskLoops.{Stores, Visited, visited}
@@ -34,13 +37,11 @@ output-stored r t =
       others = λ j i values ne. getD-set-other values j i _ (pos 0) ne;
     }
 
--- ---- all of the due ones
-module _ (p : Plan) (limits : CountLimits p) (r : Running) (t due : ℕ) (due-set : due ≡ maskOf (isDue (r .d) t) (p .counts .n)) (before : List ℤ)
-    (full : Full before) (values : List ℤ) (walk : values ≡ each (afterOutput t (r .x) (r .s) (r .l)) (has due) 32 before) where
-  all-stored : Visited intAt (taken r t) Full (isDue (r .d) t) (p .counts .n) before values
-  all-stored =
-      rw (walk, due-set)
-      (visited (output-stored r t) (isDue (r .d) t) before full (p .counts .n) 32 (limits .n) (omega (arith, limits .n)))
+-- ---- all of those in a set, by its mask
+module _ (p : Plan) (limits : CountLimits p) (r : Running) (t : ℕ) (who : ℕ → Bool) (mask : ℕ) (all : mask ≡ maskOf who (p .counts .n)) (before : List ℤ)
+    (full : Full before) (values : List ℤ) (walk : values ≡ each (afterOutput t (r .x) (r .s) (r .l)) (has mask) 32 before) where
+  all-stored : Visited intAt (taken r t) Full who (p .counts .n) before values
+  all-stored = rw (walk, all) (visited (output-stored r t) who before full (p .counts .n) 32 (limits .n) (omega (arith, limits .n)))
 
   pub values-full : length values ≡ sourceWidth
   values-full = all-stored .full
@@ -49,7 +50,15 @@ module _ (p : Plan) (limits : CountLimits p) (r : Running) (t due : ℕ) (due-se
   pub values-kept : (i : ℕ) → p .counts .n ≤ i → intAt values i ≡ intAt before i
   values-kept = all-stored .past
 
-  -- where the values before held the outputs before, those now hold the new ones
-  pub outputs-are : ((i : ℕ) → i < p .counts .n → intAt before i ≡ intAt (r .q) i)
-      → (i : ℕ) → i < p .counts .n → intAt values i ≡ intAt (outputsThen p r t) i
-  outputs-are same i h = all-stored .at i h ∙ rw (same i h) (sym (outputs-at p limits r t i h))
+  pub values-set : (i : ℕ) → i < p .counts .n → intAt values i ≡ cond (who i) (positionAt r t i) (intAt before i)
+  values-set = all-stored .at
+
+-- ---- of the due ones: where the values before held the outputs before, those now hold the new ones
+pub outputs-are : (p : Plan) (limits : CountLimits p) (r : Running) (t due : ℕ) → due ≡ maskOf (isDue (r .d) t) (p .counts .n)
+    → (before : List ℤ) → length before ≡ sourceWidth → (values : List ℤ) → values ≡ each (afterOutput t (r .x) (r .s) (r .l)) (has due) 32 before
+    → ((i : ℕ) → i < p .counts .n → intAt before i ≡ intAt (r .q) i)
+    → (i : ℕ) → i < p .counts .n → intAt values i ≡ intAt (outputsBy p (woken (isDue (r .d) t)) (placed (positionAt r t)) (r .q)) i
+outputs-are p limits r t due due-set before full values walk same i h =
+    let there = outputs-at p limits (woken (isDue (r .d) t)) (placed (positionAt r t)) (r .q) i h in
+    values-set p limits r t (isDue (r .d) t) due due-set before full values walk i h
+    ∙ rw (same i h) (sym (there ∙ rw (woken-is (isDue (r .d) t) i, placed-is (positionAt r t) i)))

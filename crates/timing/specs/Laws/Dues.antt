@@ -1,5 +1,5 @@
--- Laws: what the levels and `due_tick` ask holds wherever a due tick is worked out: at a start, of a sound state, and of each integrator at
--- an instant; and its answer there is document 01's due tick. Assumes nothing.
+-- Laws: what the levels and `due_tick` ask holds wherever a due tick is worked out: at a start and after any instant; and its answer
+-- there is document 01's due tick. Assumes nothing.
 use mathlib.Core.Path.{_≡_, refl}
 use mathlib.Core.List.{List}
 use Prim.Native.Nat.{ℕ, _*_, _≤_, _<_}
@@ -9,20 +9,18 @@ use lib.Signed.{_≤ℤ_}
 use Rattle.integers.specs.Parts.{∣_∣}
 use Rattle.integers.specs.Laws.Parts.{sum, dif, tight, zs}
 use Rattle.plan.specs.Numbers.{M}
-use Rattle.plan.specs.Lists.{natAt, intAt}
+use Rattle.plan.specs.Lists.{intAt}
 use Rattle.plan.specs.Rules.{IntegratorRule, PlanRules}
-use Rattle.plan.specs.Laws.CountLimits.{CountLimits}
 use Rattle.plan.specs.Laws.TestMeanings.{within-size}
 use Rattle.plan.specs.declared.Plan.{Plan}
-use Rattle.machine.specs.Values.{rateOf}
-use Rattle.machine.specs.Due.{upperLevel, lowerLevel, dueTick, dueOf}
+use Rattle.machine.specs.Values.{slopeMost}
+use Rattle.machine.specs.Due.{upperLevel, lowerLevel, BetweenLevels, dueTick, dueOf}
 use Rattle.machine.specs.Start.{startSlope, startDue}
-use Rattle.machine.specs.Instant.{positionAt, inputsThen, outputsThen, slopeThen, dueThen}
-use Rattle.machine.specs.Sound.{SoundRunning}
-use Rattle.machine.specs.Laws.BetweenLevels.{BetweenLevels, near-between, near-itself}
-use Rattle.machine.specs.Laws.Sizes.{rate-most}
-use Rattle.machine.specs.Laws.InstantFigures.{x-then}
-use Rattle.machine.specs.Laws.Soundness.{Takes, output-size, input-then-size, near-output}
+use Rattle.machine.specs.Instant.{Outcome, dueThen}
+use Rattle.machine.specs.Laws.SoundClauses.{SoundRunning}
+use Rattle.machine.specs.Laws.BetweenLevels.{between-itself}
+use Rattle.machine.specs.Laws.Held.{start-slope-most, slope-most}
+use Rattle.machine.specs.Laws.Soundness.{Lawful}
 use Rattle.machine.specs.declared.Running.{Running}
 use Rattle.timing.specs.Ticks.{upperIn, lowerIn, LevelReady, DueReady}
 
@@ -38,18 +36,18 @@ module _ (p : Plan) (q : List ℤ) (i : ℕ) (rule : IntegratorRule p i) where
       let b = intAt (p .integrators .quanta) i in
       record { output = output; step = omega (arith, zs, rule .least, rule .most, tight b) }
 
--- with outputs q and input values u within ±M, from a tick up to the horizon, for x strictly between the levels
-pub due-ready : (p : Plan) → PlanRules p → (q u : List ℤ) → ((i : ℕ) → i < p .counts .n → ∣ intAt q i ∣ ≤ M) → ((j : ℕ) → j < p .counts .m → ∣ intAt u j ∣ ≤ M)
-    → (from : ℕ) → from ≤ p .horizon → (i : ℕ) → i < p .counts .n → (x : ℤ) → BetweenLevels p q i x
-    → DueReady from x (upperIn q (p .integrators .quanta) i) (lowerIn q (p .integrators .quanta) i) (rateOf p q u i)
+-- with outputs q, from a tick up to the horizon, for x strictly between the levels, and a slope that is not too large
+due-ready : (p : Plan) → PlanRules p → (q : List ℤ) (from : ℕ) → from ≤ p .horizon → (i : ℕ) → i < p .counts .n
+    → (x : ℤ) → BetweenLevels p q i x → (s : ℤ) → ∣ s ∣ ≤ slopeMost
+    → DueReady from x (upperIn q (p .integrators .quanta) i) (lowerIn q (p .integrators .quanta) i) s
 unfolding upperLevel lowerLevel
-due-ready p rules q u outputsThen inputs from early i used x inside =
+due-ready p rules q from early i used x inside s slow =
     record {
       early = omega (arith, rules .horizon .1);
       above = inside .above;
       below = inside .below;
       apart = levels-apart p q i (rules .integrators i used);
-      slow = rate-most p q u rules outputsThen inputs i;
+      slow = omega (arith, slow);
     }
 
 -- ---- at the start
@@ -67,40 +65,24 @@ module _ (p : Plan) (i : ℕ) where
   pub due-ready-start : PlanRules p → i < p .counts .n → DueReady 0 (intAt starts i) (upperIn starts quanta i) (lowerIn starts quanta i) (startSlope p i)
   unfolding startSlope
   due-ready-start rules used =
-      due-ready p rules starts (p .inputs .firsts) (λ k h. within-size M _ .0 (rules .integrators k h .start))
-      (λ j h. within-size M _ .0 (rules .inputs j h)) 0 (omega arith) i used (intAt starts i)
-      (near-between p starts i (intAt starts i) .0 (near-itself (intAt starts i) (intAt quanta i) (rules .integrators i used .least)))
+      due-ready p rules starts 0 (omega arith) i used (intAt starts i) (between-itself p starts i (rules .integrators i used) (intAt starts i) refl)
+      (startSlope p i) (start-slope-most p rules i)
 
   pub due-is-start : dueTick 0 (intAt starts i) (upperIn starts quanta i) (lowerIn starts quanta i) (startSlope p i) ≡ startDue p i
   unfolding startDue dueOf upperLevel lowerLevel
   due-is-start = refl
 
--- ---- of a sound state
-module _ (p : Plan) (r : Running) (ok : SoundRunning p r) where
-  pub due-ready-sound : (i : ℕ) → i < p .counts .n
-      → DueReady (natAt (r .l) i) (intAt (r .x) i) (upperIn (r .q) (p .integrators .quanta) i) (lowerIn (r .q) (p .integrators .quanta) i) (intAt (r .s) i)
-  due-ready-sound i used =
-      let own = ok .integrators i used in
-      rw (own .rate)
-      (due-ready p (ok .plan) (r .q) (r .inputs) (λ k h. ok .integrators k h .output) (λ j h. within-size M _ .0 (ok .inputs j h))
-      (natAt (r .l) i) (omega (arith, own .moved, ok .clock)) i used (intAt (r .x) i) (near-between p (r .q) i (intAt (r .x) i) .0 (own .near)))
+-- ---- after an instant of a sound state, whatever its outcome
+module _ (p : Plan) (r : Running) (ok : SoundRunning p r) (t : ℕ) (o : Outcome) (lawful : Lawful p r t o) (i : ℕ) (used : i < p .counts .n) where
+  pub level-ready-then : LevelReady (intAt (o .held .q) i) (intAt (p .integrators .quanta) i)
+  level-ready-then = level-ready p (o .held .q) i (ok .plan .integrators i used) (lawful .held .outputs i used)
 
-  -- ---- at an instant, whether it is due or not
-  module _ (t : ℕ) (takes : Takes p r t) (i : ℕ) (used : i < p .counts .n) where
-    abbrev outputs : List ℤ
-    outputs = outputsThen p r t
+  pub due-ready-then : DueReady t (o .x i) (upperIn (o .held .q) (p .integrators .quanta) i) (lowerIn (o .held .q) (p .integrators .quanta) i) (o .s i)
+  due-ready-then =
+      due-ready p (ok .plan) (o .held .q) t (lawful .until) i used (o .x i) (lawful .between i used) (o .s i)
+      (rw (lawful .slope i used) (slope-most p (ok .plan) t (o .held) (lawful .held) i))
 
-    pub level-ready-then : LevelReady (intAt outputs i) (intAt (p .integrators .quanta) i)
-    level-ready-then = level-ready p outputs i (ok .plan .integrators i used) (output-size p r ok t takes i used)
-
-    pub due-ready-then : DueReady t (positionAt r t i) (upperIn outputs (p .integrators .quanta) i) (lowerIn outputs (p .integrators .quanta) i) (slopeThen p r t i)
-    unfolding slopeThen
-    due-ready-then =
-        due-ready p (ok .plan) outputs (inputsThen p (r .inputs) t) (output-size p r ok t takes) (input-then-size p r ok t takes)
-        t (takes .until) i used (positionAt r t i) (near-between p outputs i (positionAt r t i) .0 (near-output p r ok t takes i used))
-
-pub due-is-then : (p : Plan) → CountLimits p → (r : Running) (t i : ℕ) → i < p .counts .n
-    → dueTick t (positionAt r t i) (upperIn (outputsThen p r t) (p .integrators .quanta) i) (lowerIn (outputsThen p r t) (p .integrators .quanta) i) (slopeThen p r t i)
-    ≡ dueThen p r t i
+pub due-is-then : (p : Plan) (t : ℕ) (o : Outcome) (i : ℕ)
+    → dueTick t (o .x i) (upperIn (o .held .q) (p .integrators .quanta) i) (lowerIn (o .held .q) (p .integrators .quanta) i) (o .s i) ≡ dueThen p t o i
 unfolding dueThen dueOf upperLevel lowerLevel
-due-is-then p limits r t i used = rw (x-then p limits r t i used)
+due-is-then p t o i = refl

@@ -1,5 +1,5 @@
--- Laws: at an instant only the nodes that depend on a change are worked out anew. The others keep the values that they had before, and so
--- every source has its new value. Assumes nothing.
+-- Laws: where some sources change, only the nodes that depend on one of them are worked out anew. The others keep the values that they had
+-- before, and so every source has its new value. Assumes nothing.
 use mathlib.Core.Path.{_≡_, refl, sym, _∙_}
 use mathlib.Core.Bool.{Bool, false}
 use mathlib.Core.List.{List}
@@ -13,17 +13,16 @@ use Rattle.plan.specs.Lists.{intAt}
 use Rattle.plan.specs.Rules.{PlanRules}
 use Rattle.plan.specs.Laws.CountLimits.{count-limits}
 use Rattle.plan.specs.declared.Plan.{Plan}
-use Rattle.machine.specs.Reach.{isDue, isCommanded, dependsWith}
+use Rattle.machine.specs.Reach.{dependsWith}
 use Rattle.machine.specs.Values.{valueWith, valueOf}
 use Rattle.machine.specs.Laws.Unreached.{value-kept}
 use Rattle.values.specs.Sources.{valuesOf, nodeStep}
 use Rattle.values.specs.Laws.SourceValues.{values-at, values-unused, touched-worked}
 
--- With the due ticks d, at tick t; q₀ and u₀ are the outputs and input values before, q and u after. `values` holds the new values of
+-- With a set of sources that change; q₀ and u₀ are the outputs and input values before, q and u after. `values` holds the new values of
 -- integrators and inputs, and above them what it held before.
-module _ (p : Plan) (rules : PlanRules p) (d : List ℕ) (t : ℕ) (q u q₀ u₀ : List ℤ)
-    (same-q : (i : ℕ) → i < p .counts .n → isDue d t i ≡ false → intAt q i ≡ intAt q₀ i)
-    (same-u : (j : ℕ) → j < p .counts .m → isCommanded p t j ≡ false → intAt u j ≡ intAt u₀ j)
+module _ (p : Plan) (rules : PlanRules p) (changed : ℕ → Bool) (q u q₀ u₀ : List ℤ)
+    (same : (i : ℕ) → changed i ≡ false → valueWith p q u zero i ≡ valueWith p q₀ u₀ zero i)
     (values : List ℤ) (full : length values ≡ 64)
     (sources : (i : ℕ) → i < p .counts .n + p .counts .m → intAt values i ≡ valueWith p q u zero i)
     (others : (i : ℕ) → p .counts .n + p .counts .m ≤ i → intAt values i ≡ intAt (valuesOf p q₀ u₀) i) where
@@ -34,13 +33,13 @@ module _ (p : Plan) (rules : PlanRules p) (d : List ℕ) (t : ℕ) (q u q₀ u�
   step = nodeStep (p .nodes .kinds) (p .nodes .a) (p .nodes .b) (p .nodes .lows) (p .nodes .highs) base
 
   abbrev depends : ℕ → Bool
-  depends j = dependsWith p d t (p .counts .k) (base + j)
+  depends j = dependsWith p changed (p .counts .k) (base + j)
 
   node-kept : (j : ℕ) → j < p .counts .k → depends j ≡ false → intAt values (base + j) ≡ valueOf p q u (base + j)
   unfolding valueOf
   node-kept j h e =
       others (base + j) (omega arith) ∙ values-at p q₀ u₀ rules (base + j) (omega arith)
-      ∙ sym (value-kept p d t q u q₀ u₀ same-q same-u (p .counts .k) (base + j) e)
+      ∙ sym (value-kept p changed q u q₀ u₀ same (p .counts .k) (base + j) e)
 
   pub touched-nodes : (touched : ℕ → Bool) → ((j : ℕ) → j < p .counts .k → touched j ≡ depends j) → each step touched (p .counts .k) values ≡ valuesOf p q u
   touched-nodes touched test =

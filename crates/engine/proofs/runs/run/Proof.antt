@@ -10,7 +10,9 @@ use borrow.Author.Tests.{not-true, not-false}
 use Rattle.plan.specs.Laws.CountLimits.{CountLimits, count-limits}
 use Rattle.plan.specs.declared.Plan.{Plan}
 use Rattle.machine.specs.Status.{isPaused}
-use Rattle.machine.specs.Sound.{SoundRunning, RunningWidths}
+use Rattle.machine.specs.Sound.{RunningWidths}
+use Rattle.machine.specs.Laws.SoundClauses.{SoundRunning}
+use Rattle.machine.specs.Laws.SoundTest.{words-clauses}
 use Rattle.machine.specs.declared.Running.{Running}
 use Rattle.rates.specs.Links.{rangesOf}
 use Rattle.reach.specs.Table.{reachTable}
@@ -35,8 +37,8 @@ module _ (c : tie.Start Inv-loop μ-loop) where
   abbrev r : Running
   r = c .args .t2 .run
 
-  abbrev sound : SoundRunning p r
-  sound = c .pre .sound
+  sound : SoundRunning p r
+  sound = words-clauses p r (c .pre .sound)
 
   limits : CountLimits p
   limits = count-limits p (sound .plan .counts)

@@ -27,10 +27,10 @@ module _ (s : tie.Start) where
 abbrev start : tie.After-set-outputs → tie.Start
 start c = c .before .before .before .before .before .before .before
 
-abbrev outputs : tie.After-obey-commands → tie.After-set-outputs
+abbrev outputs : tie.After-obey-entries → tie.After-set-outputs
 outputs c = c .before .before
 
-abbrev commands : tie.After-union-shifted → tie.After-obey-commands
+abbrev commands : tie.After-union-shifted → tie.After-obey-entries
 commands c = c .before
 
 abbrev changes : tie.After-reached-by → tie.After-union-shifted
@@ -55,8 +55,8 @@ add-base c = let s = c .before .before in let limits = law.limits (p s) (r s) (s
 set-outputs-requires : tie.Need-set-outputs-requires
 set-outputs-requires c κs = let s = c .before .before .before .before .before .before in law.outputs-ready (p s) (r s) (s .pre .ready)
 
-obey-commands-requires : tie.Need-obey-commands-requires
-obey-commands-requires c κs = let s = start (c .before) in law.commands-ready (p s) (r s) (s .pre .ready)
+obey-entries-requires : tie.Need-obey-entries-requires
+obey-entries-requires c κs = let s = start (c .before) in law.commands-ready (p s) (r s) (s .pre .ready)
 
 union-shifted-requires : tie.Need-union-shifted-requires
 union-shifted-requires c κs = let s = start (outputs c) in (law.limits (p s) (r s) (s .pre .ready) .n, law.due-below (p s) (r s) (s .pre .ready))
@@ -72,7 +72,7 @@ work-out-nodes-requires c κs =
     let set = outputs obeyed in
     let s = start set in
     let output = set .set-outputs .ensures in
-    let command = obeyed .obey-commands .ensures in
+    let command = obeyed .obey-entries .ensures in
     let told = reached .reached-by .ensures in (
       law.nodes-below (p s) (r s) (s .pre .ready) output command (union-shifted .union-shifted .ensures) (told .0) (told .1),
       law.nodes-ready-then (p s) (r s) (s .pre .ready) output command,
@@ -87,7 +87,7 @@ write-events-requires c κs =
     let set = outputs obeyed in
     let s = start set in
     let told = reached .reached-by .ensures in
-    law.events-ready-then (p s) (r s) (s .pre .ready) (set .set-outputs .ensures) (obeyed .obey-commands .ensures) (union-shifted .union-shifted .ensures)
+    law.events-ready-then (p s) (r s) (s .pre .ready) (set .set-outputs .ensures) (obeyed .obey-entries .ensures) (union-shifted .union-shifted .ensures)
     (told .0) (told .1) (worked .work-out-nodes .ensures)
 
 moved-set-requires : tie.Need-moved-set-requires
@@ -104,7 +104,7 @@ move-all-requires c κs =
     let set = outputs obeyed in
     let s = start set in
     let told = reached .reached-by .ensures in
-    law.moves-ready (p s) (r s) (s .pre .ready) (set .set-outputs .ensures) (obeyed .obey-commands .ensures) (union-shifted .union-shifted .ensures)
+    law.moves-ready (p s) (r s) (s .pre .ready) (set .set-outputs .ensures) (obeyed .obey-entries .ensures) (union-shifted .union-shifted .ensures)
     (told .0) (told .1) (worked .work-out-nodes .ensures) (s .args .engine) (moved .moved-set .ensures)
 
 add-instants : tie.Need-add-instants
@@ -136,7 +136,7 @@ returns c =
     let set = outputs obeyed in
     let s = start set in
     let output = set .set-outputs .ensures in
-    let command = obeyed .obey-commands .ensures in
+    let command = obeyed .obey-entries .ensures in
     let changed = union-shifted .union-shifted .ensures in
     let told = reached .reached-by .ensures in
     let work = worked .work-out-nodes .ensures in
@@ -160,7 +160,7 @@ take-instant-spec =
     (tie.spec
     add-base
     set-outputs-requires
-    obey-commands-requires
+    obey-entries-requires
     union-shifted-requires
     reached-by-requires
     work-out-nodes-requires

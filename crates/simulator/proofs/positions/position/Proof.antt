@@ -8,7 +8,7 @@ use borrow.Author.Tests.{not-true, not-false}
 use mir.Facts.{toZ-ofZ}
 use Rattle.plan.specs.Laws.CountLimits.{count-limits}
 use Rattle.machine.specs.SoundTest.{isSound}
-use Rattle.machine.specs.Laws.SoundTest.{sound-means}
+use Rattle.machine.specs.Laws.SoundTest.{test-clauses}
 use Rattle.simulator.specs.Laws.Answers.{position-unsound, position-above, position-ready, position-known}
 use Rattle.simulator.proofs.positions.position.Statement.{statement}
 use Rattle.simulator.proofs.positions.position.Tie as tie
@@ -36,7 +36,7 @@ module _ (c : tie.After-r) where
 
   in-range : entry .args .integrator < 32
   in-range =
-      omega (arith, c .before .if2 .left, count-limits (entry .args .state .plan) (sound-means (entry .args .state) .0 yes .plan .counts) .n)
+      omega (arith, c .before .if2 .left, count-limits (entry .args .state .plan) (test-clauses (entry .args .state) .0 yes .plan .counts) .n)
 
 mul-position : tie.Need-mul-position
 mul-position c = omega (arith, in-range c)

@@ -9,7 +9,7 @@ use borrow.Author.Tests.{not-true, not-false}
 use Rattle.plan.specs.Laws.CountLimits.{CountLimits, count-limits}
 use Rattle.machine.specs.Runs.{eventsMost, roomOf}
 use Rattle.machine.specs.SoundTest.{isSound}
-use Rattle.machine.specs.Laws.SoundTest.{sound-means}
+use Rattle.machine.specs.Laws.SoundTest.{test-clauses}
 use Rattle.machine.specs.declared.State.{State}
 use Rattle.calls.specs.Proofs.StateLimits.{room-most}
 use Rattle.simulator.specs.Laws.Answers.{run-unsound, run-above, run-short, run-ready, run-accepted}
@@ -37,7 +37,7 @@ module _ (c : tie.Else1) where
   sound = sym (c .before .is-sound .ensures) ∙ not-false _ (c .if1 .left)
 
   limits : CountLimits (state .plan)
-  limits = count-limits (state .plan) (sound-means state .0 sound .plan .counts)
+  limits = count-limits (state .plan) (test-clauses state .0 sound .plan .counts)
 
 declined-requires-2 : tie.Need-declined-requires-2
 declined-requires-2 c κs = search needs

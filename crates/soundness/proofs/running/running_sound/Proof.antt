@@ -10,12 +10,13 @@ use Rattle.plan.specs.Lists.{every}
 use Rattle.plan.specs.Laws.CountLimits.{count-limits}
 use Rattle.plan.specs.declared.Plan.{Plan}
 use Rattle.machine.specs.Next.{nextCommand}
+use Rattle.machine.specs.Held.{heldOf}
 use Rattle.machine.specs.SoundTest.{runningSound}
 use Rattle.machine.specs.declared.Running.{Running}
 use Rattle.values.specs.Sources.{valuesOf}
 use Rattle.values.specs.Laws.SourceValues.{values-at, all-nodes}
 use Rattle.rates.specs.Links.{rangesOf}
-use Rattle.rates.specs.Laws.OwnRange.{own-rates}
+use Rattle.rates.specs.Laws.OwnRange.{own-slopes}
 use Rattle.entryrules.specs.Laws.Testing.{held, failed}
 use Rattle.unusedentries.specs.Laws.EarlyReturns.{passes, Passed, begin, next, passed-at, fails, last}
 use Rattle.soundness.specs.Laws.RunningTests.{clauses, running-tests, figuresAt, slopes, sources-ready, rates-ready, figures-ready, figures-same}
@@ -105,7 +106,7 @@ slopes-are : (c : tie.After-rates) → let s = passed-rates c .entry in c .rates
 slopes-are c =
     let l = c .before .before .before .before .before .before in let s = passed-ranges l .entry in let q = run s .q in let u = run s .inputs in
     (rw (ranges-are l, values-are (l .before .before .before)) at (c .rates .ensures))
-    ∙ own-rates (plan s) (s .pre) (valuesOf (plan s) q u) q u (values-at (plan s) q u (s .pre))
+    ∙ own-slopes (plan s) (s .pre) (valuesOf (plan s) q u) (heldOf (run s)) (values-at (plan s) q u (s .pre))
 
 -- ---- the integrators
 integrators-sound-requires : tie.Need-integrators-sound-requires
@@ -127,13 +128,13 @@ abbrev passed4 : tie.Else4 → Passed tests 4
 passed4 c = next (passed-integrators (c .before)) (held (answer (c .before)) (c .if4 .left))
 
 -- ---- the rest
-next-command-requires : tie.Need-next-command-requires
-next-command-requires c κs = let s = passed4 (c .before .before) .entry in count-limits (plan s) (s .pre .counts) .commands
+next-entry-requires : tie.Need-next-entry-requires
+next-entry-requires c κs = let s = passed4 (c .before .before) .entry in count-limits (plan s) (s .pre .counts) .commands
 
-next-is : (c : tie.After-next-command) → let s = passed4 (c .before .before .before) .entry in
-    c .next-command .result ≡ nextCommand (plan s) (run s .clocks .clock)
+next-is : (c : tie.After-next-entry) → let s = passed4 (c .before .before .before) .entry in
+    c .next-entry .result ≡ nextCommand (plan s) (run s .clocks .clock)
 unfolding nextCommand
-next-is c = c .next-command .ensures
+next-is c = c .next-entry .ensures
 
 returns-5 : tie.Need-returns-5
 returns-5 c = fails (passed4 (c .before .before .before .before)) all-of (lit< tt) (ne-eqb _ _ (λ e. c .if5 .taken (e ∙ sym (next-is (c .before)))))
@@ -180,7 +181,7 @@ running-sound-spec =
     rates-requires
     integrators-sound-requires
     returns-4
-    next-command-requires
+    next-entry-requires
     returns-5
     cast-if6
     returns-6

@@ -1,34 +1,28 @@
--- `timing::next_command` meets its contract: at each turn no command passed has a tick above the clock. Assumes nothing.
+-- `timing::next_entry` meets its contract: at each turn no entry passed has a tick above the clock. Assumes nothing.
 use borrow.Author.Count.{below-more}
 use borrow.Author.Needs.{needs}
-use borrow.Author.Tests.{le-ltb, lt-ltb, leb-true, leb-false}
-use mathlib.Core.Path.{_≡_}
+use borrow.Author.Tests.{leb-true, leb-false}
+use mathlib.Core.Path.{_≡_, refl}
+use mathlib.Core.Bool.{true}
 use Prim.Native.Nat.{ℕ, _-_, _≤_, _<_}
 use native.Mathlib.Omega.{arith}
 use denote.Ref.{now}
-use lib.Dec.{ltb}
-use Rattle.plan.specs.Lists.{natAt, firstFrom}
-use Rattle.plan.specs.Laws.Searches.{first-unique}
-use Rattle.timing.proofs.ticks.next_command.Statement.{statement}
-use Rattle.timing.proofs.ticks.next_command.Tie as tie
+use Rattle.plan.specs.Lists.{natAt}
+use Rattle.machine.specs.Entries.{nextEntry}
+use Rattle.machine.specs.Laws.Entries.{next-is}
+use Rattle.timing.proofs.entries.next_entry.Statement.{statement}
+use Rattle.timing.proofs.entries.next_entry.Tie as tie
 
 abbrev Inv-loop : tie.InvT-loop
-Inv-loop commands ticks clock e₀ e = (e ≤ commands) × ((i : ℕ) → i < e → natAt ticks i ≤ clock)
+Inv-loop count ticks clock e₀ e = (e ≤ count) × ((i : ℕ) → i < e → natAt ticks i ≤ clock)
 
 abbrev μ-loop : tie.MeasureT-loop
-μ-loop commands ticks clock e₀ e = commands - e
+μ-loop count ticks clock e₀ e = count - e
 
--- the command at which the loop ends is above the clock, or none is left
+-- the entry at which the loop ends is above the clock, or none is left
 ended : (c : tie.At-loop Inv-loop μ-loop) → let a = c .before .args in let e = c .loop .e in
-    (e < a .commands → a .clock < natAt (now (a .ticks)) e) → e ≡ firstFrom (λ i. ltb (a .clock) (natAt (now (a .ticks)) i)) 0 (a .commands)
-ended c above =
-    first-unique _ 0 _ _
-    (record {
-      from = omega arith;
-      most = omega arith;
-      earlier = λ i h l. le-ltb _ _ (c .loop .inv .1 i l);
-      passes = λ h. lt-ltb _ _ (above (omega arith));
-    })
+    (e < a .count → a .clock < natAt (now (a .ticks)) e) → e ≡ nextEntry (now (a .ticks)) (λ e. true) (a .count) (a .clock)
+ended c above = next-is _ _ _ _ _ (c .loop .inv .0) (λ i h n. omega (arith, c .loop .inv .1 i h, n .0)) (λ h. (above h, refl))
 
 loop-holds : tie.Need-loop-holds Inv-loop μ-loop
 loop-holds c = (omega arith, λ i h. absurd (omega arith))
@@ -54,8 +48,8 @@ returns c = ended (c .before .before .before) (λ h. leb-false _ _ (c .if1 .left
 returns-2 : tie.Need-returns-2 Inv-loop μ-loop
 returns-2 c = ended (c .before) (λ h. absurd (omega arith))
 
-pub next-command-spec : {M : Type 1} → statement M
-next-command-spec =
+pub next-entry-spec : {M : Type 1} → statement M
+next-entry-spec =
     tie.close
     (tie.spec
     Inv-loop

@@ -1,4 +1,4 @@
--- `steps::commands::obey_commands` meets its contract: obeying from command e on ends where obeying from the next command on ends.
+-- `steps::entries::obey_entries` meets its contract: obeying from entry e on ends where obeying from the next entry on ends.
 -- Assumes nothing.
 use mathlib.Core.Path.{_≡_, refl, sym, _∙_}
 use Prim.Native.Nat.{_-_, _≤_, _<_}
@@ -7,18 +7,18 @@ use mir.Syntax.{w64}
 use mir.Val.{SFits}
 use mir.Facts.{toZ-ofZ}
 use Rattle.plan.specs.Lists.{natAt, intAt}
-use Rattle.steps.specs.Commands.{afterCommands, afterCommand, afterCommandsFrom}
-use Rattle.steps.specs.Laws.CommandTurns.{one-more, other-tick, none-left}
-use Rattle.steps.proofs.commands.obey_commands.Statement.{statement}
-use Rattle.steps.proofs.commands.obey_commands.Tie as tie
+use Rattle.steps.specs.Entries.{afterEntries, afterEntry, afterEntriesFrom}
+use Rattle.steps.specs.Laws.EntryTurns.{one-more, other-tick, none-left}
+use Rattle.steps.proofs.entries.obey_entries.Statement.{statement}
+use Rattle.steps.proofs.entries.obey_entries.Tie as tie
 
 abbrev Inv-loop : tie.InvT-loop
-Inv-loop n commands ticks inputs settings t values₀ next commanded₀ e₀ values commanded e =
-    (e ≤ commands) × (afterCommandsFrom n ticks inputs settings t e (commands - e) (afterCommands values commanded e)
-    ≡ afterCommandsFrom n ticks inputs settings t next (commands - next) (afterCommands values₀ 0 next))
+Inv-loop first count ticks numbers settings t values₀ next set₀ e₀ values set e =
+    (e ≤ count) × (afterEntriesFrom first ticks numbers settings t e (count - e) (afterEntries values set e)
+    ≡ afterEntriesFrom first ticks numbers settings t next (count - next) (afterEntries values₀ 0 next))
 
 abbrev μ-loop : tie.MeasureT-loop
-μ-loop n commands ticks inputs settings t values₀ next commanded₀ e₀ values commanded e = commands - e
+μ-loop first count ticks numbers settings t values₀ next set₀ e₀ values set e = count - e
 
 loop-holds : tie.Need-loop-holds Inv-loop μ-loop
 loop-holds c = (omega arith, refl)
@@ -41,8 +41,8 @@ mul-value c = omega arith
 element-copy-out-value : tie.Need-element-copy-out-value Inv-loop μ-loop
 element-copy-out-value c = omega arith
 
--- the command's input is one of the eight
-known : (c : tie.In-loop Inv-loop μ-loop) → natAt (c .before .before .args .inputs .now) (c .before .loop .e) < 8
+-- the entry's number is one of the 32
+known : (c : tie.In-loop Inv-loop μ-loop) → natAt (c .before .before .args .numbers .now) (c .before .loop .e) < 32
 known c = c .before .before .pre .known (c .before .loop .e) (c .loop-test .taken)
 
 add-value : tie.Need-add-value Inv-loop μ-loop
@@ -64,15 +64,15 @@ loop-less : tie.Need-loop-less Inv-loop μ-loop
 loop-less c = omega arith
 
 loop-again : tie.Need-loop-again Inv-loop μ-loop
-unfolding afterCommand
+unfolding afterEntry
 loop-again c =
     let then = c .before .before .before in
     let inside = then .before .before in
     let l = inside .before .loop in
     let a = inside .before .before .args in
     let fits : SFits w64 (intAt (a .settings .now) (l .e)) = record { sfits = c .before .value .given } in
-    let o = afterCommands (l .values) (l .commanded) (l .e) in
-    let turn = one-more (a .n) (a .ticks .now) (a .inputs .now) (a .settings .now) (a .t) (l .e) (a .commands) o
+    let o = afterEntries (l .values) (l .set) (l .e) in
+    let turn = one-more (a .first) (a .ticks .now) (a .numbers .now) (a .settings .now) (a .t) (l .e) (a .count) o
     (inside .loop-test .taken) (then .if1 .taken) in
     (omega arith, rw (toZ-ofZ fits, c .with-bit .ensures) (turn ∙ l .inv .1))
 
@@ -80,16 +80,16 @@ returns : tie.Need-returns Inv-loop μ-loop
 returns c =
     let l = c .before .before .before .loop in
     let a = c .before .before .before .before .args in
-    sym (other-tick (a .n) (a .ticks .now) (a .inputs .now) (a .settings .now) (a .t) (l .e) (a .commands) _ (c .if1 .left)) ∙ l .inv .1
+    sym (other-tick (a .first) (a .ticks .now) (a .numbers .now) (a .settings .now) (a .t) (l .e) (a .count) _ (c .if1 .left)) ∙ l .inv .1
 
 returns-2 : tie.Need-returns-2 Inv-loop μ-loop
 returns-2 c =
     let l = c .before .loop in
     let a = c .before .before .args in
-    sym (none-left (a .n) (a .ticks .now) (a .inputs .now) (a .settings .now) (a .t) (l .e) (a .commands) _ (c .loop-test .left)) ∙ l .inv .1
+    sym (none-left (a .first) (a .ticks .now) (a .numbers .now) (a .settings .now) (a .t) (l .e) (a .count) _ (c .loop-test .left)) ∙ l .inv .1
 
-pub obey-commands-spec : {M : Type 1} → statement M
-obey-commands-spec =
+pub obey-entries-spec : {M : Type 1} → statement M
+obey-entries-spec =
     tie.close
     (tie.spec
     Inv-loop
