@@ -19,11 +19,6 @@ upperLevel p q i = intAt q i +ℤ intAt (p .integrators .quanta) i
 unfoldable pub lowerLevel : Plan → List ℤ → ℕ → ℤ
 lowerLevel p q i = intAt q i -ℤ intAt (p .integrators .quanta) i
 
--- x lies strictly between integrator i's levels
-pub record BetweenLevels (p : Plan) (q : List ℤ) (i : ℕ) (x : ℤ) : Type 0 where
-  pub above : lowerLevel p q i <ℤ x
-  pub below : x <ℤ upperLevel p q i
-
 -- from x to the level ahead: the upper one for a slope above 0, else the lower. It is below 0 where x is past that level
 unfoldable pub distance : (x upper lower s : ℤ) → ℤ
 distance x upper lower s = cond (ltZ (pos 0) s) (upper -ℤ x) (x -ℤ lower)

@@ -19,8 +19,8 @@ valueThen ticks numbers values t j before (suc e) =
     cond (sets ticks numbers t j e) (intAt values e) (valueThen ticks numbers values t j before e)
 
 -- the first of `count` entries that counts and has a tick above the clock, or `count` if there is none
-unfoldable pub nextEntry : (ticks : List ℕ) (counts : ℕ → Bool) (count clock : ℕ) → ℕ
-nextEntry ticks counts count clock = firstFrom (λ e. ltb clock (natAt ticks e) && counts e) 0 count
+unfoldable pub nextEntry : (ticks : List ℕ) (counting : ℕ → Bool) (count clock : ℕ) → ℕ
+nextEntry ticks counting count clock = firstFrom (λ e. ltb clock (natAt ticks e) && counting e) 0 count
 
 -- the tick of the entry that is next, or never where none is left
 unfoldable pub entryTick : (ticks : List ℕ) (count next : ℕ) → ℕ

@@ -53,7 +53,7 @@ outputsBy p awake place q = row (pos 0) mostIntegrators (p .counts .n) (λ i. co
 unfoldable pub placeBy : (awake : ℕ → Bool) (q : List ℤ) (place : ℕ → ℤ) → ℕ → ℤ
 placeBy awake q place i = cond (awake i) (intAt q i) (place i)
 
--- Of the instant at tick t, by who is due there, where its course takes each integrator, and what was held before. 3. and 5. The new slope is
+-- Of the instant at tick t, by who is due there, the position of each integrator there, and what was held before. 3. and 5. The new slope is
 -- by what is held after it.
 abbrev pub outcomeBy : (p : Plan) (t : ℕ) (due : ℕ → Bool) (place : ℕ → ℤ) → Held → Outcome
 outcomeBy p t due place h =
@@ -63,7 +63,7 @@ outcomeBy p t due place h =
 -- its events, by the same
 unfoldable pub outcomeEvents : (p : Plan) (t : ℕ) (due : ℕ → Bool) (place : ℕ → ℤ) → Held → List ℕ
 outcomeEvents p t due place h =
-    let then = outcomeBy p t due place h .held in eventsAt p t (changesBy p (woken due) t) (then .q) (then .inputs)
+    let then = outcomeBy p t due place h .held in eventsAt p t (changesBy p t (woken due)) (then .q) (then .inputs)
 
 -- 5. and the new due tick
 unfoldable pub dueThen : (p : Plan) (t : ℕ) → Outcome → ℕ → ℕ
@@ -83,13 +83,7 @@ module _ (p : Plan) (r : Running) (t : ℕ) where
   abbrev pub outcome : Outcome
   outcome = outcomeBy p t (isDue (r .d) t) (positionAt r t) (heldOf r)
 
-  abbrev pub outputsThen : List ℤ
-  outputsThen = outcome .held .q
-
-  -- who is woken or reached there, and who an engine moves
-  abbrev pub touchedAt : ℕ → Bool
-  touchedAt = touched p t (isDue (r .d) t)
-
+  -- who an engine moves there
   abbrev pub movedAt : Engine → ℕ → Bool
   movedAt engine = moves p engine (r .d) t
 

@@ -31,18 +31,18 @@ woken due i = due i
 unfoldable pub gives : (due : ℕ → Bool) → ℕ → Bool
 gives due i = due i
 
--- where the instant puts each integrator, by where its own course takes it
+-- where the instant puts each integrator, by its position there, x+s×(t−l)
 unfoldable pub placed : (place : ℕ → ℤ) → ℕ → ℤ
 placed place i = place i
 
 -- The sources that change at tick t, by who is woken there: these integrators and the commanded inputs. Said here alone; what follows is over
 -- any set of sources.
-unfoldable pub changesBy : (p : Plan) (awake : ℕ → Bool) (t : ℕ) → ℕ → Bool
-changesBy p awake t i = cond (ltb i (p .counts .n)) (awake i) (ltb i (p .counts .n + p .counts .m) && isCommanded p t (i - p .counts .n))
+unfoldable pub changesBy : (p : Plan) (t : ℕ) (awake : ℕ → Bool) → ℕ → Bool
+changesBy p t awake i = cond (ltb i (p .counts .n)) (awake i) (ltb i (p .counts .n + p .counts .m) && isCommanded p t (i - p .counts .n))
 
 -- with the due ticks d
 abbrev pub changes : (p : Plan) (d : List ℕ) (t : ℕ) → ℕ → Bool
-changes p d t = changesBy p (woken (isDue d t)) t
+changes p d t = changesBy p t (woken (isDue d t))
 
 -- with a set of sources that change
 module _ (p : Plan) (changed : ℕ → Bool) where
@@ -65,7 +65,7 @@ module _ (p : Plan) (changed : ℕ → Bool) where
 
 -- those woken or reached at tick t, by who is due there
 unfoldable pub touched : (p : Plan) (t : ℕ) (due : ℕ → Bool) → ℕ → Bool
-touched p t due i = woken due i || reached p (changesBy p (woken due) t) i
+touched p t due i = woken due i || reached p (changesBy p t (woken due)) i
 
 -- ---- the same in document 01's words
 -- integrator i is due at t, by its due tick

@@ -1,5 +1,5 @@
 -- What is proved of these definitions.
 pub mod NodeSteps
 pub mod SourceValues
-pub mod Touched
+pub mod DependentNodes
 pub mod ReadOut

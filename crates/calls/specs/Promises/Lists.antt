@@ -25,7 +25,7 @@ use Rattle.calls.specs.declared.Ran.{Ran}
 
 -- what a call of a list answers in itself, and the buffer that it leaves
 pub record CallPromise (p : Plan) (st : State) (call : Call) (answer : Ran) (buffer : List ℕ) : Type 0 where
-  -- "There a call is declined by 11 or 12 only", and by these exactly as they are named; never by 10. What the room is in figures: Promises/Calls
+  -- "There a call is declined by 11 or 12 only", and by these exactly as they are named; never by 10. `NumberPromise` of Promises/Calls says it with the room in figures
   pub above : 1024 < call .budget → answer .number ≡ 11
   pub short : call .budget ≤ 1024 → length (call .buffer) < roomOf p (call .budget) → answer .number ≡ 12
   pub accepted : call .budget ≤ 1024 → roomOf p (call .budget) ≤ length (call .buffer) → answer .number ≡ 0

@@ -11,12 +11,12 @@ use Rattle.plan.specs.Rules.{IntegratorRule, PlanRules}
 use Rattle.plan.specs.Laws.CountLimits.{CountLimits, count-limits}
 use Rattle.plan.specs.Laws.TestMeanings.{within-size}
 use Rattle.plan.specs.declared.Plan.{Plan}
-use Rattle.machine.specs.Due.{upperLevel, lowerLevel, BetweenLevels}
-use Rattle.machine.specs.Held.{heldOf}
+use Rattle.machine.specs.Due.{upperLevel, lowerLevel}
 use Rattle.machine.specs.Instant.{nextTickOf}
 use Rattle.machine.specs.Runs.{eventsMost, roomOf}
 use Rattle.machine.specs.Laws.SoundClauses.{SoundRunning}
 use Rattle.machine.specs.Laws.Held.{input-size}
+use Rattle.machine.specs.Laws.BetweenLevels.{BetweenLevels}
 use Rattle.machine.specs.Laws.Levels.{upper-size, lower-size, inside-size, distance-least, distance-most, ticks-positive, ticks-most}
 use Rattle.machine.specs.Laws.Lengths.{instant-bytes, run-bytes}
 use Rattle.machine.specs.Laws.Next.{command-most}
@@ -51,9 +51,9 @@ level-limits p q i x s k a b =
       lower = lower-size p q i k a;
       stored = inside-size p q i k a x b;
       nearest = distance-least p q i x b s;
-      farthest = distance-most p q i k a x b s;
+      farthest = distance-most p q i k x b s;
       soonest = ticks-positive x (upperLevel p q i) (lowerLevel p q i) s;
-      latest = ticks-most p q i k a x b s;
+      latest = ticks-most p q i k x b s;
     }
 
 -- the room that a run asks, of a plan that keeps the limits of its counts
@@ -97,8 +97,7 @@ module _ (p : Plan) (r : Running) (sound : SoundRunning p r) where
   unfolding roomOf eventsMost
   state-limits =
       let instants : r .clocks .instants ≤ 2000000000 = omega (arith, sound .held .instants, sound .clock, sound .plan .horizon) in record {
-        rates = rate-limits p (r .q) (r .inputs) (sound .plan) (sound .held .outputs)
-            (input-size p (sound .plan) (r .clocks .clock) (heldOf r) (sound .held));
+        rates = rate-limits p (r .q) (r .inputs) (sound .plan) (sound .held .outputs) (input-size (sound .held));
         integrators = integrator-limits;
         tick = λ e. (tick-after p r sound, tick-horizon p r (is-paused p r e));
         next = omega (arith, sound .held .next .command, command-most p (r .clocks .clock), limits .commands);

@@ -9,7 +9,6 @@ use lib.ListN.{length, length-append}
 use Rattle.bitset.specs.Mask.{each}
 use Rattle.plan.specs.declared.Counts.{Counts}
 use Rattle.plan.specs.declared.Plan.{Plan}
-use Rattle.machine.specs.Held.{heldOf}
 use Rattle.machine.specs.Instant.{instant, eventsOf}
 use Rattle.machine.specs.Status.{isPaused, statusOf, runningPaused}
 use Rattle.machine.specs.Runs.{afterRun, eventsOfRun, eventsMost, roomOf}
@@ -49,8 +48,7 @@ pub source-values-ready : (p : Plan) (r : Running) → SoundRunning p r
     → NodesReady (p .nodes .a) (p .nodes .b) (p .nodes .lows) (p .nodes .highs) (outputAndInputValues (p .counts .n) (p .counts .m) (r .q) (r .inputs)) (p .counts .n + p .counts .m) (p .counts .k)
 source-values-ready p r ok =
     nodes-ready p (ok .plan) (outputAndInputValues (p .counts .n) (p .counts .m) (r .q) (r .inputs))
-    (first-sized p (r .q) (r .inputs) (ok .plan) (ok .held .outputs)
-    (input-size p (ok .plan) (r .clocks .clock) (heldOf r) (ok .held)))
+    (first-sized p (r .q) (r .inputs) (ok .plan) (ok .held .outputs) (input-size (ok .held)))
 
 -- ---- outputs and input values that are read out of the values of sources
 pub figures-read : (counts : Counts) (x s : List ℤ) (l d : List ℕ) (values : List ℤ) (clocks : Clocks) {q u : List ℤ}

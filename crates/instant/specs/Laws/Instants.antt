@@ -45,7 +45,7 @@ use Rattle.machine.specs.declared.Engine.the-variants.{Lazy, Eager}
 use Rattle.values.specs.Sources.{valuesOf, outputsIn, inputsIn, nodeStep, NodesReady}
 use Rattle.values.specs.Laws.SourceValues.{nodes-ready, values-length, values-at, values-sized}
 use Rattle.values.specs.Laws.ReadOut.{outputs-read, inputs-read}
-use Rattle.values.specs.Laws.Touched as touched
+use Rattle.values.specs.Laws.DependentNodes.{dependent-nodes}
 use Rattle.timing.specs.Status.{DuePositionsReady}
 use Rattle.timing.specs.Laws.Statuses.{given-ready}
 use Rattle.reach.specs.Table.{entriesOf}
@@ -110,9 +110,9 @@ module _ (p : Plan) (r : Running) {t due : ℕ} {ranges reach : List ℕ} {value
   given-set : due ≡ maskOf (gives (isDue (r .d) t)) (p .counts .n)
   given-set = ready .due-set ∙ maskOf-ext _ _ (p .counts .n) (λ i h. sym (gives-is (isDue (r .d) t) i))
 
-  -- and each integrator is where its course takes it
-  on-course : (i : ℕ) → i < p .counts .n → o .x i ≡ positionAt r t i
-  on-course i h = x-then p limits awake (placed (positionAt r t)) (r .q) i h ∙ placed-is (positionAt r t) i
+  -- and each integrator is at its position
+  at-position : (i : ℕ) → i < p .counts .n → o .x i ≡ positionAt r t i
+  at-position i h = x-then p limits awake (placed (positionAt r t)) (r .q) i h ∙ placed-is (positionAt r t) i
 
   -- ---- before
   pub due-below : due < 2 ^ p .counts .n
@@ -133,7 +133,7 @@ module _ (p : Plan) (r : Running) {t due : ℕ} {ranges reach : List ℕ} {value
   old-sized : (i : ℕ) → ∣ intAt values i ∣ ≤ M
   old-sized =
       rw (ready .values-are)
-      (values-sized p (r .q) (r .inputs) rules (sound .held .outputs) (input-size p rules (r .clocks .clock) (heldOf r) (sound .held)))
+      (values-sized p (r .q) (r .inputs) rules (sound .held .outputs) (input-size (sound .held)))
 
   -- ---- 6. the counts stay far below 2^64
   pub instants-fit : Fits w64 (r .clocks .instants + 1)
@@ -203,7 +203,7 @@ module _ (p : Plan) (r : Running) {t due : ℕ} {ranges reach : List ℕ} {value
         go true e =
             source-cases (p .counts .n) (p .counts .m) i (λ k. ∣ intAt v2 k ∣ ≤ M) (ltb-true i (p .counts .n + p .counts .m) e)
             (λ k l. rw (output-at k l) (lawful .held .outputs k l))
-            (λ j l. rw (input-at j l) (input-size p rules t (o .held) (lawful .held) j l))
+            (λ j l. rw (input-at j l) (input-size (lawful .held) j l))
         go false e = rw (node-at i (ltb-false i (p .counts .n + p .counts .m) e)) (old-sized i)
 
     pub nodes-ready-then : NodesReady (p .nodes .a) (p .nodes .b) (p .nodes .lows) (p .nodes .highs) v2 (p .counts .n + p .counts .m) (p .counts .k)
@@ -213,13 +213,13 @@ module _ (p : Plan) (r : Running) {t due : ℕ} {ranges reach : List ℕ} {value
     module _ {changed nodes reached-set : ℕ} (changed-is : changed ≡ unionShifted due commanded (p .counts .n))
         (reached-is : reached-set ≡ entriesOf reach changed % 2 ^ 32) (nodes-is : nodes ≡ entriesOf reach changed / 2 ^ 32) where
       changed-then : changed ≡ maskOf changing (p .counts .n + p .counts .m)
-      changed-then = changed-is ∙ reaching.joined-changes p awake t due commanded woken-set (done .commanded-are)
+      changed-then = changed-is ∙ reaching.joined-changes p t awake due commanded woken-set (done .commanded-are)
 
       nodes-then : nodes ≡ maskOf (λ j. dependsWith p changing (p .counts .k) (p .counts .n + p .counts .m + j)) (p .counts .k)
-      nodes-then = nodes-is ∙ rw (ready .reach-is) (reaching.touched-mask p rules changing (reaching.changes-inside p awake t) changed changed-then)
+      nodes-then = nodes-is ∙ rw (ready .reach-is) (reaching.dependent-mask p rules changing (reaching.changes-inside p t awake) changed changed-then)
 
       reached-then : reached-set ≡ maskOf (reached p changing) (p .counts .n)
-      reached-then = reached-is ∙ rw (ready .reach-is) (reaching.reached-mask p rules changing (reaching.changes-inside p awake t) changed changed-then)
+      reached-then = reached-is ∙ rw (ready .reach-is) (reaching.reached-mask p rules changing (reaching.changes-inside p t awake) changed changed-then)
 
       pub nodes-below : nodes < 2 ^ p .counts .k
       nodes-below = rw nodes-then (maskOf-lt _ (p .counts .k))
@@ -228,7 +228,7 @@ module _ (p : Plan) (r : Running) {t due : ℕ} {ranges reach : List ℕ} {value
         values-then : v3 ≡ valuesOf p q u
         values-then =
             worked
-            ∙ touched.touched-mask p rules changing q u (r .q) (r .inputs)
+            ∙ dependent-nodes p rules changing q u (r .q) (r .inputs)
             (source-kept p limits t (isDue (r .d) t) (positionAt r t) (heldOf r)) v2 (done .same-length ∙ full-then) source-at
             (λ i h. node-at i h ∙ ap (λ vs. intAt vs i) (ready .values-are)) nodes nodes-then
 
@@ -253,7 +253,7 @@ module _ (p : Plan) (r : Running) {t due : ℕ} {ranges reach : List ℕ} {value
         sized-then : (i : ℕ) → ∣ intAt v3 i ∣ ≤ M
         sized-then =
             rw values-then
-            (values-sized p q u rules (lawful .held .outputs) (input-size p rules t (o .held) (lawful .held)))
+            (values-sized p q u rules (lawful .held .outputs) (input-size (lawful .held)))
 
         first-then : (i : ℕ) → i < p .counts .n + p .counts .m → intAt v3 i ≡ valueWith p q u zero i
         first-then i h =
@@ -282,7 +282,7 @@ module _ (p : Plan) (r : Running) {t due : ℕ} {ranges reach : List ℕ} {value
               go Eager = refl
 
           stored : Stored p r t o (moves p engine (r .d) t) (motion (r .x) (r .s) (r .l) (r .d))
-          stored = own-stored p r sound shaped t (omega (arith, takes .after)) (takes .least) o on-course (moves p engine (r .d) t)
+          stored = own-stored p r sound shaped t (omega (arith, takes .after)) (takes .least) o at-position (moves p engine (r .d) t)
 
           pub moves-ready : AllMovable (p .integrators .quanta) (p .links .sources) (p .links .coefficients) ranges t v3 moved (motion (r .x) (r .s) (r .l) (r .d))
           moves-ready =

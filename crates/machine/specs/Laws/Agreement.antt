@@ -8,7 +8,6 @@ use lib.IntN.{ℤ, pos, _+ℤ_, _*ℤ_}
 use Rattle.integers.specs.Laws.Parts.{sum, prod, zs}
 use Rattle.plan.specs.Lists.{natAt, intAt}
 use Rattle.plan.specs.Laws.Rows.{row-at, row-ext}
-use Rattle.plan.specs.Laws.CountLimits.{count-limits}
 use Rattle.plan.specs.declared.Plan.{Plan}
 use Rattle.machine.specs.Held.{heldOf, nextTick}
 use Rattle.machine.specs.Start.{startSlope, startDue, startOf}
@@ -17,7 +16,7 @@ use Rattle.machine.specs.Instant.{positionAt, Outcome, dueThen, figuresA
 use Rattle.machine.specs.Status.{statusOf}
 use Rattle.machine.specs.Runs.{positionOf}
 use Rattle.machine.specs.Plain.{Plain, settled, plainStart, plainNextTick, plainPosition, plainOutcome, plainInstant, plainEventsOf, plainStatus}
-use Rattle.machine.specs.Laws.SoundClauses.{SoundRunning}
+use Rattle.machine.specs.Laws.SoundClauses.{SoundRunning, limits-of}
 use Rattle.machine.specs.Laws.InstantByRule.{Keeps, Covers, slopes-then, dues-then, place-then}
 use Rattle.machine.specs.Laws.Soundness.{covers, keeps-then, none-due-before, tick-after}
 use Rattle.machine.specs.Laws.Alike.{Alike, outcomes-alike, status-alike}
@@ -46,7 +45,7 @@ in-two x s a b =
     let y = x +ℤ s *ℤ pos a in
     omega (arith, zs, prod s (pos (a + b)), prod s (pos a), prod s (pos b), sum x (s *ℤ pos (a + b)), sum x (s *ℤ pos a), sum y (s *ℤ pos b))
 
--- where the clocks are equal, the positions at the clock are the plain machine's
+-- where the clocks are equal: from positions that are the plain machine's to what `Forward` says of them, and back
 stands : (p : Plan) (r : Running) (m : Plain) → r .clocks .clock ≡ m .clock → ((i : ℕ) → i < p .counts .n → positionOf r i ≡ intAt (m .x) i)
     → (i : ℕ) → i < p .counts .n → positionOf r i ≡ intAt (m .x) i +ℤ intAt (m .s) i *ℤ pos (r .clocks .clock - m .clock)
 stands p r m e place i h = place i h ∙ sym (unmoved (intAt (m .x) i) (intAt (m .s) i) (r .clocks .clock) (m .clock) (omega arith))
@@ -57,7 +56,7 @@ place-of p r m a i h =
 
 -- ---- whoever moves: the state after an outcome agrees with the plain machine after one like it
 module _ (p : Plan) (r : Running) (ok : SoundRunning p r) (t : ℕ) (since : r .clocks .clock ≤ t) (o : Outcome)
-    {woken touched : ℕ → Bool} (keeps : Keeps p r t o woken touched) (moved : ℕ → Bool) (covers : Covers p touched moved) (w : ℕ)
+    {awake touched : ℕ → Bool} (keeps : Keeps p r t o awake touched) (moved : ℕ → Bool) (covers : Covers p touched moved) (w : ℕ)
     {t′ : ℕ} (o′ : Outcome) (same-t : t ≡ t′) (alike : Alike p o o′) where
   same-due : (i : ℕ) → i < p .counts .n → dueThen p t o i ≡ dueThen p t′ o′ i
   unfolding dueThen
@@ -70,15 +69,25 @@ module _ (p : Plan) (r : Running) (ok : SoundRunning p r) (t : ℕ) (since : r .
         clock = same-t;
         forward = record {
           held = alike .held;
-          s = slopes-then p r ok t since o keeps moved covers w ∙ row-ext (pos 0) 32 (p .counts .n) _ _ (alike .s);
+          s = slopes-then p r t o keeps moved covers w ∙ row-ext (pos 0) 32 (p .counts .n) _ _ (alike .s);
           d = dues-then p r ok t since o keeps moved covers w ∙ row-ext 0 32 (p .counts .n) _ _ same-due;
           behind = omega arith;
           place = stands p (figuresAfter p r t o moved w) (settled p t′ o′) same-t (λ i h.
-              place-then p r ok t since o keeps moved covers w i h ∙ alike .x i h
-              ∙ sym (row-at (pos 0) 32 (p .counts .n) (o′ .x) i (count-limits p (ok .plan .counts) .n) h));
+              place-then p r t o keeps moved covers w (limits-of ok) i h ∙ alike .x i h
+              ∙ sym (row-at (pos 0) 32 (p .counts .n) (o′ .x) i (limits-of ok .n) h));
         };
       }
 
+-- ---- the next instant of states that agree: its tick, and who is due there
+module _ (p : Plan) (r : Running) (m : Plain) (a : Forward p r m) where
+  pub same-tick : nextTickOf p r ≡ plainNextTick p m
+  unfolding nextTickOf plainNextTick
+  same-tick = ap₂ (nextTick p) (a .d) (a .held)
+
+  pub same-dues : (i : ℕ) → i < p .counts .n → isDue (r .d) (nextTickOf p r) i ≡ isDue (m .d) (plainNextTick p m) i
+  same-dues i h = rw (same-tick, a .d)
+
+-- ---- where the state is sound
 module _ (p : Plan) (r : Running) (ok : SoundRunning p r) where
   tick-from : r .clocks .clock ≤ nextTickOf p r
   tick-from = omega (arith, tick-after p r ok)
@@ -91,10 +100,6 @@ module _ (p : Plan) (r : Running) (ok : SoundRunning p r) where
       rw split (in-two (intAt (r .x) i) (intAt (r .s) i) (r .clocks .clock - natAt (r .l) i) (t - r .clocks .clock))
 
   module _ (m : Plain) (a : Forward p r m) where
-    pub same-tick : nextTickOf p r ≡ plainNextTick p m
-    unfolding nextTickOf plainNextTick
-    same-tick = ap₂ (nextTick p) (a .d) (a .held)
-
     pub same-position : (i : ℕ) → i < p .counts .n → positionAt r (nextTickOf p r) i ≡ plainPosition p m i
     unfolding plainPosition
     same-position i h =
@@ -102,25 +107,22 @@ module _ (p : Plan) (r : Running) (ok : SoundRunning p r) where
         ∙ ap₂ (λ y s. y +ℤ intAt s i *ℤ pos (nextTickOf p r - r .clocks .clock)) (a .place i h) (a .s)
         ∙ sym (in-two (intAt (m .x) i) (intAt (m .s) i) (r .clocks .clock - m .clock) (nextTickOf p r - r .clocks .clock))
         ∙ ap (λ e. intAt (m .x) i +ℤ intAt (m .s) i *ℤ pos e) between
-        ∙ ap (λ t. intAt (m .x) i +ℤ intAt (m .s) i *ℤ pos (t - m .clock)) same-tick
+        ∙ ap (λ t. intAt (m .x) i +ℤ intAt (m .s) i *ℤ pos (t - m .clock)) (same-tick p r m a)
       where
         between : (r .clocks .clock - m .clock) + (nextTickOf p r - r .clocks .clock) ≡ nextTickOf p r - m .clock
         between = omega (arith, a .behind, tick-from)
 
-    pub same-dues : (i : ℕ) → i < p .counts .n → isDue (r .d) (nextTickOf p r) i ≡ isDue (m .d) (plainNextTick p m) i
-    same-dues i h = rw (same-tick, a .d)
-
     -- ---- what is read from the state
     pub same-status : statusOf p r ≡ plainStatus p m
     unfolding statusOf plainStatus
-    same-status = status-alike p same-tick same-dues same-position (a .held)
+    same-status = status-alike p (same-dues p r m a) (same-tick p r m a) same-position
 
     same-outcome : Alike p (outcome p r (nextTickOf p r)) (plainOutcome p m)
-    same-outcome = outcomes-alike p same-tick same-dues same-position (a .held)
+    same-outcome = outcomes-alike p (same-dues p r m a) (same-tick p r m a) same-position (a .held)
 
     pub same-events : eventsOf p r ≡ plainEventsOf p m
     unfolding eventsOf plainEventsOf
-    same-events = events-alike p same-tick same-dues same-position (a .held)
+    same-events = events-alike p (same-dues p r m a) (same-tick p r m a) same-position (a .held)
 
     -- ---- one instant
     pub agrees-then : (engine : Engine) → Agrees p (instant p engine r) (plainInstant p m)
@@ -128,7 +130,7 @@ module _ (p : Plan) (r : Running) (ok : SoundRunning p r) where
     agrees-then engine =
         let t = nextTickOf p r in
         agrees-by p r ok t tick-from (outcome p r t) (keeps-then p r ok t (none-due-before p r)) (movedAt p r t engine)
-        (covers p r t engine) _ (plainOutcome p m) same-tick same-outcome
+        (covers p r t engine) _ (plainOutcome p m) (same-tick p r m a) same-outcome
 
 -- ---- the start
 pub start-agrees : (p : Plan) → p .counts .n ≤ 32 → Agrees p (startOf p) (plainStart p)

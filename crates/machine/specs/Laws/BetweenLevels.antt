@@ -11,7 +11,12 @@ use Rattle.integers.specs.Laws.Parts.{sum, dif, tight, zs}
 use Rattle.plan.specs.Lists.{intAt}
 use Rattle.plan.specs.Rules.{IntegratorRule}
 use Rattle.plan.specs.declared.Plan.{Plan}
-use Rattle.machine.specs.Due.{upperLevel, lowerLevel, BetweenLevels, dueOf}
+use Rattle.machine.specs.Due.{upperLevel, lowerLevel, dueOf}
+
+-- x lies strictly between integrator i's levels
+pub record BetweenLevels (p : Plan) (q : List ℤ) (i : ℕ) (x : ℤ) : Type 0 where
+  pub above : lowerLevel p q i <ℤ x
+  pub below : x <ℤ upperLevel p q i
 
 module _ (p : Plan) (q : List ℤ) (i : ℕ) where
   pub between-itself : IntegratorRule p i → (x : ℤ) → intAt q i ≡ x → BetweenLevels p q i x

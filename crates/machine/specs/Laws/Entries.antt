@@ -65,38 +65,38 @@ module _ (ticks numbers : List ℕ) (values : List ℤ) (t j : ℕ) (before : �
             go false m ih = let other : k ≡ e → ⊥ = λ q. false≢true (m .1 q) in ih (omega arith)
 
 -- ---- the tick of the next one
-module _ (ticks : List ℕ) (count next : ℕ) where
-  pub entry-below : next < count → entryTick ticks count next ≤ natAt ticks next
+module _ (ticks : List ℕ) (count e : ℕ) where
+  pub entry-below : e < count → entryTick ticks count e ≤ natAt ticks e
   unfolding entryTick
-  entry-below h = rw (lt-ltb next count h) (omega arith)
+  entry-below h = rw (lt-ltb e count h) (omega arith)
 
-  pub entry-above : (c : ℕ) → c ≤ never → (next < count → c ≤ natAt ticks next) → c ≤ entryTick ticks count next
+  pub entry-above : (c : ℕ) → c ≤ never → (e < count → c ≤ natAt ticks e) → c ≤ entryTick ticks count e
   unfolding entryTick
-  entry-above c h g = go (ltb next count) refl
+  entry-above c h g = go (ltb e count) refl
     where
-      go : (b : Bool) → ltb next count ≡ b → c ≤ cond b (natAt ticks next) never
-      go true e = g (ltb-true next count e)
-      go false e = h
+      go : (b : Bool) → ltb e count ≡ b → c ≤ cond b (natAt ticks e) never
+      go true t = g (ltb-true e count t)
+      go false t = h
 
   -- a tick below never is an entry's
-  pub entry-one : entryTick ticks count next < never → (next < count) × (natAt ticks next ≡ entryTick ticks count next)
+  pub entry-one : entryTick ticks count e < never → (e < count) × (natAt ticks e ≡ entryTick ticks count e)
   unfolding entryTick
-  entry-one = go (ltb next count) refl
+  entry-one = go (ltb e count) refl
     where
-      go : (b : Bool) → ltb next count ≡ b → cond b (natAt ticks next) never < never → (next < count) × (natAt ticks next ≡ cond b (natAt ticks next) never)
-      go true e l = (ltb-true next count e, refl)
-      go false e l = absurd (omega arith)
+      go : (b : Bool) → ltb e count ≡ b → cond b (natAt ticks e) never < never → (e < count) × (natAt ticks e ≡ cond b (natAt ticks e) never)
+      go true t l = (ltb-true e count t, refl)
+      go false t l = absurd (omega arith)
 
 -- ---- the next one
-module _ (ticks : List ℕ) (counts : ℕ → Bool) (count c : ℕ) where
+module _ (ticks : List ℕ) (counting : ℕ → Bool) (count c : ℕ) where
   abbrev next : ℕ
-  next = nextEntry ticks counts count c
+  next = nextEntry ticks counting count c
 
   abbrev isLater : ℕ → Bool
-  isLater e = ltb c (natAt ticks e) && counts e
+  isLater e = ltb c (natAt ticks e) && counting e
 
   abbrev IsLater : ℕ → Type 0
-  IsLater e = (c < natAt ticks e) × (counts e ≡ true)
+  IsLater e = (c < natAt ticks e) × (counting e ≡ true)
 
   later-means : (e : ℕ) → Means (isLater e) (IsLater e)
   later-means e = both (ltb-means c (natAt ticks e)) (λ h. h, λ h. h)

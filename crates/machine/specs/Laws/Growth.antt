@@ -9,15 +9,14 @@ use borrow.Author.Tests.{eq-eqb, ne-eqb}
 use Rattle.bitset.specs.Counts.{countOf}
 use Rattle.bitset.specs.Laws.Counts.{countOf-ext, countOf-all, countOf-le}
 use Rattle.plan.specs.Lists.{natAt}
-use Rattle.plan.specs.Laws.CountLimits.{count-limits}
 use Rattle.plan.specs.declared.Plan.{Plan}
 use Rattle.machine.specs.Instant.{moves, Outcome, figuresAfter, outcome, movedAt, nextTickOf, instant}
 use Rattle.machine.specs.Plain.{Plain, lazyCount}
 use Rattle.machine.specs.Updates.{growth, movedNow}
-use Rattle.machine.specs.Laws.SoundClauses.{SoundRunning}
+use Rattle.machine.specs.Laws.SoundClauses.{SoundRunning, limits-of}
 use Rattle.machine.specs.Laws.InstantFigures.{l-at}
 use Rattle.machine.specs.Laws.Soundness.{tick-after}
-use Rattle.machine.specs.Laws.Agreement.{Forward, same-tick, same-position, same-dues}
+use Rattle.machine.specs.Laws.Agreement.{Forward, same-tick, same-dues}
 use Rattle.machine.specs.Laws.Alike.{touched-alike}
 use Rattle.machine.specs.declared.Running.{Running}
 use Rattle.machine.specs.declared.Engine.{Engine}
@@ -41,7 +40,7 @@ unfolding movedNow figuresAfter
 moved-now p r ok t after o moved w = countOf-ext _ _ (p .counts .n) marked
   where
     marked : (i : ℕ) → i < p .counts .n → eqb (natAt (figuresAfter p r t o moved w .l) i) t ≡ moved i
-    marked i h = rw (l-at p (count-limits p (ok .plan .counts)) r t o moved w i h) (go (moved i))
+    marked i h = rw (l-at p (limits-of ok) r t o moved w i h) (go (moved i))
       where
         go : (b : Bool) → eqb (cond b t (natAt (r .l) i)) t ≡ b
         go true = eq-eqb t t refl
@@ -53,21 +52,20 @@ updates-then : (p : Plan) (r : Running) (engine : Engine)
 unfolding instant figuresAfter
 updates-then p r engine = refl
 
-module _ (p : Plan) (r : Running) (ok : SoundRunning p r) (m : Plain) (a : Forward p r m) (engine : Engine) where
+module _ (p : Plan) (r : Running) (m : Plain) (a : Forward p r m) (engine : Engine) where
   -- how many the engine moves
   moved-count : countOf (movedAt p r (nextTickOf p r) engine) (p .counts .n) ≡ growth p engine m
   unfolding growth lazyCount moves
   moved-count = go engine
     where
       go : (e : Engine) → countOf (movedAt p r (nextTickOf p r) e) (p .counts .n) ≡ growth p e m
-      go Lazy =
-          countOf-ext _ _ (p .counts .n) (touched-alike p (same-tick p r ok m a) (same-dues p r ok m a) (same-position p r ok m a) (a .held))
+      go Lazy = countOf-ext _ _ (p .counts .n) (touched-alike p (same-dues p r m a) (same-tick p r m a))
       go Eager = countOf-all (p .counts .n)
 
   pub instant-updates : instant p engine r .clocks .updates ≡ r .clocks .updates + growth p engine m
   instant-updates = updates-then p r engine ∙ rw moved-count
 
   -- "either way this is the number of integrators with l = c after it"
-  pub instant-moved : movedNow p (instant p engine r) ≡ growth p engine m
+  pub instant-moved : SoundRunning p r → movedNow p (instant p engine r) ≡ growth p engine m
   unfolding instant
-  instant-moved = moved-now p r ok (nextTickOf p r) (tick-after p r ok) (outcome p r (nextTickOf p r)) _ _ ∙ moved-count
+  instant-moved ok = moved-now p r ok (nextTickOf p r) (tick-after p r ok) (outcome p r (nextTickOf p r)) _ _ ∙ moved-count

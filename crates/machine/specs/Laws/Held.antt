@@ -47,12 +47,12 @@ start-slope-most p rules =
     slope-within p rules (heldStart p) (λ i h. within-size M _ .0 (rules .integrators i h .start)) (λ j h. within-size M _ .0 (rules .inputs j h))
 
 -- ---- where what is held is sound
-module _ (p : Plan) (rules : PlanRules p) (c : ℕ) (h : Held) (ok : SoundHeld p c h) where
-  pub input-size : (j : ℕ) → j < p .counts .m → ∣ intAt (h .inputs) j ∣ ≤ M
-  input-size j l = within-size M _ .0 (ok .inputs j l)
+pub input-size : {p : Plan} {c : ℕ} {h : Held} → SoundHeld p c h → (j : ℕ) → j < p .counts .m → ∣ intAt (h .inputs) j ∣ ≤ M
+input-size ok j l = within-size M _ .0 (ok .inputs j l)
 
+module _ (p : Plan) (rules : PlanRules p) (c : ℕ) (h : Held) (ok : SoundHeld p c h) where
   pub slope-most : (i : ℕ) → ∣ slopeOf p h i ∣ ≤ slopeMost
-  slope-most = slope-within p rules h (ok .outputs) input-size
+  slope-most = slope-within p rules h (ok .outputs) (input-size ok)
 
   -- and after an instant, with the outputs after it within ±M
   pub held-then : (t : ℕ) (due : ℕ → Bool) (place : ℕ → ℤ) → c < t
@@ -61,7 +61,7 @@ module _ (p : Plan) (rules : PlanRules p) (c : ℕ) (h : Held) (ok : SoundHeld p
   held-then t due place after sized =
       record {
         outputs = sized;
-        inputs = λ j l. within-size M _ .1 (inputs-then-size p rules (h .inputs) t input-size j l);
+        inputs = λ j l. within-size M _ .1 (inputs-then-size p rules (h .inputs) t (input-size ok) j l);
         next = record { command = refl };
         instants = omega (arith, ok .instants);
         unused-outputs = λ i l. row-unused (pos 0) 32 (p .counts .n) _ i l;

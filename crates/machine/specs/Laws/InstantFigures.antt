@@ -12,22 +12,22 @@ use Rattle.machine.specs.Instant.{Outcome, outputsBy, placeBy, dueThen, 
 use Rattle.machine.specs.declared.Running.{Running}
 
 -- ---- by who is woken, where each integrator is put, and the outputs before
-module _ (p : Plan) (limits : CountLimits p) (woken : ℕ → Bool) (place : ℕ → ℤ) (q : List ℤ) (i : ℕ) (h : i < p .counts .n) where
-  pub outputs-at : intAt (outputsBy p woken place q) i ≡ cond (woken i) (place i) (intAt q i)
+module _ (p : Plan) (limits : CountLimits p) (awake : ℕ → Bool) (place : ℕ → ℤ) (q : List ℤ) (i : ℕ) (h : i < p .counts .n) where
+  pub outputs-at : intAt (outputsBy p awake place q) i ≡ cond (awake i) (place i) (intAt q i)
   unfolding outputsBy
   outputs-at = row-at (pos 0) 32 (p .counts .n) _ i (limits .n) h
 
   -- those that are not woken keep their outputs
-  pub output-kept : woken i ≡ false → intAt (outputsBy p woken place q) i ≡ intAt q i
+  pub output-kept : awake i ≡ false → intAt (outputsBy p awake place q) i ≡ intAt q i
   output-kept e = outputs-at ∙ rw e
 
   -- "x becomes x+s×(t−l) .. A due integrator gets x = q", which is the same
-  pub x-then : placeBy woken (outputsBy p woken place q) place i ≡ place i
+  pub x-then : placeBy awake (outputsBy p awake place q) place i ≡ place i
   unfolding placeBy
-  x-then = go (woken i) outputs-at
+  x-then = go (awake i) outputs-at
     where
-      go : (b : Bool) → intAt (outputsBy p woken place q) i ≡ cond b (place i) (intAt q i)
-          → cond b (intAt (outputsBy p woken place q) i) (place i) ≡ place i
+      go : (b : Bool) → intAt (outputsBy p awake place q) i ≡ cond b (place i) (intAt q i)
+          → cond b (intAt (outputsBy p awake place q) i) (place i) ≡ place i
       go true e = e
       go false e = refl
 

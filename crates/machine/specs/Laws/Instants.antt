@@ -112,12 +112,12 @@ module _ (p : Plan) (ok : SoundRunning p (startOf p)) (engines : List Engine) wh
     pub moved-next : movedNow p (stateAt p engines (k + 1)) ≡ growth p (engineOf engines (k + 1)) (plainAfter p k)
     moved-next =
         let h : k ≤ length engines = omega (arith, inside) in
-        rw state-next (instant-moved p (stateAt p engines k) (state-sound k) (plainAfter p k) (state-agrees k h .forward) (engineOf engines (k + 1)))
+        rw state-next (instant-moved p (stateAt p engines k) (plainAfter p k) (state-agrees k h .forward) (engineOf engines (k + 1)) (state-sound k))
 
     updates-next : stateAt p engines (k + 1) .clocks .updates ≡ stateAt p engines k .clocks .updates + growth p (engineOf engines (k + 1)) (plainAfter p k)
     updates-next =
         let h : k ≤ length engines = omega (arith, inside) in
-        rw state-next (instant-updates p (stateAt p engines k) (state-sound k) (plainAfter p k) (state-agrees k h .forward) (engineOf engines (k + 1)))
+        rw state-next (instant-updates p (stateAt p engines k) (plainAfter p k) (state-agrees k h .forward) (engineOf engines (k + 1)))
 
   -- ---- up to instant k
   pub instants-at : (k : ℕ) → k ≤ plainAfter p (length engines) .held .instants → stateAt p engines k .clocks .instants ≡ k

@@ -1,4 +1,4 @@
--- Laws: the events of an instant, by who is due there, where its course takes each integrator, and what was held before: how long they are,
+-- Laws: the events of an instant, by who is due there, the position of each integrator there, and what was held before: how long they are,
 -- that they are bytes, how each reads back, and that they are the same where two instants cannot be told apart. No other law opens
 -- `outcomeEvents`. Assumes nothing.
 use mathlib.Core.Path.{_≡_, refl, ap}
@@ -28,7 +28,7 @@ module _ (p : Plan) (t : ℕ) (due : ℕ → Bool) (place : ℕ → ℤ) (h : He
   bytes = outcomeEvents p t due place h
 
   abbrev changed : ℕ → Bool
-  changed = changesBy p (woken due) t
+  changed = changesBy p t (woken due)
 
   abbrev then : Held
   then = outcomeBy p t due place h .held
@@ -66,10 +66,10 @@ module _ (p : Plan) (t : ℕ) (due : ℕ → Bool) (place : ℕ → ℤ) (h : He
     outcome-value = events-value p t changed (then .q) (then .inputs) i l c
 
 -- ---- instants that cannot be told apart
-pub events-alike : (p : Plan) {t t′ : ℕ} {due due′ : ℕ → Bool} {place place′ : ℕ → ℤ} {h h′ : Held} → t ≡ t′
-    → ((i : ℕ) → i < p .counts .n → due i ≡ due′ i) → ((i : ℕ) → i < p .counts .n → place i ≡ place′ i) → h ≡ h′
+pub events-alike : (p : Plan) {t t′ : ℕ} {due due′ : ℕ → Bool} {place place′ : ℕ → ℤ} {h h′ : Held}
+    → ((i : ℕ) → i < p .counts .n → due i ≡ due′ i) → t ≡ t′ → ((i : ℕ) → i < p .counts .n → place i ≡ place′ i) → h ≡ h′
     → outcomeEvents p t due place h ≡ outcomeEvents p t′ due′ place′ h′
 unfolding outcomeEvents eventsAt
-events-alike p a b c d =
-    let held = held-alike p a b c d in
-    joined-ext _ _ (p .counts .n + p .counts .m) (λ i l. rw (changes-alike p a b c d i, ap (λ h. h .q) held, ap (λ h. h .inputs) held, a))
+events-alike p due tick place before =
+    let held = held-alike p due tick place before in
+    joined-ext _ _ (p .counts .n + p .counts .m) (λ i l. rw (changes-alike p due tick i, ap (λ h. h .q) held, ap (λ h. h .inputs) held, tick))

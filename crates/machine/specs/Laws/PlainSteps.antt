@@ -34,68 +34,65 @@ module _ (p : Plan) (limits : CountLimits p) (t : ℕ) (o : Outcome) (i : ℕ) (
   unfolding settled dueThen
   settled-d = row-at 0 32 (p .counts .n) _ i (limits .n) h ∙ rw (settled-x, settled-s)
 
--- ---- Start
 module _ (p : Plan) (rules : PlanRules p) where
-  counted : CountLimits p
-  counted = count-limits p (rules .counts)
+  limits : CountLimits p
+  limits = count-limits p (rules .counts)
 
+  -- ---- Start
   abbrev begun : Plain
   begun = plainStart p
 
   pub began-x : (i : ℕ) → i < p .counts .n → intAt (begun .x) i ≡ intAt (p .integrators .starts) i
   unfolding plainStart
-  began-x = settled-x p counted 0 (startOutcome p)
+  began-x = settled-x p limits 0 (startOutcome p)
 
   pub began-s : (i : ℕ) → i < p .counts .n → intAt (begun .s) i ≡ rateOf p (begun .held .q) (begun .held .inputs) i
   unfolding plainStart settled
-  began-s i h = settled-s p counted 0 (startOutcome p) i h ∙ slope-is p (heldStart p) i
+  began-s i h = settled-s p limits 0 (startOutcome p) i h ∙ slope-is p (heldStart p) i
 
   pub began-d : (i : ℕ) → i < p .counts .n → natAt (begun .d) i ≡ dueOf p (begun .held .q) i 0 (intAt (begun .x) i) (intAt (begun .s) i)
   unfolding plainStart settled
-  began-d = settled-d p counted 0 (startOutcome p)
+  began-d = settled-d p limits 0 (startOutcome p)
 
--- ---- one instant
-module _ (p : Plan) (rules : PlanRules p) (m : Plain) where
-  limits : CountLimits p
-  limits = count-limits p (rules .counts)
+  -- ---- one instant
+  module _ (m : Plain) where
+    abbrev t : ℕ
+    t = plainNextTick p m
 
-  abbrev t : ℕ
-  t = plainNextTick p m
+    abbrev then : Plain
+    then = plainInstant p m
 
-  abbrev then : Plain
-  then = plainInstant p m
+    -- 1. outputs
+    pub plain-due : (i : ℕ) → i < p .counts .n → natAt (m .d) i ≡ t → intAt (then .held .q) i ≡ plainPosition p m i
+    unfolding plainInstant settled
+    plain-due = output-due p limits (m .d) t (plainPosition p m) (m .held .q)
 
-  -- 1. outputs
-  pub plain-due : (i : ℕ) → i < p .counts .n → natAt (m .d) i ≡ t → intAt (then .held .q) i ≡ plainPosition p m i
-  unfolding plainInstant settled
-  plain-due = output-due p limits (m .d) t (plainPosition p m) (m .held .q)
+    pub plain-not-woken : (i : ℕ) → i < p .counts .n → (Woken (m .d) t i → ⊥) → intAt (then .held .q) i ≡ intAt (m .held .q) i
+    unfolding plainInstant settled
+    plain-not-woken = output-not-woken p limits (m .d) t (plainPosition p m) (m .held .q)
 
-  pub plain-not-woken : (i : ℕ) → i < p .counts .n → (Woken (m .d) t i → ⊥) → intAt (then .held .q) i ≡ intAt (m .held .q) i
-  unfolding plainInstant settled
-  plain-not-woken = output-not-woken p limits (m .d) t (plainPosition p m) (m .held .q)
+    -- 2. inputs
+    pub plain-set : (j e : ℕ) → j < p .counts .m → e < p .counts .commands → natAt (p .commands .ticks) e ≡ t → natAt (p .commands .inputs) e ≡ j
+        → intAt (then .held .inputs) j ≡ intAt (p .commands .values) e
+    unfolding plainInstant settled
+    plain-set = input-set p rules (m .held .inputs) t
 
-  -- 2. inputs
-  pub plain-set : (j e : ℕ) → j < p .counts .m → e < p .counts .commands → natAt (p .commands .ticks) e ≡ t → natAt (p .commands .inputs) e ≡ j
-      → intAt (then .held .inputs) j ≡ intAt (p .commands .values) e
-  unfolding plainInstant settled
-  plain-set = input-set p rules (m .held .inputs) t
+    pub plain-not-set : (j : ℕ) → j < p .counts .m → ((e : ℕ) → e < p .counts .commands → natAt (p .commands .ticks) e ≡ t → natAt (p .commands .inputs) e ≡ j → ⊥)
+        → intAt (then .held .inputs) j ≡ intAt (m .held .inputs) j
+    unfolding plainInstant settled
+    plain-not-set = input-not-set p rules (m .held .inputs) t
 
-  pub plain-not-set : (j : ℕ) → j < p .counts .m → ((e : ℕ) → e < p .counts .commands → natAt (p .commands .ticks) e ≡ t → natAt (p .commands .inputs) e ≡ j → ⊥)
-      → intAt (then .held .inputs) j ≡ intAt (m .held .inputs) j
-  unfolding plainInstant settled
-  plain-not-set = input-not-set p rules (m .held .inputs) t
+    -- 5. "every integrator moved"
+    pub plain-x : (i : ℕ) → i < p .counts .n → intAt (then .x) i ≡ plainPosition p m i
+    unfolding plainInstant
+    plain-x i h =
+        settled-x p limits t (plainOutcome p m) i h
+        ∙ x-then p limits (woken (isDue (m .d) t)) (placed (plainPosition p m)) (m .held .q) i h ∙ placed-is (plainPosition p m) i
 
-  -- 5. "every integrator moved"
-  pub plain-x : (i : ℕ) → i < p .counts .n → intAt (then .x) i ≡ plainPosition p m i
-  unfolding plainInstant
-  plain-x i h =
-      settled-x p limits t (plainOutcome p m) i h
-      ∙ x-then p limits (woken (isDue (m .d) t)) (placed (plainPosition p m)) (m .held .q) i h ∙ placed-is (plainPosition p m) i
+    pub plain-s : (i : ℕ) → i < p .counts .n → intAt (then .s) i ≡ rateOf p (then .held .q) (then .held .inputs) i
+    unfolding plainInstant settled
+    plain-s i h = settled-s p limits t (plainOutcome p m) i h ∙ slope-is p (plainOutcome p m .held) i
 
-  pub plain-s : (i : ℕ) → i < p .counts .n → intAt (then .s) i ≡ rateOf p (then .held .q) (then .held .inputs) i
-  unfolding plainInstant settled
-  plain-s i h = settled-s p limits t (plainOutcome p m) i h ∙ slope-is p (plainOutcome p m .held) i
-
-  pub plain-d : (i : ℕ) → i < p .counts .n → natAt (then .d) i ≡ dueOf p (then .held .q) i t (intAt (then .x) i) (intAt (then .s) i)
-  unfolding plainInstant settled
-  plain-d = settled-d p limits t (plainOutcome p m)
+    pub plain-d : (i : ℕ) → i < p .counts .n → natAt (then .d) i ≡ dueOf p (then .held .q) i t (intAt (then .x) i) (intAt (then .s) i)
+    unfolding plainInstant settled
+    plain-d = settled-d p limits t (plainOutcome p m)

@@ -14,11 +14,12 @@ use Rattle.plan.specs.Lists.{natAt, intAt}
 use Rattle.plan.specs.Rules.{IntegratorRule}
 use Rattle.plan.specs.declared.Plan.{Plan}
 use Rattle.machine.specs.Values.{slopeMost, slopeLimit}
-use Rattle.machine.specs.Due.{upperLevel, lowerLevel, BetweenLevels, distance, ticksTo, dueTick, dueOf}
+use Rattle.machine.specs.Due.{upperLevel, lowerLevel, distance, ticksTo, dueTick, dueOf}
 use Rattle.machine.specs.Held.{heldOf}
 use Rattle.machine.specs.Instant.{positionAt}
 use Rattle.machine.specs.Runs.{positionOf}
 use Rattle.machine.specs.Laws.SoundClauses.{SoundRunning}
+use Rattle.machine.specs.Laws.BetweenLevels.{BetweenLevels}
 use Rattle.machine.specs.Laws.Due.{due-still, due-moving, slope-cases, distance-positive, ticks-rounded, later-above, later-below}
 use Rattle.machine.specs.Laws.Held.{slope-most}
 use Rattle.machine.specs.Laws.Levels.{inside-size, distance-most, ticks-most}
@@ -72,7 +73,7 @@ module _ (p : Plan) (r : Running) (sound : SoundRunning p r) (i : ℕ) (used : i
 
   -- the due tick of one that moves
   due-soon : (intAt (r .s) i ≡ pos 0 → ⊥) → natAt (r .d) i ≤ 2000000000 + (2 ^ 31 - 1)
-  due-soon m = most (due-is ∙ due-moving _ _ _ _ _ m) (ticks-most p (r .q) i rule output (intAt (r .x) i) inside (intAt (r .s) i))
+  due-soon m = most (due-is ∙ due-moving _ _ _ _ _ m) (ticks-most p (r .q) i rule (intAt (r .x) i) inside (intAt (r .s) i))
     where
       most : {T : ℕ} → natAt (r .d) i ≡ natAt (r .l) i + T → T < 2 ^ 31 → natAt (r .d) i ≤ 2000000000 + (2 ^ 31 - 1)
       most e h = omega (arith, sound .integrators i used .moved, sound .clock, sound .plan .horizon)
@@ -93,7 +94,7 @@ module _ (p : Plan) (r : Running) (sound : SoundRunning p r) (i : ℕ) (used : i
       let x = intAt (r .x) i in let s = intAt (r .s) i in let d = distance x (upperLevel p (r .q) i) (lowerLevel p (r .q) i) s in
       let e = rw due-is at early in
       let move = move-most _ t _ _ _ _ (inside .above) (inside .below) (moved-before t since) e in
-      omega (arith, zs, prod s (pos (t - natAt (r .l) i)), slope-size, distance-most p (r .q) i rule output x inside s, tight d)
+      omega (arith, zs, prod s (pos (t - natAt (r .l) i)), slope-size, distance-most p (r .q) i rule x inside s, tight d)
 
   pub elapsed-size : (t : ℕ) → r .clocks .clock ≤ t → t ≤ natAt (r .d) i → ∣ intAt (r .s) i *ℤ pos (t - natAt (r .l) i) ∣ < 2 ^ 32 + slopeLimit
   elapsed-size t since early = omega (arith, move-size t since early)

@@ -7,10 +7,12 @@ use Rattle.plan.specs.Numbers.{M}
 use Rattle.plan.specs.Lists.{natAt, intAt}
 use Rattle.plan.specs.Rules.{Within, PlanRules}
 use Rattle.plan.specs.Unused.{NatsZeroFrom, IntsZeroFrom, PlanUnusedZero}
+use Rattle.plan.specs.Laws.CountLimits.{CountLimits, count-limits}
 use Rattle.plan.specs.declared.Plan.{Plan}
-use Rattle.machine.specs.Due.{BetweenLevels, dueOf}
+use Rattle.machine.specs.Due.{dueOf}
 use Rattle.machine.specs.Next.{nextCommand}
 use Rattle.machine.specs.Held.{Held, heldOf, slopeOf}
+use Rattle.machine.specs.Laws.BetweenLevels.{BetweenLevels}
 use Rattle.machine.specs.declared.Running.{Running}
 
 -- what stands next, at the clock
@@ -61,3 +63,7 @@ pub record SoundRunning (p : Plan) (r : Running) : Type 0 where
   -- "unused entries are 0"
   pub plan-unused : PlanUnusedZero p
   pub moved-unused : MovedUnusedZero p r
+
+-- how large the counts of its plan are
+pub limits-of : {p : Plan} {r : Running} → SoundRunning p r → CountLimits p
+limits-of {p} ok = count-limits p (ok .plan .counts)

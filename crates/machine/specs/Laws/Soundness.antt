@@ -1,6 +1,7 @@
 -- Laws: an instant leaves a sound state, whoever moves besides those woken or reached. Assumes nothing.
 use mathlib.Core.Path.{_≡_, refl, sym, _∙_}
 use mathlib.Core.Bool.{Bool, true, false, cond, true≢false}
+use mathlib.Core.List.{List}
 use Prim.Native.Nat.{ℕ, suc, _*_, _≤_, _<_}
 use native.Mathlib.Omega.{arith}
 use lib.IntN.{ℤ, pos}
@@ -10,23 +11,23 @@ use Rattle.bitset.specs.Laws.Counts.{countOf-le}
 use Rattle.plan.specs.Numbers.{M, never}
 use Rattle.plan.specs.Lists.{natAt, intAt}
 use Rattle.plan.specs.Laws.Rows.{row-unused}
-use Rattle.plan.specs.Laws.CountLimits.{CountLimits, count-limits}
 use Rattle.plan.specs.declared.Plan.{Plan}
-use Rattle.machine.specs.Due.{BetweenLevels, dueOf}
+use Rattle.machine.specs.Due.{dueOf}
 use Rattle.machine.specs.Held.{heldOf, slopeOf}
-use Rattle.machine.specs.Reach.{isDue, woken, gives, placed}
-use Rattle.machine.specs.Instant.{positionAt, moves, Outcome, dueThen, figuresAfter, outcome, outputsThen, touchedAt, movedAt, nextTickOf, instant}
+use Rattle.machine.specs.Reach.{isDue, woken, gives, placed, touched}
+use Rattle.machine.specs.Instant.{positionAt, moves, Outcome, dueThen, figuresAfter, outcome, movedAt, nextTickOf, instant}
 use Rattle.machine.specs.Status.{runningPaused}
-use Rattle.machine.specs.Laws.SoundClauses.{SoundHeld, SoundIntegrator, SoundRunning}
-use Rattle.machine.specs.Laws.BetweenLevels.{between-itself, between-same}
+use Rattle.machine.specs.Laws.SoundClauses.{SoundHeld, SoundIntegrator, SoundRunning, limits-of}
+use Rattle.machine.specs.Laws.BetweenLevels.{BetweenLevels, between-itself, between-same}
 use Rattle.machine.specs.Laws.Due.{due-ahead}
 use Rattle.machine.specs.Laws.Next.{entries-after, tick-due, tick-above}
 use Rattle.machine.specs.Laws.Status.{tick-horizon, given-size}
+use Rattle.machine.specs.Laws.Positions.{stays-inside}
 use Rattle.machine.specs.Laws.InstantFigures.{outputs-at, output-kept, x-then, x-at, l-at}
 use Rattle.machine.specs.Laws.Unreached.{touched-woken, slope-kept}
 use Rattle.machine.specs.Laws.Woken.{woken-due, placed-kept, placed-size}
 use Rattle.machine.specs.Laws.Held.{held-then}
-use Rattle.machine.specs.Laws.InstantByRule.{Keeps, Covers, between-then, slope-at, due-at, due-by-rule}
+use Rattle.machine.specs.Laws.InstantByRule.{Keeps, Covers, slope-at, due-at, due-by-rule}
 use Rattle.machine.specs.declared.Running.{Running}
 use Rattle.machine.specs.declared.Engine.{Engine}
 use Rattle.machine.specs.declared.Engine.the-variants.{Lazy, Eager}
@@ -42,16 +43,13 @@ pub record Lawful (p : Plan) (r : Running) (t : ℕ) (o : Outcome) : Type 0 wher
   pub slope : (i : ℕ) → i < p .counts .n → o .s i ≡ slopeOf p (o .held) i
 
 module _ (p : Plan) (r : Running) (ok : SoundRunning p r) (t : ℕ) (o : Outcome) (lawful : Lawful p r t o)
-    {woken touched : ℕ → Bool} (keeps : Keeps p r t o woken touched) (moved : ℕ → Bool) (covers : Covers p touched moved) (w : ℕ) where
-  limits : CountLimits p
-  limits = count-limits p (ok .plan .counts)
-
+    {awake touched : ℕ → Bool} (keeps : Keeps p r t o awake touched) (moved : ℕ → Bool) (covers : Covers p touched moved) (w : ℕ) where
   since : r .clocks .clock ≤ t
   since = omega (arith, lawful .after)
 
   -- one that does not move is not woken, and keeps its output
   between-stored : (i : ℕ) → i < p .counts .n → BetweenLevels p (o .held .q) i (intAt (figuresAfter p r t o moved w .x) i)
-  between-stored i h = rw (x-at p limits r t o moved w i h) (go (moved i) refl)
+  between-stored i h = rw (x-at p (limits-of ok) r t o moved w i h) (go (moved i) refl)
     where
       go : (b : Bool) → moved i ≡ b → BetweenLevels p (o .held .q) i (cond b (o .x i) (intAt (r .x) i))
       go true e = lawful .between i h
@@ -70,15 +68,15 @@ module _ (p : Plan) (r : Running) (ok : SoundRunning p r) (t : ℕ) (o : Outcome
   unfolding figuresAfter dueThen dueOf
   integrator-then i h =
       let soon : t < never = omega (arith, lawful .until, ok .plan .horizon .1) in
-      let slope = slope-at p r ok t since o keeps moved covers w i h in
+      let slope = slope-at p r t o keeps moved covers w (limits-of ok) i h in
       let due = due-at p r ok t since o keeps moved covers w i h in
       record {
-        moved = rw (l-at p limits r t o moved w i h) (moved-then i h);
+        moved = rw (l-at p (limits-of ok) r t o moved w i h) (moved-then i h);
         ahead = rw due (due-ahead t _ _ _ _ soon);
         between = between-stored i h;
         slope = slope ∙ lawful .slope i h;
         due =
-            rw (due, x-at p limits r t o moved w i h, l-at p limits r t o moved w i h, slope)
+            rw (due, x-at p (limits-of ok) r t o moved w i h, l-at p (limits-of ok) r t o moved w i h, slope)
             (due-by-rule p r ok t since o keeps moved covers i h);
       }
 
@@ -102,6 +100,10 @@ module _ (p : Plan) (r : Running) (ok : SoundRunning p r) (t : ℕ) (o : Outcome
       }
 
 -- ---- the engines
+-- who is woken or reached at tick t
+abbrev pub touchedAt : (p : Plan) (r : Running) (t : ℕ) → ℕ → Bool
+touchedAt p r t = touched p t (isDue (r .d) t)
+
 -- what an engine leaves alone is neither woken nor reached
 pub covers : (p : Plan) (r : Running) (t : ℕ) (engine : Engine) → Covers p (touchedAt p r t) (movedAt p r t engine)
 unfolding moves
@@ -125,8 +127,8 @@ module _ (p : Plan) (r : Running) (ok : SoundRunning p r) (t : ℕ) where
   abbrev there : ℕ → ℤ
   there = placed (positionAt r t)
 
-  counted : CountLimits p
-  counted = count-limits p (ok .plan .counts)
+  abbrev outputs : List ℤ
+  outputs = outcome p r t .held .q
 
   -- before which nothing is due
   module _ (least : (i : ℕ) → i < p .counts .n → t ≤ natAt (r .d) i) where
@@ -137,19 +139,19 @@ module _ (p : Plan) (r : Running) (ok : SoundRunning p r) (t : ℕ) where
     pub keeps-then : Keeps p r t (outcome p r t) awake (touchedAt p r t)
     keeps-then =
         record {
-          output = output-kept p counted awake there (r .q);
-          place = λ i h e. x-then p counted awake there (r .q) i h ∙ placed-kept due i (positionAt r t) e;
+          output = output-kept p (limits-of ok) awake there (r .q);
+          place = λ i h e. x-then p (limits-of ok) awake there (r .q) i h ∙ placed-kept due i (positionAt r t) e;
           later = not-yet;
           not-woken = λ i h e. touched-woken p t due i e;
-          slope = λ i h e. slope-kept p counted t due (positionAt r t) (heldOf r) i e ∙ sym (ok .integrators i h .slope);
+          slope = λ i h e. slope-kept p (limits-of ok) t due (positionAt r t) (heldOf r) i e ∙ sym (ok .integrators i h .slope);
         }
 
   -- at which an instant is taken
   module _ (takes : Takes p r t) where
-    at-output : (i : ℕ) → i < p .counts .n → intAt (outputsThen p r t) i ≡ cond (awake i) (there i) (intAt (r .q) i)
-    at-output = outputs-at p counted awake there (r .q)
+    at-output : (i : ℕ) → i < p .counts .n → intAt outputs i ≡ cond (awake i) (there i) (intAt (r .q) i)
+    at-output = outputs-at p (limits-of ok) awake there (r .q)
 
-    pub output-size : (i : ℕ) → i < p .counts .n → ∣ intAt (outputsThen p r t) i ∣ ≤ M
+    pub output-size : (i : ℕ) → i < p .counts .n → ∣ intAt outputs i ∣ ≤ M
     output-size i h = rw (at-output i h) (go (awake i) refl)
       where
         go : (b : Bool) → awake i ≡ b → ∣ cond b (there i) (intAt (r .q) i) ∣ ≤ M
@@ -157,15 +159,15 @@ module _ (p : Plan) (r : Running) (ok : SoundRunning p r) (t : ℕ) where
         go false e = ok .held .outputs i h
 
     -- one that is woken stands at its output; the others stay between their levels
-    between-output : (i : ℕ) → i < p .counts .n → BetweenLevels p (outputsThen p r t) i (there i)
+    between-output : (i : ℕ) → i < p .counts .n → BetweenLevels p outputs i (there i)
     between-output i h = go (awake i) refl (at-output i h)
       where
-        go : (b : Bool) → awake i ≡ b → intAt (outputsThen p r t) i ≡ cond b (there i) (intAt (r .q) i) → BetweenLevels p (outputsThen p r t) i (there i)
-        go true e at = between-itself p (outputsThen p r t) i (ok .plan .integrators i h) (there i) at
+        go : (b : Bool) → awake i ≡ b → intAt outputs i ≡ cond b (there i) (intAt (r .q) i) → BetweenLevels p outputs i (there i)
+        go true e at = between-itself p outputs i (ok .plan .integrators i h) (there i) at
         go false e at =
             rw (placed-kept due i (positionAt r t) e)
-            (between-same p (r .q) i (outputsThen p r t) (positionAt r t i) at
-            (between-then p r ok t (omega (arith, takes .after)) i h (not-yet (takes .least) i h e)))
+            (between-same p (r .q) i outputs (positionAt r t i) at
+            (stays-inside p r ok i h t (omega (arith, takes .after)) (not-yet (takes .least) i h e)))
 
     pub lawful-then : Lawful p r t (outcome p r t)
     lawful-then =
@@ -173,7 +175,7 @@ module _ (p : Plan) (r : Running) (ok : SoundRunning p r) (t : ℕ) where
           after = takes .after;
           until = takes .until;
           held = held-then p (ok .plan) (r .clocks .clock) (heldOf r) (ok .held) t due (positionAt r t) (takes .after) output-size;
-          between = λ i h. rw (x-then p counted awake there (r .q) i h) (between-output i h);
+          between = λ i h. rw (x-then p (limits-of ok) awake there (r .q) i h) (between-output i h);
           slope = λ i h. refl;
         }
 

@@ -82,7 +82,7 @@ pub touched-woken : (p : Plan) (t : ℕ) (due : ℕ → Bool) (i : ℕ) → touc
 unfolding touched
 touched-woken p t due i e = or-false (woken due i) _ e .0
 
--- ---- at an instant, by who is due there, where its course takes each integrator, and what was held before
+-- ---- at an instant, by who is due there, the position of each integrator there, and what was held before
 module _ (p : Plan) (limits : CountLimits p) (t : ℕ) (due : ℕ → Bool) (place : ℕ → ℤ) (h : Held) where
   abbrev q : List ℤ
   q = outcomeBy p t due place h .held .q
@@ -90,7 +90,7 @@ module _ (p : Plan) (limits : CountLimits p) (t : ℕ) (due : ℕ → Bool) (pla
   abbrev u : List ℤ
   u = outcomeBy p t due place h .held .inputs
 
-  pub source-kept : (i : ℕ) → changesBy p (woken due) t i ≡ false → valueWith p q u zero i ≡ valueWith p (h .q) (h .inputs) zero i
+  pub source-kept : (i : ℕ) → changesBy p t (woken due) i ≡ false → valueWith p q u zero i ≡ valueWith p (h .q) (h .inputs) zero i
   unfolding changesBy valueWith
   source-kept i = go (ltb i (p .counts .n)) (ltb i (p .counts .n + p .counts .m)) refl refl
     where
@@ -100,8 +100,8 @@ module _ (p : Plan) (limits : CountLimits p) (t : ℕ) (due : ℕ → Bool) (pla
       go false true l k e = input-kept p (h .inputs) t (i - p .counts .n) (limits .m) (omega (arith, ltb-true, ltb-false)) e
       go false false l k e = refl
 
-  pub rate-unreached : (i : ℕ) → reached p (changesBy p (woken due) t) i ≡ false → rateOf p q u i ≡ rateOf p (h .q) (h .inputs) i
-  rate-unreached = rate-kept p (changesBy p (woken due) t) q u (h .q) (h .inputs) source-kept
+  pub rate-unreached : (i : ℕ) → reached p (changesBy p t (woken due)) i ≡ false → rateOf p q u i ≡ rateOf p (h .q) (h .inputs) i
+  rate-unreached = rate-kept p (changesBy p t (woken due)) q u (h .q) (h .inputs) source-kept
 
   -- who is neither woken nor reached keeps its slope
   pub slope-kept : (i : ℕ) → touched p t due i ≡ false → slopeOf p (outcomeBy p t due place h .held) i ≡ slopeOf p h i

@@ -20,7 +20,7 @@ pub gives-means : (d : List ℕ) (t i : ℕ) → Means (gives (isDue d t) i) (na
 unfolding gives isDue
 gives-means d t i = eqb-means (natAt d i) t
 
--- ---- by who is due, and by where its course takes an integrator
+-- ---- by who is due, and by the position of an integrator
 pub woken-is : (due : ℕ → Bool) (i : ℕ) → woken due i ≡ due i
 unfolding woken
 woken-is due i = refl
@@ -48,7 +48,7 @@ unfolding placed
 placed-same place place′ i same = same
 
 module _ (due : ℕ → Bool) (i : ℕ) where
-  -- who is not woken is not due, and is put where its course takes it
+  -- Who is not woken is not due, and is put at its position. Today everyone is (`placed-is`); this is what the laws of an instant ask.
   pub woken-due : woken due i ≡ false → due i ≡ false
   unfolding woken
   woken-due e = e

@@ -82,18 +82,18 @@ pub record Stored (p : Plan) (r : Running) (t : ℕ) (o : Outcome) (moved : ℕ 
   pub place : (i : ℕ) → i < p .counts .n → moved i ≡ true → intAt (m .x) i +ℤ intAt (m .s) i *ℤ pos (t - natAt (m .l) i) ≡ o .x i
   pub kept : (i : ℕ) → i < p .counts .n → moved i ≡ false → figuresAt m i ≡ figuresAt (motion (r .x) (r .s) (r .l) (r .d)) i
 
--- the state's own figures do, where no integrator is due before t and the outcome has each where its course takes it
+-- the state's own figures do, where no integrator is due before t and the outcome has each at its position
 pub own-stored : (p : Plan) (r : Running) → SoundRunning p r → RunningWidths r → (t : ℕ) → r .clocks .clock ≤ t
     → ((i : ℕ) → i < p .counts .n → t ≤ natAt (r .d) i) → (o : Outcome) → ((i : ℕ) → i < p .counts .n → o .x i ≡ positionAt r t i)
     → (moved : ℕ → Bool) → Stored p r t o moved (motion (r .x) (r .s) (r .l) (r .d))
 unfolding positionAt
-own-stored p r sound shaped t since least o on-course moved =
+own-stored p r sound shaped t since least o at-position moved =
     let u = sound .moved-unused in
     record {
       full = record { x = shaped .x; s = shaped .s; l = shaped .l; d = shaped .d };
       unused = λ i h. rw (u .x i h, u .s i h, u .l i h, u .d i h);
       ready = λ i h e. ready-at p r sound t since i h (least i h);
-      place = λ i h e. sym (on-course i h);
+      place = λ i h e. sym (at-position i h);
       kept = λ i h e. refl;
     }
 

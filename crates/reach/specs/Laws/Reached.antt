@@ -172,21 +172,21 @@ module _ (p : Plan) (rules : PlanRules p) where
       high-has : (j : ℕ) → has (entries / 2 ^ 32) j ≡ inEntries own (depends (p .counts .k)) (32 + j)
       high-has j = has-shr entries 32 j ∙ entries-has (32 + j)
 
-      pub touched-mask : entriesOf (reachTable p) mask / 2 ^ 32 ≡ maskOf (λ j. dependsWith p changed (p .counts .k) (p .counts .n + p .counts .m + j)) (p .counts .k)
-      touched-mask =
+      pub dependent-mask : entriesOf (reachTable p) mask / 2 ^ 32 ≡ maskOf (λ j. dependsWith p changed (p .counts .k) (p .counts .n + p .counts .m + j)) (p .counts .k)
+      dependent-mask =
           mask-is (entries / 2 ^ 32) (p .counts .k) (λ j. depends (p .counts .k) (p .counts .n + p .counts .m + j))
           (λ j h. high-has j ∙ own-node (depends (p .counts .k)) j h) (λ j h. high-has j ∙ own-past (depends (p .counts .k)) j h)
 
 -- ---- what the engine hands over: the woken integrators and the commanded inputs, joined
-module _ (p : Plan) (woken : ℕ → Bool) (t : ℕ) where
-  pub changes-inside : (i : ℕ) → p .counts .n + p .counts .m ≤ i → changesBy p woken t i ≡ false
+module _ (p : Plan) (t : ℕ) (awake : ℕ → Bool) where
+  pub changes-inside : (i : ℕ) → p .counts .n + p .counts .m ≤ i → changesBy p t awake i ≡ false
   unfolding changesBy
   changes-inside i h = rw (le-ltb i (p .counts .n) (omega arith), le-ltb i (p .counts .n + p .counts .m) h)
 
-  pub joined-changes : (awake commanded : ℕ) → awake ≡ maskOf woken (p .counts .n) → commanded ≡ maskOf (isCommanded p t) (p .counts .m)
-      → unionShifted awake commanded (p .counts .n) ≡ maskOf (changesBy p woken t) (p .counts .n + p .counts .m)
+  pub joined-changes : (woken commanded : ℕ) → woken ≡ maskOf awake (p .counts .n) → commanded ≡ maskOf (isCommanded p t) (p .counts .m)
+      → unionShifted woken commanded (p .counts .n) ≡ maskOf (changesBy p t awake) (p .counts .n + p .counts .m)
   unfolding changesBy
-  joined-changes awake commanded e f =
+  joined-changes woken commanded e f =
       rw (e, f)
-      (joined-is woken (isCommanded p t) (p .counts .n) (p .counts .m)
+      (joined-is awake (isCommanded p t) (p .counts .n) (p .counts .m)
       ∙ maskOf-ext _ _ (p .counts .n + p .counts .m) (λ i h. rw (lt-ltb i (p .counts .n + p .counts .m) h)))

@@ -28,12 +28,13 @@ use Rattle.machine.specs.Next.{nextCommand}
 use Rattle.machine.specs.Held.{heldOf, slopeOf}
 use Rattle.machine.specs.SoundTest.{heldSound, movedUnusedZero, integratorSound, runningSound}
 use Rattle.machine.specs.Laws.Held.{slope-within}
+use Rattle.machine.specs.Laws.Levels.{levels-apart}
 use Rattle.machine.specs.declared.Running.{Running}
 use Rattle.values.specs.Sources.{valuesOf, outputAndInputValues, NodesReady}
 use Rattle.values.specs.Laws.SourceValues.{nodes-ready, first-sized, values-sized}
 use Rattle.rates.specs.Links.{rangesOf, RatesReady}
 use Rattle.rates.specs.Laws.OwnRange.{own-rated}
-use Rattle.timing.specs.Laws.Dues.{levels-apart, level-ready}
+use Rattle.timing.specs.Laws.Dues.{level-ready}
 use Rattle.unusedentries.specs.Entries.{runningUnusedZeroBy}
 use Rattle.soundintegrators.specs.Figures.{figuresSound, IntegratorsReady}
 use Rattle.soundintegrators.specs.Laws.OneIntegrator.{figuresIn}
@@ -140,6 +141,7 @@ module _ (p : Plan) (r : Running) where
           (count-limits p (rules .counts) .n, own-rated p rules _ (values-sized p (r .q) (r .inputs) rules output-size input-size))
 
       pub figures-ready : leb (r .clocks .clock) (p .horizon) ≡ true → IntegratorsReady (p .counts .n) (p .integrators .quanta) slopes (r .clocks .clock) (r .q)
+      unfolding upperLevel lowerLevel
       figures-ready clock i h =
           let rule = rules .integrators i h in record {
             level = level-ready p (r .q) i rule (output-size i h);

@@ -44,8 +44,8 @@ module _ (p : Plan) (rules : PlanRules p) (t : ℕ) (changed : ℕ → Bool) (q 
   unfolding eventsIn eventsAt
   events-are =
       let limits = count-limits p (rules .counts) in
-      let all : p .counts .n + p .counts .m + (64 - (p .counts .n + p .counts .m)) ≡ 64 = omega arith in
-      ap (joined written) (sym all) ∙ joined-cut written (p .counts .n + p .counts .m) (64 - (p .counts .n + p .counts .m)) (λ i h. rw (mask-above i h))
+      let whole : p .counts .n + p .counts .m + (64 - (p .counts .n + p .counts .m)) ≡ 64 = omega arith in
+      ap (joined written) (sym whole) ∙ joined-cut written (p .counts .n + p .counts .m) (64 - (p .counts .n + p .counts .m)) (λ i h. rw (mask-above i h))
       ∙ joined-ext written (λ i. cond (changed i) (bytesOfEvent t i (valueWith p q u zero i)) []) (p .counts .n + p .counts .m)
       (λ i h. rw (mask-below i h, value i h))
     where

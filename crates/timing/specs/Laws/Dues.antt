@@ -2,39 +2,33 @@
 -- there is document 01's due tick. Assumes nothing.
 use mathlib.Core.Path.{_≡_, refl}
 use mathlib.Core.List.{List}
-use Prim.Native.Nat.{ℕ, _*_, _≤_, _<_}
+use Prim.Native.Nat.{ℕ, _≤_, _<_}
 use native.Mathlib.Omega.{arith}
-use lib.IntN.{ℤ, pos, _+ℤ_, _-ℤ_}
-use lib.Signed.{_≤ℤ_}
+use lib.IntN.{ℤ}
 use Rattle.integers.specs.Parts.{∣_∣}
-use Rattle.integers.specs.Laws.Parts.{sum, dif, tight, zs}
+use Rattle.integers.specs.Laws.Parts.{tight, zs}
 use Rattle.plan.specs.Numbers.{M}
 use Rattle.plan.specs.Lists.{intAt}
 use Rattle.plan.specs.Rules.{IntegratorRule, PlanRules}
 use Rattle.plan.specs.Laws.TestMeanings.{within-size}
 use Rattle.plan.specs.declared.Plan.{Plan}
 use Rattle.machine.specs.Values.{slopeMost}
-use Rattle.machine.specs.Due.{upperLevel, lowerLevel, BetweenLevels, dueTick, dueOf}
+use Rattle.machine.specs.Due.{upperLevel, lowerLevel, dueTick, dueOf}
 use Rattle.machine.specs.Start.{startSlope, startDue}
 use Rattle.machine.specs.Instant.{Outcome, dueThen}
 use Rattle.machine.specs.Laws.SoundClauses.{SoundRunning}
-use Rattle.machine.specs.Laws.BetweenLevels.{between-itself}
+use Rattle.machine.specs.Laws.BetweenLevels.{BetweenLevels, between-itself}
+use Rattle.machine.specs.Laws.Levels.{levels-apart}
 use Rattle.machine.specs.Laws.Held.{start-slope-most, slope-most}
 use Rattle.machine.specs.Laws.Soundness.{Lawful}
 use Rattle.machine.specs.declared.Running.{Running}
 use Rattle.timing.specs.Ticks.{upperIn, lowerIn, LevelReady, DueReady}
 
 -- ---- the levels of an integrator that keeps its rule
-module _ (p : Plan) (q : List ℤ) (i : ℕ) (rule : IntegratorRule p i) where
-  pub levels-apart : (upperIn q (p .integrators .quanta) i -ℤ lowerIn q (p .integrators .quanta) i) ≤ℤ pos (2 * M)
-  levels-apart =
-      let a = intAt q i in let b = intAt (p .integrators .quanta) i in
-      omega (arith, zs, sum a b, dif a b, dif (a +ℤ b) (a -ℤ b), rule .most, tight b)
-
-  pub level-ready : ∣ intAt q i ∣ ≤ M → LevelReady (intAt q i) (intAt (p .integrators .quanta) i)
-  level-ready output =
-      let b = intAt (p .integrators .quanta) i in
-      record { output = output; step = omega (arith, zs, rule .least, rule .most, tight b) }
+pub level-ready : (p : Plan) (q : List ℤ) (i : ℕ) → IntegratorRule p i → ∣ intAt q i ∣ ≤ M → LevelReady (intAt q i) (intAt (p .integrators .quanta) i)
+level-ready p q i rule output =
+    let b = intAt (p .integrators .quanta) i in
+    record { output = output; step = omega (arith, zs, rule .least, rule .most, tight b) }
 
 -- with outputs q, from a tick up to the horizon, for x strictly between the levels, and a slope that is not too large
 due-ready : (p : Plan) → PlanRules p → (q : List ℤ) (from : ℕ) → from ≤ p .horizon → (i : ℕ) → i < p .counts .n

@@ -1,11 +1,11 @@
 -- Laws: the outputs and the input values that are read out of the values of sources are those that these values are of. Assumes nothing.
 use mathlib.Core.Path.{_≡_, _∙_}
 use mathlib.Core.List.{List}
-use Prim.Native.Nat.{ℕ, _+_}
+use Prim.Native.Nat.{_+_}
 use native.Mathlib.Omega.{arith}
 use lib.IntN.{ℤ, pos}
 use lib.ListN.{length}
-use Rattle.plan.specs.Lists.{intAt, row}
+use Rattle.plan.specs.Lists.{intAt}
 use Rattle.plan.specs.Rules.{PlanRules}
 use Rattle.plan.specs.Unused.{IntsZeroFrom}
 use Rattle.plan.specs.Laws.Rows.{row-ext, row-all}

@@ -109,10 +109,10 @@ module _ (p : Plan) (q u : List ℤ) (rules : PlanRules p) where
       (value-settled p q u j (natAt (p .nodes .b) j) (omega arith) (below .1))
       ∙ sym (worked-out p q u rules j h)
 
-  -- from an array that holds the values of integrators and inputs, and of the nodes that are not touched
-  module _ (touched : ℕ → Bool) (values : List ℤ) (full : length values ≡ 64)
+  -- from an array that holds the values of integrators and inputs, and of the nodes that are not worked out anew
+  module _ (anew : ℕ → Bool) (values : List ℤ) (full : length values ≡ 64)
       (sources : (i : ℕ) → i < base → intAt values i ≡ valueWith p q u zero i)
-      (kept : (j : ℕ) → j < p .counts .k → touched j ≡ false → intAt values (base + j) ≡ valueOf p q u (base + j))
+      (kept : (j : ℕ) → j < p .counts .k → anew j ≡ false → intAt values (base + j) ≡ valueOf p q u (base + j))
       (unused : (i : ℕ) → base + p .counts .k ≤ i → intAt values i ≡ pos 0) where
     -- once the first j nodes are visited
     record Visited (j : ℕ) (now : List ℤ) : Type 0 where
@@ -146,7 +146,7 @@ module _ (p : Plan) (q u : List ℤ) (rules : PlanRules p) where
             (v .below (natAt (p .nodes .b) j) (b .1))
             ∙ node-by-operands j h
 
-    passed : (j : ℕ) (now : List ℤ) → j < p .counts .k → touched j ≡ false → Visited j now → Visited (suc j) now
+    passed : (j : ℕ) (now : List ℤ) → j < p .counts .k → anew j ≡ false → Visited j now → Visited (suc j) now
     passed j now h e v =
         record {
           entries = v .entries;
@@ -155,23 +155,23 @@ module _ (p : Plan) (q u : List ℤ) (rules : PlanRules p) where
           above = λ i l. v .above i (omega arith);
         }
 
-    visited : (j : ℕ) → j ≤ p .counts .k → Visited j (each step touched j values)
+    visited : (j : ℕ) → j ≤ p .counts .k → Visited j (each step anew j values)
     unfolding each
     visited zero h = none
-    visited (suc j) h = go (touched j) refl (visited j (omega arith))
+    visited (suc j) h = go (anew j) refl (visited j (omega arith))
       where
-        go : (b : Bool) → touched j ≡ b → Visited j (each step touched j values)
-            → Visited (suc j) (cond b (step j (each step touched j values)) (each step touched j values))
-        go true e v = worked j (each step touched j values) h v
-        go false e v = passed j (each step touched j values) h e v
+        go : (b : Bool) → anew j ≡ b → Visited j (each step anew j values)
+            → Visited (suc j) (cond b (step j (each step anew j values)) (each step anew j values))
+        go true e v = worked j (each step anew j values) h v
+        go false e v = passed j (each step anew j values) h e v
 
     -- every source has its value
-    pub touched-worked : each step touched (p .counts .k) values ≡ valuesOf p q u
-    touched-worked =
+    pub worked-anew : each step anew (p .counts .k) values ≡ valuesOf p q u
+    worked-anew =
         let v = visited (p .counts .k) (omega arith) in
         ext-getD (pos 0) _ (valuesOf p q u) (v .entries ∙ sym (values-length p q u)) (λ i h. go i (ltb i (base + p .counts .k)) refl)
       where
-        go : (i : ℕ) (b : Bool) → ltb i (base + p .counts .k) ≡ b → intAt (each step touched (p .counts .k) values) i ≡ intAt (valuesOf p q u) i
+        go : (i : ℕ) (b : Bool) → ltb i (base + p .counts .k) ≡ b → intAt (each step anew (p .counts .k) values) i ≡ intAt (valuesOf p q u) i
         go i true e = let h = ltb-true i (base + p .counts .k) e in visited (p .counts .k) (omega arith) .below i h ∙ sym (values-at i h)
         go i false e =
             let h = ltb-false i (base + p .counts .k) e in visited (p .counts .k) (omega arith) .above i h ∙ unused i h ∙ sym (values-unused i h)
@@ -179,7 +179,7 @@ module _ (p : Plan) (q u : List ℤ) (rules : PlanRules p) where
   pub all-nodes : each step (λ _. true) (p .counts .k) (outputAndInputValues (p .counts .n) (p .counts .m) q u) ≡ valuesOf p q u
   unfolding outputAndInputValues valueWith
   all-nodes =
-      touched-worked (λ _. true) (outputAndInputValues (p .counts .n) (p .counts .m) q u) (length-row (pos 0) 64 base _) first (λ j h e. absurd (true≢false e))
+      worked-anew (λ _. true) (outputAndInputValues (p .counts .n) (p .counts .m) q u) (length-row (pos 0) 64 base _) first (λ j h e. absurd (true≢false e))
       (λ i h. row-unused (pos 0) 64 base _ i (omega arith))
     where
       first : (i : ℕ) → i < base → intAt (outputAndInputValues (p .counts .n) (p .counts .m) q u) i ≡ valueWith p q u zero i

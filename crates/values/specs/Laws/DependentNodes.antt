@@ -1,6 +1,6 @@
 -- Laws: where some sources change, only the nodes that depend on one of them are worked out anew. The others keep the values that they had
 -- before, and so every source has its new value. Assumes nothing.
-use mathlib.Core.Path.{_≡_, refl, sym, _∙_}
+use mathlib.Core.Path.{_≡_, sym, _∙_}
 use mathlib.Core.Bool.{Bool, false}
 use mathlib.Core.List.{List}
 use Prim.Native.Nat.{ℕ, zero, _+_, _≤_, _<_}
@@ -17,7 +17,7 @@ use Rattle.machine.specs.Reach.{dependsWith}
 use Rattle.machine.specs.Values.{valueWith, valueOf}
 use Rattle.machine.specs.Laws.Unreached.{value-kept}
 use Rattle.values.specs.Sources.{valuesOf, nodeStep}
-use Rattle.values.specs.Laws.SourceValues.{values-at, values-unused, touched-worked}
+use Rattle.values.specs.Laws.SourceValues.{values-at, values-unused, worked-anew}
 
 -- With a set of sources that change; q₀ and u₀ are the outputs and input values before, q and u after. `values` holds the new values of
 -- integrators and inputs, and above them what it held before.
@@ -41,13 +41,11 @@ module _ (p : Plan) (rules : PlanRules p) (changed : ℕ → Bool) (q u q₀ u�
       others (base + j) (omega arith) ∙ values-at p q₀ u₀ rules (base + j) (omega arith)
       ∙ sym (value-kept p changed q u q₀ u₀ same (p .counts .k) (base + j) e)
 
-  pub touched-nodes : (touched : ℕ → Bool) → ((j : ℕ) → j < p .counts .k → touched j ≡ depends j) → each step touched (p .counts .k) values ≡ valuesOf p q u
-  touched-nodes touched test =
-      touched-worked p q u rules touched values full sources (λ j h e. node-kept j h (sym (test j h) ∙ e))
-      (λ i h. others i (omega arith) ∙ values-unused p q₀ u₀ rules i h)
+  nodes-worked : each step depends (p .counts .k) values ≡ valuesOf p q u
+  nodes-worked = worked-anew p q u rules depends values full sources node-kept (λ i h. others i (omega arith) ∙ values-unused p q₀ u₀ rules i h)
 
   -- as the code visits them, by a mask
-  pub touched-mask : (nodes : ℕ) → nodes ≡ maskOf depends (p .counts .k) → each step (has nodes) 32 values ≡ valuesOf p q u
-  touched-mask nodes e =
+  pub dependent-nodes : (nodes : ℕ) → nodes ≡ maskOf depends (p .counts .k) → each step (has nodes) 32 values ≡ valuesOf p q u
+  dependent-nodes nodes e =
       let few = count-limits p (rules .counts) .k in
-      rw e (each-mask step depends (p .counts .k) 32 values (omega arith)) ∙ touched-nodes depends (λ j h. refl)
+      rw e (each-mask step depends (p .counts .k) 32 values (omega arith)) ∙ nodes-worked
