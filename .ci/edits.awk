@@ -1,6 +1,7 @@
-# What an edit file says it shows, as a line for each name: 'function NAME', 'law FILE NAME' or 'definition NAME', then 'bodies N' and 'definitions N'. Fails, with the reason on a
-# line that starts with 'fault', where a replacement has no name of its own, where two wrong bodies are of one function, where two wrong definitions name one law or are of one definition,
-# where a wrong body or definition has no replacement, or where a line is none of those that are read. Definitions that have to change together are named together, with a comma between.
+# What an edit file says it shows, as a line for each name: 'function NAME', 'need FUNCTION NAME', 'law FILE NAME' or 'definition NAME', then 'bodies N' and 'definitions N'. Fails, with
+# the reason on a line that starts with 'fault', where a replacement has no name of its own, where two wrong bodies are of one function and do not name two of its proof's needs, where two
+# wrong definitions name one law or are of one definition, where a wrong body or definition has no replacement, or where a line is none of those that are read. Definitions that have to
+# change together are named together, with a comma between.
 function fault(why) {
     print "fault " why
     failed = 1
@@ -17,7 +18,17 @@ function close_name() {
 function close_body() {
     close_name()
     if (body != "" && own == "") fault("the wrong body " body " has no replacement")
+    if (body != "") close_need()
     if (wrong != "" && (law == "" || definition == "")) fault("the wrong definition " wrong " has no law or no replacement")
+}
+# A function's wrong body names a need where it is not the only one in its file.
+function close_need() {
+    if (own in owners && (need == "" || !(own in needing))) fault("it has two wrong bodies of " own ", and one of them names no need")
+    owners[own] = body
+    if (need == "") return
+    needing[own] = 1
+    if ((own " " need) in needs) fault("two wrong bodies in it name the need " need " of " own)
+    needs[own " " need] = 1
 }
 function title(line) {
     close_body()
@@ -31,7 +42,7 @@ function title(line) {
     body = title($0)
     if (definitions > 0) fault("a wrong definition stands among wrong bodies")
     bodies++
-    own = ""
+    own = need = ""
     next
 }
 /^wrong: / {
@@ -49,6 +60,12 @@ function title(line) {
     laws[law] = 1
     next
 }
+/^need: / {
+    if (body == "" || need != "") fault("a need in it stands under no 'body:', or is the second")
+    need = rest($0)
+    if (need !~ /^[^ ]+$/) fault("a need's name in it is none")
+    next
+}
 /^function: / {
     close_name()
     name = rest($0)
@@ -56,9 +73,7 @@ function title(line) {
     if (name !~ /^[A-Za-z_][A-Za-z0-9_]*(::[A-Za-z_][A-Za-z0-9_]*)*$/) fault("a function's name in it is none")
     if (body == "") fault("the function " name " stands under no 'body:'")
     if (own != "" && own != name) fault("the wrong body " body " is of two functions, " own " and " name)
-    if (own == "" && name in owners) fault("it has two wrong bodies of " name)
     own = name
-    owners[name] = body
     next
 }
 /^definition: / {
@@ -94,7 +109,8 @@ END {
     if (failed) exit 1
     if (names == 0) fault("it names nothing")
     if (failed) exit 1
-    for (name in owners) print "function " name
+    for (name in owners) if (!(name in needing)) print "function " name
+    for (name in needs) print "need " name
     for (name in laws) print "law " name
     if (single != "") {
         print "definition " single

@@ -3,7 +3,7 @@ use borrow.Author.Tests.{lt-ltb, le-ltb, le-leb, lt-leb}
 use lib.Dec.{eqb, lit<}
 use mathlib.Core.Bool.{Bool, true, false}
 use mathlib.Core.List.{List}
-use mathlib.Core.Path.{_≡_, refl, ap}
+use mathlib.Core.Path.{_≡_, ap, _∙_}
 use mir.Facts.{toZ-ofZ}
 use Rattle.soundintegrators.specs.Figures.{figuresSound}
 use Rattle.unusedentries.specs.Laws.EarlyReturns.{passes, Passed, begin, next, passed-at, fails, last}
@@ -20,59 +20,68 @@ all-of : (c : tie.Start) → let a = c .args in passes (tests c) 6 ≡ figuresSo
 all-of c = let a = c .args in figure-tests (a .upper) (a .lower) (a .slope) (a .clock) (a .x) (a .s) (a .l) (a .d)
 
 returns : tie.Need-returns
-returns c = fails (begin tests (c .before)) all-of (lit< tt) (lt-leb _ _ (c .if1 .taken))
+returns c = let s = c .before in fails (tests s) 0 (lit< tt) (lt-leb _ _ (c .if1 .taken)) ∙ all-of s
 
--- behind each test
-abbrev passed1 : tie.Else1 → Passed tests 1
-passed1 c = next (begin tests (c .before)) (le-leb _ _ (c .if1 .left))
+-- behind each test: the function's entry, and that the tests up to this one have passed
+abbrev entry1 : tie.Else1 → tie.Start
+entry1 c = c .before
+
+passed1 : (c : tie.Else1) → Passed (tests (entry1 c)) 1
+passed1 c = next (begin (tests (entry1 c))) (le-leb _ _ (c .if1 .left))
 
 returns-2 : tie.Need-returns-2
-returns-2 c = fails (passed1 (c .before)) all-of (lit< tt) (le-ltb _ _ (c .if2 .taken))
+returns-2 c = let s = entry1 (c .before) in fails (tests s) 1 (lit< tt) (le-ltb _ _ (c .if2 .taken)) ∙ all-of s
 
-abbrev passed2 : tie.Else2 → Passed tests 2
+abbrev entry2 : tie.Else2 → tie.Start
+entry2 c = entry1 (c .before)
+
+passed2 : (c : tie.Else2) → Passed (tests (entry2 c)) 2
 passed2 c = next (passed1 (c .before)) (lt-ltb _ _ (c .if2 .left))
 
 returns-3 : tie.Need-returns-3
 returns-3 c =
-    let f = c .before .before .before .fits in
-    fails (passed2 (c .before)) all-of (lit< tt) (above-lower (f .x) (f .lower) true (c .if3 .taken))
+    let s = entry2 (c .before) in let f = s .fits in
+    fails (tests s) 2 (lit< tt) (above-lower (f .x) (f .lower) true (c .if3 .taken)) ∙ all-of s
 
-abbrev passed3 : tie.Else3 → Passed tests 3
-passed3 c =
-    let f = c .before .before .before .fits in
-    next (passed2 (c .before)) (above-lower (f .x) (f .lower) false (c .if3 .left))
+abbrev entry3 : tie.Else3 → tie.Start
+entry3 c = entry2 (c .before)
+
+passed3 : (c : tie.Else3) → Passed (tests (entry3 c)) 3
+passed3 c = let f = entry3 c .fits in next (passed2 (c .before)) (above-lower (f .x) (f .lower) false (c .if3 .left))
 
 returns-4 : tie.Need-returns-4
 returns-4 c =
-    let f = c .before .before .before .before .fits in
-    fails (passed3 (c .before)) all-of (lit< tt) (below-upper (f .x) (f .upper) true (c .if4 .taken))
+    let s = entry3 (c .before) in let f = s .fits in
+    fails (tests s) 3 (lit< tt) (below-upper (f .x) (f .upper) true (c .if4 .taken)) ∙ all-of s
 
-abbrev passed4 : tie.Else4 → Passed tests 4
-passed4 c =
-    let f = c .before .before .before .before .fits in
-    next (passed3 (c .before)) (below-upper (f .x) (f .upper) false (c .if4 .left))
+abbrev entry4 : tie.Else4 → tie.Start
+entry4 c = entry3 (c .before)
+
+passed4 : (c : tie.Else4) → Passed (tests (entry4 c)) 4
+passed4 c = let f = entry4 c .fits in next (passed3 (c .before)) (below-upper (f .x) (f .upper) false (c .if4 .left))
 
 returns-5 : tie.Need-returns-5
 returns-5 c =
-    let a = c .before .before .before .before .before .args in
-    fails (passed4 (c .before)) all-of (lit< tt) (other-slope (a .s) (a .slope) (c .if5 .taken))
+    let s = entry4 (c .before) in let a = s .args in
+    fails (tests s) 4 (lit< tt) (other-slope (a .s) (a .slope) (c .if5 .taken)) ∙ all-of s
 
-abbrev passed5 : tie.Else5 → Passed tests 5
-passed5 c =
-    let f = c .before .before .before .before .before .fits in
-    next (passed4 (c .before)) (same-slope (f .s) (f .slope) (c .if5 .left))
+abbrev entry5 : tie.Else5 → tie.Start
+entry5 c = entry4 (c .before)
+
+passed5 : (c : tie.Else5) → Passed (tests (entry5 c)) 5
+passed5 c = let f = entry5 c .fits in next (passed4 (c .before)) (same-slope (f .s) (f .slope) (c .if5 .left))
 
 due-tick-requires : tie.Need-due-tick-requires
 due-tick-requires c κs =
-    let s = c .before .before .before .before .before in let f = s .fits in let p = passed5 c in
+    let s = entry5 c in let f = s .fits in let p = passed5 c in
     rw (toZ-ofZ (f .x), toZ-ofZ (f .upper), toZ-ofZ (f .lower), toZ-ofZ (f .s))
     (due-ready (s .pre) _ _ _ (passed-at p 0 (lit< tt)) (passed-at p 2 (lit< tt)) (passed-at p 3 (lit< tt)) (passed-at p 4 (lit< tt)))
 
 returns-6 : tie.Need-returns-6
 returns-6 c =
-    let s = c .before .before .before .before .before .before in let f = s .fits in
+    let s = entry5 (c .before) in let f = s .fits in
     let due = rw (toZ-ofZ (f .x), toZ-ofZ (f .upper), toZ-ofZ (f .lower), toZ-ofZ (f .s)) at (c .due-tick .ensures) in
-    last (passed5 (c .before)) all-of refl (ap (eqb (s .args .d)) due)
+    last (passed5 (c .before)) (ap (eqb (s .args .d)) due) ∙ all-of s
 
 pub figures-sound-spec : {M : Type 1} → statement M
 figures-sound-spec =

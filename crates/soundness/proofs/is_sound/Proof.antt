@@ -3,7 +3,7 @@ use borrow.Author.Needs.{needs}
 use lib.Dec.{lit<}
 use mathlib.Core.Bool.{Bool, _&&_, and-eq-true-iff}
 use mathlib.Core.List.{List, [], _∷_}
-use mathlib.Core.Path.{_≡_, refl}
+use mathlib.Core.Path.{_≡_, refl, _∙_}
 use Rattle.plan.specs.Lists.{every}
 use Rattle.plan.specs.Tests.{countsKept}
 use Rattle.plan.specs.Refusals.{isClean, planFinding}
@@ -26,26 +26,31 @@ all-of c = refl
 
 -- The first two calls are found and not named, so that exchanging them fails on what they answer.
 returns : tie.Need-returns
-returns c = fails (begin tests (c .before .before .before)) all-of (lit< tt) (search (needs, failed))
+returns c = let s = c .before .before .before in fails (tests s) 0 (lit< tt) (search (needs, failed)) ∙ all-of s
 
--- behind each test
-abbrev passed1 : tie.Else1 → Passed tests 1
-passed1 c = next (begin tests (c .before .before .before)) (search (needs, held))
+-- behind each test: the function's entry, and that the tests up to this one have passed
+abbrev entry1 : tie.Else1 → tie.Start
+entry1 c = c .before .before .before
+
+passed1 : (c : tie.Else1) → Passed (tests (entry1 c)) 1
+passed1 c = next (begin (tests (entry1 c))) (search (needs, held))
 
 returns-2 : tie.Need-returns-2
-returns-2 c = fails (passed1 (c .before .before)) all-of (lit< tt) (search (needs, failed))
+returns-2 c = let s = entry1 (c .before .before) in fails (tests s) 1 (lit< tt) (search (needs, failed)) ∙ all-of s
 
-abbrev passed2 : tie.Else2 → Passed tests 2
+abbrev entry2 : tie.Else2 → tie.Start
+entry2 c = entry1 (c .before .before)
+
+passed2 : (c : tie.Else2) → Passed (tests (entry2 c)) 2
 passed2 c = next (passed1 (c .before .before)) (search (needs, held))
 
 running-sound-requires : tie.Need-running-sound-requires
 running-sound-requires c κs =
-    let p = passed2 (c .before) in
-    let plan = p .entry .args .state .plan in
-    plan-rules plan .0 (and-eq-true-iff (countsKept plan) (isClean (planFinding plan)) .0 (passed-at p 0 (lit< tt)))
+    let plan = entry2 (c .before) .args .state .plan in
+    plan-rules plan .0 (and-eq-true-iff (countsKept plan) (isClean (planFinding plan)) .0 (passed-at (passed2 (c .before)) 0 (lit< tt)))
 
 returns-3 : tie.Need-returns-3
-returns-3 c = last (passed2 (c .before .before)) all-of refl (c .running-sound .ensures)
+returns-3 c = let e = c .before .before in last (passed2 e) (c .running-sound .ensures) ∙ all-of (entry2 e)
 
 pub is-sound-spec : {M : Type 1} → statement M
 is-sound-spec = tie.close (tie.spec (λ c κs. search needs) returns (λ c κs. search needs) returns-2 running-sound-requires returns-3)

@@ -3,7 +3,7 @@ use borrow.Author.Needs.{needs}
 use lib.Dec.{lit<}
 use mathlib.Core.Bool.{Bool}
 use mathlib.Core.List.{List, [], _∷_}
-use mathlib.Core.Path.{_≡_, refl}
+use mathlib.Core.Path.{_≡_, refl, _∙_}
 use Rattle.plan.specs.Lists.{every}
 use Rattle.plan.specs.Unused.{natsZeroFrom, intsZeroFrom, planUnusedZero}
 use Rattle.entryrules.specs.Laws.Testing.{held, failed}
@@ -30,20 +30,26 @@ signed-zero-from-requires c κs = search needs
 
 returns : tie.Need-returns
 returns c =
-    fails (begin tests (c .before .before .before .before .before)) all-of (lit< tt) (failed (c .before .signed-zero-from .ensures) (c .if1 .taken))
+    let s = c .before .before .before .before .before in fails (tests s) 0 (lit< tt) (failed (c .before .signed-zero-from .ensures) (c .if1 .taken)) ∙ all-of s
 
--- behind each test
-abbrev passed1 : tie.Else1 → Passed tests 1
-passed1 c = next (begin tests (c .before .before .before .before .before)) (held (c .before .signed-zero-from .ensures) (c .if1 .left))
+-- behind each test: the function's entry, and that the tests up to this one have passed
+abbrev entry1 : tie.Else1 → tie.Start
+entry1 c = c .before .before .before .before .before
+
+passed1 : (c : tie.Else1) → Passed (tests (entry1 c)) 1
+passed1 c = next (begin (tests (entry1 c))) (held (c .before .signed-zero-from .ensures) (c .if1 .left))
 
 signed-zero-from-requires-2 : tie.Need-signed-zero-from-requires-2
 signed-zero-from-requires-2 c κs = search needs
 
 returns-2 : tie.Need-returns-2
 returns-2 c =
-    fails (passed1 (c .before .before .before .before .before)) all-of (lit< tt) (failed (c .before .signed-zero-from2 .ensures) (c .if2 .taken))
+    let s = entry1 (c .before .before .before .before .before) in fails (tests s) 1 (lit< tt) (failed (c .before .signed-zero-from2 .ensures) (c .if2 .taken)) ∙ all-of s
 
-abbrev passed2 : tie.Else2 → Passed tests 2
+abbrev entry2 : tie.Else2 → tie.Start
+entry2 c = entry1 (c .before .before .before .before .before)
+
+passed2 : (c : tie.Else2) → Passed (tests (entry2 c)) 2
 passed2 c = next (passed1 (c .before .before .before .before .before)) (held (c .before .signed-zero-from2 .ensures) (c .if2 .left))
 
 signed-zero-from-requires-3 : tie.Need-signed-zero-from-requires-3
@@ -51,9 +57,12 @@ signed-zero-from-requires-3 c κs = search needs
 
 returns-3 : tie.Need-returns-3
 returns-3 c =
-    fails (passed2 (c .before .before .before .before .before)) all-of (lit< tt) (failed (c .before .signed-zero-from3 .ensures) (c .if3 .taken))
+    let s = entry2 (c .before .before .before .before .before) in fails (tests s) 2 (lit< tt) (failed (c .before .signed-zero-from3 .ensures) (c .if3 .taken)) ∙ all-of s
 
-abbrev passed3 : tie.Else3 → Passed tests 3
+abbrev entry3 : tie.Else3 → tie.Start
+entry3 c = entry2 (c .before .before .before .before .before)
+
+passed3 : (c : tie.Else3) → Passed (tests (entry3 c)) 3
 passed3 c = next (passed2 (c .before .before .before .before .before)) (held (c .before .signed-zero-from3 .ensures) (c .if3 .left))
 
 numbers-zero-from-requires : tie.Need-numbers-zero-from-requires
@@ -61,9 +70,12 @@ numbers-zero-from-requires c κs = search needs
 
 returns-4 : tie.Need-returns-4
 returns-4 c =
-    fails (passed3 (c .before .before .before .before .before)) all-of (lit< tt) (failed (c .before .numbers-zero-from .ensures) (c .if4 .taken))
+    let s = entry3 (c .before .before .before .before .before) in fails (tests s) 3 (lit< tt) (failed (c .before .numbers-zero-from .ensures) (c .if4 .taken)) ∙ all-of s
 
-abbrev passed4 : tie.Else4 → Passed tests 4
+abbrev entry4 : tie.Else4 → tie.Start
+entry4 c = entry3 (c .before .before .before .before .before)
+
+passed4 : (c : tie.Else4) → Passed (tests (entry4 c)) 4
 passed4 c = next (passed3 (c .before .before .before .before .before)) (held (c .before .numbers-zero-from .ensures) (c .if4 .left))
 
 numbers-zero-from-requires-2 : tie.Need-numbers-zero-from-requires-2
@@ -71,9 +83,12 @@ numbers-zero-from-requires-2 c κs = search needs
 
 returns-5 : tie.Need-returns-5
 returns-5 c =
-    fails (passed4 (c .before .before .before .before .before)) all-of (lit< tt) (failed (c .before .numbers-zero-from2 .ensures) (c .if5 .taken))
+    let s = entry4 (c .before .before .before .before .before) in fails (tests s) 4 (lit< tt) (failed (c .before .numbers-zero-from2 .ensures) (c .if5 .taken)) ∙ all-of s
 
-abbrev passed5 : tie.Else5 → Passed tests 5
+abbrev entry5 : tie.Else5 → tie.Start
+entry5 c = entry4 (c .before .before .before .before .before)
+
+passed5 : (c : tie.Else5) → Passed (tests (entry5 c)) 5
 passed5 c = next (passed4 (c .before .before .before .before .before)) (held (c .before .numbers-zero-from2 .ensures) (c .if5 .left))
 
 numbers-zero-from-requires-3 : tie.Need-numbers-zero-from-requires-3
@@ -81,9 +96,12 @@ numbers-zero-from-requires-3 c κs = search needs
 
 returns-6 : tie.Need-returns-6
 returns-6 c =
-    fails (passed5 (c .before .before .before .before .before)) all-of (lit< tt) (failed (c .before .numbers-zero-from3 .ensures) (c .if6 .taken))
+    let s = entry5 (c .before .before .before .before .before) in fails (tests s) 5 (lit< tt) (failed (c .before .numbers-zero-from3 .ensures) (c .if6 .taken)) ∙ all-of s
 
-abbrev passed6 : tie.Else6 → Passed tests 6
+abbrev entry6 : tie.Else6 → tie.Start
+entry6 c = entry5 (c .before .before .before .before .before)
+
+passed6 : (c : tie.Else6) → Passed (tests (entry6 c)) 6
 passed6 c = next (passed5 (c .before .before .before .before .before)) (held (c .before .numbers-zero-from3 .ensures) (c .if6 .left))
 
 signed-zero-from-requires-4 : tie.Need-signed-zero-from-requires-4
@@ -91,9 +109,12 @@ signed-zero-from-requires-4 c κs = search needs
 
 returns-7 : tie.Need-returns-7
 returns-7 c =
-    fails (passed6 (c .before .before .before .before .before)) all-of (lit< tt) (failed (c .before .signed-zero-from4 .ensures) (c .if7 .taken))
+    let s = entry6 (c .before .before .before .before .before) in fails (tests s) 6 (lit< tt) (failed (c .before .signed-zero-from4 .ensures) (c .if7 .taken)) ∙ all-of s
 
-abbrev passed7 : tie.Else7 → Passed tests 7
+abbrev entry7 : tie.Else7 → tie.Start
+entry7 c = entry6 (c .before .before .before .before .before)
+
+passed7 : (c : tie.Else7) → Passed (tests (entry7 c)) 7
 passed7 c = next (passed6 (c .before .before .before .before .before)) (held (c .before .signed-zero-from4 .ensures) (c .if7 .left))
 
 signed-zero-from-requires-5 : tie.Need-signed-zero-from-requires-5
@@ -101,9 +122,12 @@ signed-zero-from-requires-5 c κs = search needs
 
 returns-8 : tie.Need-returns-8
 returns-8 c =
-    fails (passed7 (c .before .before .before .before .before)) all-of (lit< tt) (failed (c .before .signed-zero-from5 .ensures) (c .if8 .taken))
+    let s = entry7 (c .before .before .before .before .before) in fails (tests s) 7 (lit< tt) (failed (c .before .signed-zero-from5 .ensures) (c .if8 .taken)) ∙ all-of s
 
-abbrev passed8 : tie.Else8 → Passed tests 8
+abbrev entry8 : tie.Else8 → tie.Start
+entry8 c = entry7 (c .before .before .before .before .before)
+
+passed8 : (c : tie.Else8) → Passed (tests (entry8 c)) 8
 passed8 c = next (passed7 (c .before .before .before .before .before)) (held (c .before .signed-zero-from5 .ensures) (c .if8 .left))
 
 numbers-zero-from-requires-4 : tie.Need-numbers-zero-from-requires-4
@@ -111,9 +135,12 @@ numbers-zero-from-requires-4 c κs = search needs
 
 returns-9 : tie.Need-returns-9
 returns-9 c =
-    fails (passed8 (c .before .before .before .before .before)) all-of (lit< tt) (failed (c .before .numbers-zero-from4 .ensures) (c .if9 .taken))
+    let s = entry8 (c .before .before .before .before .before) in fails (tests s) 8 (lit< tt) (failed (c .before .numbers-zero-from4 .ensures) (c .if9 .taken)) ∙ all-of s
 
-abbrev passed9 : tie.Else9 → Passed tests 9
+abbrev entry9 : tie.Else9 → tie.Start
+entry9 c = entry8 (c .before .before .before .before .before)
+
+passed9 : (c : tie.Else9) → Passed (tests (entry9 c)) 9
 passed9 c = next (passed8 (c .before .before .before .before .before)) (held (c .before .numbers-zero-from4 .ensures) (c .if9 .left))
 
 numbers-zero-from-requires-5 : tie.Need-numbers-zero-from-requires-5
@@ -121,9 +148,12 @@ numbers-zero-from-requires-5 c κs = search needs
 
 returns-10 : tie.Need-returns-10
 returns-10 c =
-    fails (passed9 (c .before .before .before .before .before)) all-of (lit< tt) (failed (c .before .numbers-zero-from5 .ensures) (c .if10 .taken))
+    let s = entry9 (c .before .before .before .before .before) in fails (tests s) 9 (lit< tt) (failed (c .before .numbers-zero-from5 .ensures) (c .if10 .taken)) ∙ all-of s
 
-abbrev passed10 : tie.Else10 → Passed tests 10
+abbrev entry10 : tie.Else10 → tie.Start
+entry10 c = entry9 (c .before .before .before .before .before)
+
+passed10 : (c : tie.Else10) → Passed (tests (entry10 c)) 10
 passed10 c = next (passed9 (c .before .before .before .before .before)) (held (c .before .numbers-zero-from5 .ensures) (c .if10 .left))
 
 signed-zero-from-requires-6 : tie.Need-signed-zero-from-requires-6
@@ -131,9 +161,12 @@ signed-zero-from-requires-6 c κs = search needs
 
 returns-11 : tie.Need-returns-11
 returns-11 c =
-    fails (passed10 (c .before .before .before .before .before)) all-of (lit< tt) (failed (c .before .signed-zero-from6 .ensures) (c .if11 .taken))
+    let s = entry10 (c .before .before .before .before .before) in fails (tests s) 10 (lit< tt) (failed (c .before .signed-zero-from6 .ensures) (c .if11 .taken)) ∙ all-of s
 
-abbrev passed11 : tie.Else11 → Passed tests 11
+abbrev entry11 : tie.Else11 → tie.Start
+entry11 c = entry10 (c .before .before .before .before .before)
+
+passed11 : (c : tie.Else11) → Passed (tests (entry11 c)) 11
 passed11 c = next (passed10 (c .before .before .before .before .before)) (held (c .before .signed-zero-from6 .ensures) (c .if11 .left))
 
 ticks-zero-from-requires : tie.Need-ticks-zero-from-requires
@@ -141,9 +174,12 @@ ticks-zero-from-requires c κs = search needs
 
 returns-12 : tie.Need-returns-12
 returns-12 c =
-    fails (passed11 (c .before .before .before .before .before)) all-of (lit< tt) (failed (c .before .ticks-zero-from .ensures) (c .if12 .taken))
+    let s = entry11 (c .before .before .before .before .before) in fails (tests s) 11 (lit< tt) (failed (c .before .ticks-zero-from .ensures) (c .if12 .taken)) ∙ all-of s
 
-abbrev passed12 : tie.Else12 → Passed tests 12
+abbrev entry12 : tie.Else12 → tie.Start
+entry12 c = entry11 (c .before .before .before .before .before)
+
+passed12 : (c : tie.Else12) → Passed (tests (entry12 c)) 12
 passed12 c = next (passed11 (c .before .before .before .before .before)) (held (c .before .ticks-zero-from .ensures) (c .if12 .left))
 
 numbers-zero-from-requires-6 : tie.Need-numbers-zero-from-requires-6
@@ -151,16 +187,19 @@ numbers-zero-from-requires-6 c κs = search needs
 
 returns-13 : tie.Need-returns-13
 returns-13 c =
-    fails (passed12 (c .before .before .before .before .before)) all-of (lit< tt) (failed (c .before .numbers-zero-from6 .ensures) (c .if13 .taken))
+    let s = entry12 (c .before .before .before .before .before) in fails (tests s) 12 (lit< tt) (failed (c .before .numbers-zero-from6 .ensures) (c .if13 .taken)) ∙ all-of s
 
-abbrev passed13 : tie.Else13 → Passed tests 13
+abbrev entry13 : tie.Else13 → tie.Start
+entry13 c = entry12 (c .before .before .before .before .before)
+
+passed13 : (c : tie.Else13) → Passed (tests (entry13 c)) 13
 passed13 c = next (passed12 (c .before .before .before .before .before)) (held (c .before .numbers-zero-from6 .ensures) (c .if13 .left))
 
 signed-zero-from-requires-7 : tie.Need-signed-zero-from-requires-7
 signed-zero-from-requires-7 c κs = search needs
 
 returns-14 : tie.Need-returns-14
-returns-14 c = last (passed13 (c .before .before .before .before)) all-of refl (c .signed-zero-from7 .ensures)
+returns-14 c = let e = c .before .before .before .before in last (passed13 e) (c .signed-zero-from7 .ensures) ∙ all-of (entry13 e)
 
 pub plan-unused-zero-spec : {M : Type 1} → statement M
 plan-unused-zero-spec =

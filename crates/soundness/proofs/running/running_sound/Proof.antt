@@ -4,7 +4,7 @@ use borrow.Author.Tests.{le-leb, lt-leb, eq-eqb, ne-eqb}
 use lib.Dec.{lit<}
 use mathlib.Core.Bool.{Bool}
 use mathlib.Core.List.{List}
-use mathlib.Core.Path.{_≡_, refl, sym, _∙_}
+use mathlib.Core.Path.{_≡_, sym, _∙_}
 use native.Mathlib.Omega.{arith}
 use Rattle.plan.specs.Lists.{every}
 use Rattle.plan.specs.Laws.CountLimits.{count-limits}
@@ -38,134 +38,165 @@ all-of : (c : tie.Start) → passes (tests c) 8 ≡ runningSound (plan c) (run c
 all-of c = running-tests (plan c) (run c)
 
 returns : tie.Need-returns
-returns c = fails (begin tests (c .before)) all-of (lit< tt) (lt-leb _ _ (c .if1 .taken))
+returns c = let s = c .before in fails (tests s) 0 (lit< tt) (lt-leb _ _ (c .if1 .taken)) ∙ all-of s
 
--- behind each test
-abbrev passed1 : tie.Else1 → Passed tests 1
-passed1 c = next (begin tests (c .before)) (le-leb _ _ (c .if1 .left))
+-- behind each test: the function's entry, and that the tests up to this one have passed
+abbrev entry1 : tie.Else1 → tie.Start
+entry1 c = c .before
+
+passed1 : (c : tie.Else1) → Passed (tests (entry1 c)) 1
+passed1 c = next (begin (tests (entry1 c))) (le-leb _ _ (c .if1 .left))
 
 values-within-m-requires : tie.Need-values-within-m-requires
 values-within-m-requires c κs =
     let s = c .before .before .before .before in omega (arith, c .values-within-m-arg2 .given .0, count-limits (plan s) (s .pre .counts))
 
 returns-2 : tie.Need-returns-2
-returns-2 c = fails (passed1 (c .before .before .before .before .before)) all-of (lit< tt) (failed (c .before .values-within-m .ensures) (c .if2 .taken))
+returns-2 c =
+    let s = entry1 (c .before .before .before .before .before) in
+    fails (tests s) 1 (lit< tt) (failed (c .before .values-within-m .ensures) (c .if2 .taken)) ∙ all-of s
 
-abbrev passed2 : tie.Else2 → Passed tests 2
+abbrev entry2 : tie.Else2 → tie.Start
+entry2 c = entry1 (c .before .before .before .before .before)
+
+passed2 : (c : tie.Else2) → Passed (tests (entry2 c)) 2
 passed2 c = next (passed1 (c .before .before .before .before .before)) (held (c .before .values-within-m .ensures) (c .if2 .left))
 
 values-within-m-requires-2 : tie.Need-values-within-m-requires-2
 values-within-m-requires-2 c κs =
-    let s = passed2 (c .before .before .before) .entry in omega (arith, c .values-within-m-arg4 .given .0, count-limits (plan s) (s .pre .counts))
+    let s = entry2 (c .before .before .before) in omega (arith, c .values-within-m-arg4 .given .0, count-limits (plan s) (s .pre .counts))
 
 returns-3 : tie.Need-returns-3
-returns-3 c = fails (passed2 (c .before .before .before .before .before)) all-of (lit< tt) (failed (c .before .values-within-m2 .ensures) (c .if3 .taken))
+returns-3 c =
+    let s = entry2 (c .before .before .before .before .before) in
+    fails (tests s) 2 (lit< tt) (failed (c .before .values-within-m2 .ensures) (c .if3 .taken)) ∙ all-of s
 
-abbrev passed3 : tie.Else3 → Passed tests 3
+abbrev entry3 : tie.Else3 → tie.Start
+entry3 c = entry2 (c .before .before .before .before .before)
+
+passed3 : (c : tie.Else3) → Passed (tests (entry3 c)) 3
 passed3 c = next (passed2 (c .before .before .before .before .before)) (held (c .before .values-within-m2 .ensures) (c .if3 .left))
 
--- the same where the rates and what they are made of have been worked out, and the integrators tested
-abbrev passed-values : tie.After-source-values → Passed tests 3
-passed-values c = passed3 (c .before .before .before .before .before .before .before .before .before .before)
+-- ---- places: from behind each call of the rates to behind the third test
+abbrev before-values : tie.After-source-values → tie.Else3
+before-values c = c .before .before .before .before .before .before .before .before .before .before
 
-abbrev passed-ranges : tie.After-link-ranges → Passed tests 3
-passed-ranges c = passed-values (c .before .before .before)
+abbrev before-ranges : tie.After-link-ranges → tie.Else3
+before-ranges c = before-values (c .before .before .before)
 
-abbrev passed-rates : tie.After-rates → Passed tests 3
-passed-rates c = passed-ranges (c .before .before .before .before .before .before)
+abbrev before-rates : tie.After-rates → tie.Else3
+before-rates c = before-ranges (c .before .before .before .before .before .before)
 
-abbrev passed-integrators : tie.After-integrators-sound → Passed tests 3
-passed-integrators c = passed-rates (c .before .before .before .before .before .before .before .before .before .before)
+abbrev before-integrators : tie.After-integrators-sound → tie.Else3
+before-integrators c = before-rates (c .before .before .before .before .before .before .before .before .before .before)
 
 -- ---- the rates
 source-values-requires : tie.Need-source-values-requires
 source-values-requires c κs =
-    let p = passed3 (c .before .before .before .before .before .before .before .before .before) in let s = p .entry in
-    sources-ready (plan s) (run s) (s .pre) (passed-at p 1 (lit< tt)) (passed-at p 2 (lit< tt))
+    let e = c .before .before .before .before .before .before .before .before .before in let s = entry3 e in
+    sources-ready (plan s) (run s) (s .pre) (passed-at (passed3 e) 1 (lit< tt)) (passed-at (passed3 e) 2 (lit< tt))
 
-values-are : (c : tie.After-source-values) → let s = passed-values c .entry in
+values-are : (c : tie.After-source-values) → let s = entry3 (before-values c) in
     c .source-values .result ≡ valuesOf (plan s) (run s .q) (run s .inputs)
 values-are c =
-    let s = passed-values c .entry in c .source-values .ensures ∙ all-nodes (plan s) (run s .q) (run s .inputs) (s .pre)
+    let s = entry3 (before-values c) in c .source-values .ensures ∙ all-nodes (plan s) (run s .q) (run s .inputs) (s .pre)
 
 link-ranges-requires : tie.Need-link-ranges-requires
 link-ranges-requires c κs =
-    let s = passed-values (c .before .before) .entry in let n = count-limits (plan s) (s .pre .counts) in (n .n, n .links)
+    let s = entry3 (before-values (c .before .before)) in let n = count-limits (plan s) (s .pre .counts) in (n .n, n .links)
 
-ranges-are : (c : tie.After-link-ranges) → c .link-ranges .result ≡ rangesOf (plan (passed-ranges c .entry))
+ranges-are : (c : tie.After-link-ranges) → c .link-ranges .result ≡ rangesOf (plan (entry3 (before-ranges c)))
 unfolding rangesOf
 ranges-are c = c .link-ranges .ensures
 
 rates-requires : tie.Need-rates-requires
 rates-requires c κs =
-    let l = c .before .before .before .before .before in let p = passed-ranges l in let s = p .entry in
-    rw (ranges-are l, values-are (l .before .before .before))
-    (rates-ready (plan s) (run s) (s .pre) (passed-at p 1 (lit< tt)) (passed-at p 2 (lit< tt)))
+    let l = c .before .before .before .before .before in let e = before-ranges l in let s = entry3 e in
+    rw (values-are (l .before .before .before), ranges-are l)
+    (rates-ready (plan s) (run s) (s .pre) (passed-at (passed3 e) 1 (lit< tt)) (passed-at (passed3 e) 2 (lit< tt)))
 
-slopes-are : (c : tie.After-rates) → let s = passed-rates c .entry in c .rates .result ≡ slopes (plan s) (run s)
+slopes-are : (c : tie.After-rates) → let s = entry3 (before-rates c) in c .rates .result ≡ slopes (plan s) (run s)
 slopes-are c =
-    let l = c .before .before .before .before .before .before in let s = passed-ranges l .entry in let q = run s .q in let u = run s .inputs in
-    (rw (ranges-are l, values-are (l .before .before .before)) at (c .rates .ensures))
+    let l = c .before .before .before .before .before .before in let s = entry3 (before-ranges l) in let q = run s .q in let u = run s .inputs in
+    (rw (values-are (l .before .before .before), ranges-are l) at (c .rates .ensures))
     ∙ own-slopes (plan s) (s .pre) (valuesOf (plan s) q u) (heldOf (run s)) (values-at (plan s) q u (s .pre))
 
 -- ---- the integrators
 integrators-sound-requires : tie.Need-integrators-sound-requires
 integrators-sound-requires c κs =
-    let a = c .before .before .before .before .before .before .before .before .before in let p = passed-rates a in let s = p .entry in
+    let a = c .before .before .before .before .before .before .before .before .before in let e = before-rates a in let s = entry3 e in
+    let p = passed3 e in
     let ready = figures-ready (plan s) (run s) (s .pre) (passed-at p 1 (lit< tt)) (passed-at p 2 (lit< tt)) (passed-at p 0 (lit< tt)) in
     (count-limits (plan s) (s .pre .counts) .n, rw (slopes-are a) ready)
 
-answer : (c : tie.After-integrators-sound) → let s = passed-integrators c .entry in
+answer : (c : tie.After-integrators-sound) → let s = entry3 (before-integrators c) in
     c .integrators-sound .result ≡ every (figuresAt (plan s) (run s)) (plan s .counts .n)
 answer c =
-    let a = c .before .before .before .before .before .before .before .before .before .before in let s = passed-rates a .entry in
+    let a = c .before .before .before .before .before .before .before .before .before .before in let s = entry3 (before-rates a) in
     (rw (slopes-are a) at (c .integrators-sound .ensures)) ∙ figures-same (plan s) (run s) (s .pre)
 
 returns-4 : tie.Need-returns-4
-returns-4 c = fails (passed-integrators (c .before)) all-of (lit< tt) (failed (answer (c .before)) (c .if4 .taken))
+returns-4 c =
+    let s = entry3 (before-integrators (c .before)) in
+    fails (tests s) 3 (lit< tt) (failed (answer (c .before)) (c .if4 .taken)) ∙ all-of s
 
-abbrev passed4 : tie.Else4 → Passed tests 4
-passed4 c = next (passed-integrators (c .before)) (held (answer (c .before)) (c .if4 .left))
+abbrev entry4 : tie.Else4 → tie.Start
+entry4 c = entry3 (before-integrators (c .before))
+
+passed4 : (c : tie.Else4) → Passed (tests (entry4 c)) 4
+passed4 c = next (passed3 (before-integrators (c .before))) (held (answer (c .before)) (c .if4 .left))
 
 -- ---- the rest
 next-entry-requires : tie.Need-next-entry-requires
-next-entry-requires c κs = let s = passed4 (c .before .before) .entry in count-limits (plan s) (s .pre .counts) .commands
+next-entry-requires c κs = let s = entry4 (c .before .before) in count-limits (plan s) (s .pre .counts) .commands
 
-next-is : (c : tie.After-next-entry) → let s = passed4 (c .before .before .before) .entry in
+next-is : (c : tie.After-next-entry) → let s = entry4 (c .before .before .before) in
     c .next-entry .result ≡ nextCommand (plan s) (run s .clocks .clock)
 unfolding nextCommand
 next-is c = c .next-entry .ensures
 
 returns-5 : tie.Need-returns-5
-returns-5 c = fails (passed4 (c .before .before .before .before)) all-of (lit< tt) (ne-eqb _ _ (λ e. c .if5 .taken (e ∙ sym (next-is (c .before)))))
+returns-5 c =
+    let s = entry4 (c .before .before .before .before) in
+    fails (tests s) 4 (lit< tt) (ne-eqb _ _ (λ e. c .if5 .taken (e ∙ sym (next-is (c .before))))) ∙ all-of s
 
-abbrev passed5 : tie.Else5 → Passed tests 5
+abbrev entry5 : tie.Else5 → tie.Start
+entry5 c = entry4 (c .before .before .before .before)
+
+passed5 : (c : tie.Else5) → Passed (tests (entry5 c)) 5
 passed5 c = next (passed4 (c .before .before .before .before)) (eq-eqb _ _ (c .if5 .left ∙ next-is (c .before)))
 
 cast-if6 : tie.Need-cast-if6
-cast-if6 c = let p = passed5 c in let s = p .entry in clock-fits (plan s) (run s) (s .pre) (passed-at p 0 (lit< tt))
+cast-if6 c = let s = entry5 c in clock-fits (plan s) (run s) (s .pre) (passed-at (passed5 c) 0 (lit< tt))
 
 returns-6 : tie.Need-returns-6
-returns-6 c = fails (passed5 (c .before)) all-of (lit< tt) (lt-leb _ _ (c .if6 .taken))
+returns-6 c = let s = entry5 (c .before) in fails (tests s) 5 (lit< tt) (lt-leb _ _ (c .if6 .taken)) ∙ all-of s
 
-abbrev passed6 : tie.Else6 → Passed tests 6
+abbrev entry6 : tie.Else6 → tie.Start
+entry6 c = entry5 (c .before)
+
+passed6 : (c : tie.Else6) → Passed (tests (entry6 c)) 6
 passed6 c = next (passed5 (c .before)) (le-leb _ _ (c .if6 .left))
 
 mul-if7 : tie.Need-mul-if7
 mul-if7 c =
-    let p = passed6 c in let s = p .entry in updates-fit (plan s) (run s) (s .pre) (passed-at p 0 (lit< tt)) (passed-at p 5 (lit< tt))
+    let s = entry6 c in let p = passed6 c in
+    updates-fit (plan s) (run s) (s .pre) (passed-at p 0 (lit< tt)) (passed-at p 5 (lit< tt))
 
 returns-7 : tie.Need-returns-7
-returns-7 c = fails (passed6 (c .before)) all-of (lit< tt) (lt-leb _ _ (c .if7 .taken))
+returns-7 c = let s = entry6 (c .before) in fails (tests s) 6 (lit< tt) (lt-leb _ _ (c .if7 .taken)) ∙ all-of s
 
-abbrev passed7 : tie.Else7 → Passed tests 7
+abbrev entry7 : tie.Else7 → tie.Start
+entry7 c = entry6 (c .before)
+
+passed7 : (c : tie.Else7) → Passed (tests (entry7 c)) 7
 passed7 c = next (passed6 (c .before)) (le-leb _ _ (c .if7 .left))
 
 running-unused-zero-requires : tie.Need-running-unused-zero-requires
 running-unused-zero-requires c κs = search needs
 
 returns-8 : tie.Need-returns-8
-returns-8 c = last (passed7 (c .before)) all-of refl (c .running-unused-zero .ensures)
+returns-8 c = last (passed7 (c .before)) (c .running-unused-zero .ensures) ∙ all-of (entry7 (c .before))
 
 pub running-sound-spec : {M : Type 1} → statement M
 running-sound-spec =
