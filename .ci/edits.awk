@@ -11,6 +11,10 @@ function rest(line) {
     sub(/^[a-z]+: /, "", line)
     return line
 }
+# Names are looked for in a log by patterns, so what has a meaning of its own there is no part of a name.
+function no_plain_name(line) {
+    return line ~ /[].*[\\^$`]/
+}
 function close_name() {
     if (names > used) fault("a name in it has no replacement")
     if (pending) fault("an 'old:' in it has no 'new:'")
@@ -55,7 +59,7 @@ function title(line) {
 /^law: / {
     if (wrong == "" || law != "") fault("a law in it stands under no 'wrong:', or is the second")
     law = rest($0)
-    if (law !~ /^[A-Za-z0-9\/]+ [^ ]+$/) fault("a law in it is no file and name")
+    if (law !~ /^[A-Za-z0-9\/]+ [^ ]+$/ || no_plain_name(law)) fault("a law in it is no file and name")
     if (law in laws) fault("two wrong definitions in it name the law " law)
     laws[law] = 1
     next
@@ -63,7 +67,7 @@ function title(line) {
 /^need: / {
     if (body == "" || need != "") fault("a need in it stands under no 'body:', or is the second")
     need = rest($0)
-    if (need !~ /^[^ ]+$/) fault("a need's name in it is none")
+    if (need !~ /^[^ ]+$/ || no_plain_name(need)) fault("a need's name in it is none")
     next
 }
 /^function: / {

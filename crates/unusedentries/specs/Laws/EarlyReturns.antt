@@ -1,6 +1,6 @@
 -- Laws: a chain of early returns: its tests in order. It answers false at the first that fails, and else what the last says. Assumes
 -- nothing.
-use mathlib.Core.Path.{_≡_, sym}
+use mathlib.Core.Path.{_≡_, sym, _∙_}
 use mathlib.Core.Bool.{Bool, true, false}
 use mathlib.Core.List.{List}
 use Prim.Native.Nat.{ℕ, _+_, _<_}
@@ -14,6 +14,7 @@ use Rattle.entryrules.specs.Laws.Testing.{every-none, every-more, every-fails}
 unfoldable pub passes : List Bool → ℕ → Bool
 passes tests k = every (λ j. getD tests j true) k
 
+-- The same as a record, from which the tests and their number are found.
 pub record Passed (tests : List Bool) (k : ℕ) : Type 0 where
   pub so-far : passes tests k ≡ true
 
@@ -30,12 +31,12 @@ module _ {tests : List Bool} {k : ℕ} (p : Passed tests k) where
   unfolding passes
   passed-at j h = every-true _ k .0 (p .so-far) j h
 
-  -- what the last test answers
-  pub last : {answer : Bool} → answer ≡ getD tests k true → answer ≡ passes tests (k + 1)
+  -- where all tests but the last have passed, the last is the answer
+  pub last : {whole : Bool} → passes tests (k + 1) ≡ whole → {answer : Bool} → answer ≡ getD tests k true → answer ≡ whole
   unfolding passes every
-  last e = rw (add-one k, p .so-far) e
+  last all-of e = rw (add-one k, p .so-far, ← e) at all-of
 
--- A test that fails decides, whatever the tests before it say. So the proof of one return rests on no other test.
-pub fails : (tests : List Bool) {n : ℕ} (k : ℕ) → k < n → getD tests k true ≡ false → false ≡ passes tests n
+-- A test that fails decides, whatever the others say. So no return's proof rests on another test.
+pub fails : (tests : List Bool) {n : ℕ} {whole : Bool} → passes tests n ≡ whole → (k : ℕ) → k < n → getD tests k true ≡ false → false ≡ whole
 unfolding passes
-fails tests {n} k h e = sym (every-fails _ n k h e)
+fails tests {n} all-of k h e = sym (every-fails _ n k h e) ∙ all-of

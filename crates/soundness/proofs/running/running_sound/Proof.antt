@@ -2,7 +2,8 @@
 use borrow.Author.Needs.{needs}
 use borrow.Author.Tests.{le-leb, lt-leb, eq-eqb, ne-eqb}
 use lib.Dec.{lit<}
-use mathlib.Core.Bool.{Bool}
+use lib.ListN.{getD}
+use mathlib.Core.Bool.{Bool, true}
 use mathlib.Core.List.{List}
 use mathlib.Core.Path.{_≡_, sym, _∙_}
 use native.Mathlib.Omega.{arith}
@@ -38,14 +39,17 @@ all-of : (c : tie.Start) → passes (tests c) 8 ≡ runningSound (plan c) (run c
 all-of c = running-tests (plan c) (run c)
 
 returns : tie.Need-returns
-returns c = let s = c .before in fails (tests s) 0 (lit< tt) (lt-leb _ _ (c .if1 .taken)) ∙ all-of s
+returns c = let s = c .before in fails (tests s) (all-of s) 0 (lit< tt) (lt-leb _ _ (c .if1 .taken))
 
--- behind each test: the function's entry, and that the tests up to this one have passed
+-- behind each test: the function's entry, that this test has passed, and that all up to it have
 abbrev entry1 : tie.Else1 → tie.Start
 entry1 c = c .before
 
+test1 : (c : tie.Else1) → getD (tests (entry1 c)) 0 true ≡ true
+test1 c = le-leb _ _ (c .if1 .left)
+
 passed1 : (c : tie.Else1) → Passed (tests (entry1 c)) 1
-passed1 c = next (begin (tests (entry1 c))) (le-leb _ _ (c .if1 .left))
+passed1 c = next (begin (tests (entry1 c))) (test1 c)
 
 values-within-m-requires : tie.Need-values-within-m-requires
 values-within-m-requires c κs =
@@ -54,13 +58,16 @@ values-within-m-requires c κs =
 returns-2 : tie.Need-returns-2
 returns-2 c =
     let s = entry1 (c .before .before .before .before .before) in
-    fails (tests s) 1 (lit< tt) (failed (c .before .values-within-m .ensures) (c .if2 .taken)) ∙ all-of s
+    fails (tests s) (all-of s) 1 (lit< tt) (failed (c .before .values-within-m .ensures) (c .if2 .taken))
 
 abbrev entry2 : tie.Else2 → tie.Start
 entry2 c = entry1 (c .before .before .before .before .before)
 
+test2 : (c : tie.Else2) → getD (tests (entry2 c)) 1 true ≡ true
+test2 c = held (c .before .values-within-m .ensures) (c .if2 .left)
+
 passed2 : (c : tie.Else2) → Passed (tests (entry2 c)) 2
-passed2 c = next (passed1 (c .before .before .before .before .before)) (held (c .before .values-within-m .ensures) (c .if2 .left))
+passed2 c = next (passed1 (c .before .before .before .before .before)) (test2 c)
 
 values-within-m-requires-2 : tie.Need-values-within-m-requires-2
 values-within-m-requires-2 c κs =
@@ -69,13 +76,16 @@ values-within-m-requires-2 c κs =
 returns-3 : tie.Need-returns-3
 returns-3 c =
     let s = entry2 (c .before .before .before .before .before) in
-    fails (tests s) 2 (lit< tt) (failed (c .before .values-within-m2 .ensures) (c .if3 .taken)) ∙ all-of s
+    fails (tests s) (all-of s) 2 (lit< tt) (failed (c .before .values-within-m2 .ensures) (c .if3 .taken))
 
 abbrev entry3 : tie.Else3 → tie.Start
 entry3 c = entry2 (c .before .before .before .before .before)
 
+test3 : (c : tie.Else3) → getD (tests (entry3 c)) 2 true ≡ true
+test3 c = held (c .before .values-within-m2 .ensures) (c .if3 .left)
+
 passed3 : (c : tie.Else3) → Passed (tests (entry3 c)) 3
-passed3 c = next (passed2 (c .before .before .before .before .before)) (held (c .before .values-within-m2 .ensures) (c .if3 .left))
+passed3 c = next (passed2 (c .before .before .before .before .before)) (test3 c)
 
 -- ---- places: from behind each call of the rates to behind the third test
 abbrev before-values : tie.After-source-values → tie.Else3
@@ -138,13 +148,16 @@ answer c =
 returns-4 : tie.Need-returns-4
 returns-4 c =
     let s = entry3 (before-integrators (c .before)) in
-    fails (tests s) 3 (lit< tt) (failed (answer (c .before)) (c .if4 .taken)) ∙ all-of s
+    fails (tests s) (all-of s) 3 (lit< tt) (failed (answer (c .before)) (c .if4 .taken))
 
 abbrev entry4 : tie.Else4 → tie.Start
 entry4 c = entry3 (before-integrators (c .before))
 
+test4 : (c : tie.Else4) → getD (tests (entry4 c)) 3 true ≡ true
+test4 c = held (answer (c .before)) (c .if4 .left)
+
 passed4 : (c : tie.Else4) → Passed (tests (entry4 c)) 4
-passed4 c = next (passed3 (before-integrators (c .before))) (held (answer (c .before)) (c .if4 .left))
+passed4 c = next (passed3 (before-integrators (c .before))) (test4 c)
 
 -- ---- the rest
 next-entry-requires : tie.Need-next-entry-requires
@@ -158,25 +171,31 @@ next-is c = c .next-entry .ensures
 returns-5 : tie.Need-returns-5
 returns-5 c =
     let s = entry4 (c .before .before .before .before) in
-    fails (tests s) 4 (lit< tt) (ne-eqb _ _ (λ e. c .if5 .taken (e ∙ sym (next-is (c .before))))) ∙ all-of s
+    fails (tests s) (all-of s) 4 (lit< tt) (ne-eqb _ _ (λ e. c .if5 .taken (e ∙ sym (next-is (c .before)))))
 
 abbrev entry5 : tie.Else5 → tie.Start
 entry5 c = entry4 (c .before .before .before .before)
 
+test5 : (c : tie.Else5) → getD (tests (entry5 c)) 4 true ≡ true
+test5 c = eq-eqb _ _ (c .if5 .left ∙ next-is (c .before))
+
 passed5 : (c : tie.Else5) → Passed (tests (entry5 c)) 5
-passed5 c = next (passed4 (c .before .before .before .before)) (eq-eqb _ _ (c .if5 .left ∙ next-is (c .before)))
+passed5 c = next (passed4 (c .before .before .before .before)) (test5 c)
 
 cast-if6 : tie.Need-cast-if6
 cast-if6 c = let s = entry5 c in clock-fits (plan s) (run s) (s .pre) (passed-at (passed5 c) 0 (lit< tt))
 
 returns-6 : tie.Need-returns-6
-returns-6 c = let s = entry5 (c .before) in fails (tests s) 5 (lit< tt) (lt-leb _ _ (c .if6 .taken)) ∙ all-of s
+returns-6 c = let s = entry5 (c .before) in fails (tests s) (all-of s) 5 (lit< tt) (lt-leb _ _ (c .if6 .taken))
 
 abbrev entry6 : tie.Else6 → tie.Start
 entry6 c = entry5 (c .before)
 
+test6 : (c : tie.Else6) → getD (tests (entry6 c)) 5 true ≡ true
+test6 c = le-leb _ _ (c .if6 .left)
+
 passed6 : (c : tie.Else6) → Passed (tests (entry6 c)) 6
-passed6 c = next (passed5 (c .before)) (le-leb _ _ (c .if6 .left))
+passed6 c = next (passed5 (c .before)) (test6 c)
 
 mul-if7 : tie.Need-mul-if7
 mul-if7 c =
@@ -184,19 +203,22 @@ mul-if7 c =
     updates-fit (plan s) (run s) (s .pre) (passed-at p 0 (lit< tt)) (passed-at p 5 (lit< tt))
 
 returns-7 : tie.Need-returns-7
-returns-7 c = let s = entry6 (c .before) in fails (tests s) 6 (lit< tt) (lt-leb _ _ (c .if7 .taken)) ∙ all-of s
+returns-7 c = let s = entry6 (c .before) in fails (tests s) (all-of s) 6 (lit< tt) (lt-leb _ _ (c .if7 .taken))
 
 abbrev entry7 : tie.Else7 → tie.Start
 entry7 c = entry6 (c .before)
 
+test7 : (c : tie.Else7) → getD (tests (entry7 c)) 6 true ≡ true
+test7 c = le-leb _ _ (c .if7 .left)
+
 passed7 : (c : tie.Else7) → Passed (tests (entry7 c)) 7
-passed7 c = next (passed6 (c .before)) (le-leb _ _ (c .if7 .left))
+passed7 c = next (passed6 (c .before)) (test7 c)
 
 running-unused-zero-requires : tie.Need-running-unused-zero-requires
 running-unused-zero-requires c κs = search needs
 
 returns-8 : tie.Need-returns-8
-returns-8 c = last (passed7 (c .before)) (c .running-unused-zero .ensures) ∙ all-of (entry7 (c .before))
+returns-8 c = last (passed7 (c .before)) (all-of (entry7 (c .before))) (c .running-unused-zero .ensures)
 
 pub running-sound-spec : {M : Type 1} → statement M
 running-sound-spec =
