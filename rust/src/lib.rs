@@ -9,7 +9,8 @@
 //! - [`plain`]: the plain machine, naive on purpose, which shares nothing with the engines but the
 //!   names of the two, with an observer of what each of them moves;
 //! - [`raw`], [`sound`], [`calls`]: the state as a struct of arrays, its soundness, the public calls;
-//! - [`fast`]: the lazy engine once more, written for speed, to time the proved one against;
+//! - [`fast`]: the engines and the other calls once more, written for speed, to time the proved ones
+//!   against;
 //! - [`listing`]: the listing program as a function;
 //! - [`generate`]: seeded plans, lists of run calls, states filled by hand and damaged files;
 //! - [`met`], [`compare`]: counts of what a comparison met; any simulator's calls compared with the plain

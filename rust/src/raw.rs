@@ -174,7 +174,7 @@ impl RawPlan {
 }
 
 impl RawIntegrators {
-    fn entry(&self, number: usize) -> Integrator {
+    pub(crate) fn entry(&self, number: usize) -> Integrator {
         Integrator {
             start: self.starts[number],
             quantum: self.quanta[number],
@@ -183,7 +183,7 @@ impl RawIntegrators {
 }
 
 impl RawNodes {
-    fn entry(&self, number: usize) -> Node {
+    pub(crate) fn entry(&self, number: usize) -> Node {
         Node {
             kind: self.kinds[number],
             a: self.a[number],
@@ -195,7 +195,7 @@ impl RawNodes {
 }
 
 impl RawLinks {
-    fn entry(&self, number: usize) -> Link {
+    pub(crate) fn entry(&self, number: usize) -> Link {
         Link {
             target: self.targets[number],
             source: self.sources[number],
@@ -205,7 +205,7 @@ impl RawLinks {
 }
 
 impl RawCommands {
-    fn entry(&self, number: usize) -> Command {
+    pub(crate) fn entry(&self, number: usize) -> Command {
         Command {
             tick: self.ticks[number],
             input: self.inputs[number],

@@ -1,4 +1,4 @@
-//! The engine written for speed, in both forms, against the plain machine and the lazy engine.
+//! The engines written for speed, in both forms, against the plain machine and this package's engines.
 
 mod common;
 
@@ -7,7 +7,7 @@ use cup_check::calls::{Loaded, Positioned, Ran, Simulator, Written};
 use cup_check::compare::counts::STATUSES;
 use cup_check::compare::{continued_list, loaded_list};
 use cup_check::engine::Engine;
-use cup_check::fast::{run_lazy, Fast};
+use cup_check::fast::{self, Fast};
 use cup_check::generate::{run_list, Call, Family, Fill};
 use cup_check::limits::{ACCEPTED, EVENT_BYTES, LARGEST_BUDGET};
 use cup_check::met::Met;
@@ -19,31 +19,31 @@ const PLANS: u64 = 50;
 /// The fewest runs of a form that a test has to have compared.
 const RUNS: u64 = 2_000;
 
-/// This package's simulator with the fast engine for lazy runs.
-struct WithFastEngine;
+/// The calls written for speed. They are handed sound states only.
+struct FastCalls;
 
-impl Simulator for WithFastEngine {
+impl Simulator for FastCalls {
     fn load(&self, file: &[u8]) -> Loaded {
-        SIMULATOR.load(file)
+        *fast::load(file)
     }
 
     fn section<'f>(&self, file: &'f [u8], number: usize) -> &'f [u8] {
-        SIMULATOR.section(file, number)
+        fast::section(file, number)
     }
 
     fn write(&self, state: &RawState, buffer: &mut [u8]) -> Written {
-        SIMULATOR.write(state, buffer)
+        fast::write(state.clone(), buffer)
     }
 
     fn run(&self, engine: Engine, state: &RawState, budget: u64, buffer: &mut [u8]) -> Ran {
         match engine {
-            Engine::Lazy => run_lazy(state.clone(), budget, buffer),
-            Engine::Eager => SIMULATOR.run(engine, state, budget, buffer),
+            Engine::Lazy => fast::run_lazy(state.clone(), budget, buffer),
+            Engine::Eager => fast::run_eager(state.clone(), budget, buffer),
         }
     }
 
     fn position(&self, state: &RawState, integrator: usize) -> Positioned {
-        SIMULATOR.position(state, integrator)
+        fast::position(state.clone(), integrator)
     }
 }
 
@@ -55,11 +55,11 @@ fn lists_of_calls_agree_with_the_plain_machine() {
         let plan = family.plan(&mut rng);
         let list = run_list(&mut rng, plan.events_per_instant());
         let at = |difference: String| panic!("{family:?} seed {seed}: {difference}");
-        loaded_list(&WithFastEngine, &plan, &list, &mut met).unwrap_or_else(at);
+        loaded_list(&FastCalls, &plan, &list, &mut met).unwrap_or_else(at);
         let state = rng.pick(&Fill::ALL).state(&mut rng, &plan);
-        continued_list(&WithFastEngine, &plan, &state, &list, &mut met).unwrap_or_else(at);
+        continued_list(&FastCalls, &plan, &state, &list, &mut met).unwrap_or_else(at);
     }
-    met.require("lazy calls", RUNS);
+    met.require_each(["lazy calls", "eager calls"], RUNS);
     met.require_each(STATUSES, 500);
     met.require("instants", 100_000);
     met.require_each(["several due", "some not moved"], 20_000);
@@ -70,8 +70,8 @@ fn lists_of_calls_agree_with_the_plain_machine() {
 }
 
 #[test]
-fn a_call_answers_what_the_lazy_engine_does() {
-    let mut compared = 0;
+fn a_call_answers_what_the_engine_does() {
+    let mut compared = [0; 2];
     for (family, seed) in families_and_seeds() {
         let mut rng = rng_of(family, seed);
         let plan = family.plan(&mut rng);
@@ -81,16 +81,16 @@ fn a_call_answers_what_the_lazy_engine_does() {
             for call in &list {
                 let mut bytes = vec![MARK; call.buffer];
                 let mut right = bytes.clone();
-                let ran = run_lazy(state.clone(), call.budget, &mut bytes);
-                let expected = SIMULATOR.run(Engine::Lazy, &state, call.budget, &mut right);
+                let ran = FastCalls.run(call.engine, &state, call.budget, &mut bytes);
+                let expected = SIMULATOR.run(call.engine, &state, call.budget, &mut right);
                 assert!(ran == expected, "{family:?} seed {seed}: {call:?}");
                 assert_eq!(bytes, right, "{family:?} seed {seed}: {call:?}");
-                compared += u64::from(ran.number == ACCEPTED);
+                compared[call.engine as usize] += u64::from(ran.number == ACCEPTED);
                 state = ran.state;
             }
         }
     }
-    assert!(compared >= RUNS, "{compared}");
+    assert!(compared.iter().all(|&runs| runs >= RUNS), "{compared:?}");
 }
 
 #[test]

@@ -18,26 +18,26 @@ use plan::REFUSED_WRITE_BUFFER;
 use plan::SECTION_INTEGRATORS;
 use plan::SECTIONS;
 use plan::SOURCES;
+use planfile::finding_of;
 use planfile::read_plan;
 use planrules::entry_of;
 use planrules::number_of;
 use planwriter::PlanWritten;
 use planwriter::write_plan;
 use rates::RANGES;
-use rates::link_ranges;
 use reach::reach_table;
 use simulator::Loaded;
 use simulator::Positioned;
 use simulator::Ran;
 use simulator::Written;
+use simulator::is_sound;
 use simulator::load;
 use simulator::position;
 use simulator::run_eager;
 use simulator::run_lazy;
 use simulator::section;
 use simulator::write;
-use soundness::is_sound;
-use values::source_values;
+use soundness::test_state;
 
 // Reads a plan file: the number, 0 where it is accepted, and the lowest faulty entry.
 #[no_mangle]
@@ -45,8 +45,7 @@ pub extern "C" fn cup_read(file: &[u8], entry: &mut usize) -> usize
     ensures answer { λ r. ⌜ r ≡ numberOf (findingOf (now (file .entry))) ⌝ }
     ensures entry { λ _. ⌜ now (entry .exit) ≡ entryOf (findingOf (now (file .entry))) ⌝ }
 {
-    let reading = read_plan(file);
-    let found = reading.finding;
+    let found = finding_of(file);
     *entry = entry_of(found);
     number_of(found)
 }
@@ -84,7 +83,25 @@ pub extern "C" fn cup_rewrite(file: &[u8], buffer: &mut [u8], written: &mut usiz
         return number_of(found);
     };
     let plan = reading.plan;
-    let answer = write_plan(plan, buffer);
+    let answer = write_plan(
+        plan.horizon,
+        plan.counts,
+        &plan.integrators.starts,
+        &plan.integrators.quanta,
+        &plan.inputs.firsts,
+        &plan.nodes.kinds,
+        &plan.nodes.a,
+        &plan.nodes.b,
+        &plan.nodes.lows,
+        &plan.nodes.highs,
+        &plan.links.targets,
+        &plan.links.sources,
+        &plan.links.coefficients,
+        &plan.commands.ticks,
+        &plan.commands.inputs,
+        &plan.commands.values,
+        buffer,
+    );
     match answer {
         PlanWritten::Short => {
             *written = 0;
@@ -143,39 +160,50 @@ pub struct Tables {
 pub extern "C" fn cup_tables(state: State) -> Tables
     ensures { λ r. ⌜ r ≡ tablesOf state ⌝ }
 {
-    if !is_sound(state) {
-        return Tables {
-            ranges: [0; RANGES],
-            reach: [0; SOURCES],
-            values: [0; SOURCES],
-        };
-    }
-    let n = state.plan.counts.n;
-    let m = state.plan.counts.m;
-    let k = state.plan.counts.k;
-    let links = state.plan.counts.links;
-    let ranges = link_ranges(n, links, &state.plan.links.targets);
-    let reach = reach_table(
-        n + m,
-        k,
-        links,
-        &state.plan.nodes.kinds,
-        &state.plan.nodes.a,
-        &state.plan.nodes.b,
-        &state.plan.links.targets,
-        &state.plan.links.sources,
-    );
-    let values = source_values(
-        n,
-        m,
-        k,
+    let test = test_state(
+        state.plan.horizon,
+        state.plan.counts,
+        &state.plan.integrators.starts,
+        &state.plan.integrators.quanta,
+        &state.plan.inputs.firsts,
         &state.plan.nodes.kinds,
         &state.plan.nodes.a,
         &state.plan.nodes.b,
         &state.plan.nodes.lows,
         &state.plan.nodes.highs,
+        &state.plan.links.targets,
+        &state.plan.links.sources,
+        &state.plan.links.coefficients,
+        &state.plan.commands.ticks,
+        &state.plan.commands.inputs,
+        &state.plan.commands.values,
+        &state.run.x,
         &state.run.q,
+        &state.run.s,
+        &state.run.l,
+        &state.run.d,
         &state.run.inputs,
+        state.run.clocks,
+    );
+    let ranges = test.ranges;
+    let values = test.values;
+    if !test.sound {
+        return Tables {
+            ranges,
+            reach: [0; SOURCES],
+            values,
+        };
+    }
+    let counts = state.plan.counts;
+    let reach = reach_table(
+        counts.n + counts.m,
+        counts.k,
+        counts.links,
+        &state.plan.nodes.kinds,
+        &state.plan.nodes.a,
+        &state.plan.nodes.b,
+        &state.plan.links.targets,
+        &state.plan.links.sources,
     );
     Tables {
         ranges,

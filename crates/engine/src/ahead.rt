@@ -1,11 +1,10 @@
 // What lies ahead of a state: the next instant's tick, the integrators that are due there, and the status.
 ghost use mathlib.Core.Path.{_≡_};
 ghost use Rattle.engine.specs.Ahead.{aheadOf, AheadReady};
-use bitset::where_equal;
 use machine::Status;
 use plan::COMMANDS;
 use plan::INTEGRATORS;
-use timing::next_tick;
+use timing::soonest_of;
 use timing::status_at;
 
 pub struct Ahead {
@@ -28,8 +27,11 @@ pub fn look_ahead<'a>(
     requires { ⌜ AheadReady n commands (now ticks) (now x) (now s) (now l) (now d) next ⌝ }
     ensures { λ r. ⌜ r ≡ aheadOf horizon n commands (now (ticks .entry)) (now (x .entry)) (now (s .entry)) (now (l .entry)) (now (d .entry)) next ⌝ }
 {
-    let tick = next_tick(n, commands, ticks, d, next);
-    let due = where_equal(n, d, tick);
-    let status = status_at(horizon, n, tick, due, x, s, l);
-    Ahead { tick, due, status }
+    let soonest = soonest_of(n, commands, ticks, d, next);
+    let status = status_at(horizon, n, soonest.tick, soonest.due, x, s, l);
+    Ahead {
+        tick: soonest.tick,
+        due: soonest.due,
+        status,
+    }
 }

@@ -2,19 +2,25 @@
 ghost use mathlib.Core.Path.{_≡_};
 ghost use lib.ListN.{length};
 ghost use Rattle.machine.specs.Runs.{eventsOfRun};
+ghost use Rattle.plan.specs.Lent.{planLent};
 ghost use Rattle.steps.specs.Events.{putAt};
 ghost use Rattle.engine.specs.RunAnswer.{endedOf, RunReady};
 use crate::ahead::look_ahead;
 use instant::take_instant;
 use machine::Engine;
 use machine::Running;
-use machine::State;
 use machine::Status;
-use rates::link_ranges;
+use plan::COMMANDS;
+use plan::Counts;
+use plan::INPUTS;
+use plan::INTEGRATORS;
+use plan::LINKS;
+use plan::NODES;
+use plan::SOURCES;
+use rates::RANGES;
 use reach::reach_table;
 use values::inputs_in;
 use values::outputs_in;
-use values::source_values;
 
 // The status of the state after a run, the bytes written from the buffer's start, and the running figures.
 pub struct Ended {
@@ -23,38 +29,54 @@ pub struct Ended {
     pub run: Running,
 }
 
-// The tables are worked out once; in the loop the plan's arrays are lent where they lie, and those of the running figures as local copies. Outputs and input
-// values stand in the values of sources alone, and are read out of them at the end.
-pub fn run(engine: Engine, state: State, budget: u64, buffer: &mut [u8]) -> Ended
-    requires { ⌜ RunReady state budget (length (now buffer)) ⌝ }
-    ensures answer { λ r. ⌜ r ≡ endedOf (state .plan) engine budget (state .run) ⌝ }
-    ensures buffer { λ _. ⌜ now (buffer .exit) ≡ putAt (now (buffer .entry)) 0 (eventsOfRun (state .plan) engine budget (state .run)) ⌝ }
+// The plan's arrays are lent one by one where they lie, `numbers` the inputs of its commands and `settings` the values that these set; no code reads `starts`
+// and `firsts`, which are there for the contract to name the plan. `ranges` is the table of the plan's links, `first_values` the value of every source by the
+// figures r. In the loop the arrays of the running figures are lent as local copies. Outputs and input values stand in the values of sources alone, and are
+// read out of them at the end.
+pub fn run<'a>(
+    engine: Engine,
+    horizon: u32,
+    counts: Counts,
+    starts: &'a [i64; INTEGRATORS],
+    quanta: &'a [i64; INTEGRATORS],
+    firsts: &'a [i64; INPUTS],
+    kinds: &'a [usize; NODES],
+    a: &'a [usize; NODES],
+    b: &'a [usize; NODES],
+    lows: &'a [i64; NODES],
+    highs: &'a [i64; NODES],
+    targets: &'a [usize; LINKS],
+    sources: &'a [usize; LINKS],
+    coefficients: &'a [i64; LINKS],
+    ticks: &'a [u32; COMMANDS],
+    numbers: &'a [usize; COMMANDS],
+    settings: &'a [i64; COMMANDS],
+    ranges: &'a [usize; RANGES],
+    first_values: [i64; SOURCES],
+    r: Running,
+    budget: u64,
+    buffer: &mut [u8],
+) -> Ended
+    requires { ⌜ RunReady (planLent horizon counts (now starts) (now quanta) (now firsts) (now kinds) (now a) (now b) (now lows) (now highs) (now targets)
+        (now sources) (now coefficients) (now ticks) (now numbers) (now settings)) r (now ranges) «first_values» budget (length (now buffer)) ⌝ }
+    ensures answer { λ w. ⌜ w ≡ endedOf (planLent horizon counts (now (starts .entry)) (now (quanta .entry)) (now (firsts .entry)) (now (kinds .entry))
+        (now (a .entry)) (now (b .entry)) (now (lows .entry)) (now (highs .entry)) (now (targets .entry)) (now (sources .entry)) (now (coefficients .entry))
+        (now (ticks .entry)) (now (numbers .entry)) (now (settings .entry))) engine budget r ⌝ }
+    ensures buffer { λ _. ⌜ now (buffer .exit) ≡ putAt (now (buffer .entry)) 0 (eventsOfRun (planLent horizon counts (now (starts .entry)) (now (quanta .entry))
+        (now (firsts .entry)) (now (kinds .entry)) (now (a .entry)) (now (b .entry)) (now (lows .entry)) (now (highs .entry)) (now (targets .entry))
+        (now (sources .entry)) (now (coefficients .entry)) (now (ticks .entry)) (now (numbers .entry)) (now (settings .entry))) engine budget r) ⌝ }
 {
-    let counts = state.plan.counts;
-    let r = state.run;
-    let ranges = link_ranges(counts.n, counts.links, &state.plan.links.targets);
     let reach = reach_table(
         counts.n + counts.m,
         counts.k,
         counts.links,
-        &state.plan.nodes.kinds,
-        &state.plan.nodes.a,
-        &state.plan.nodes.b,
-        &state.plan.links.targets,
-        &state.plan.links.sources,
+        kinds,
+        a,
+        b,
+        targets,
+        sources,
     );
-    let mut values = source_values(
-        counts.n,
-        counts.m,
-        counts.k,
-        &state.plan.nodes.kinds,
-        &state.plan.nodes.a,
-        &state.plan.nodes.b,
-        &state.plan.nodes.lows,
-        &state.plan.nodes.highs,
-        &state.run.q,
-        &state.run.inputs,
-    );
+    let mut values = first_values;
     let mut x = r.x;
     let mut s = r.s;
     let mut l = r.l;
@@ -64,10 +86,10 @@ pub fn run(engine: Engine, state: State, budget: u64, buffer: &mut [u8]) -> Ende
     let mut taken: u64 = 0;
     loop {
         let ahead = look_ahead(
-            state.plan.horizon,
+            horizon,
             counts.n,
             counts.commands,
-            &state.plan.commands.ticks,
+            ticks,
             &x,
             &s,
             &l,
@@ -96,18 +118,18 @@ pub fn run(engine: Engine, state: State, budget: u64, buffer: &mut [u8]) -> Ende
         let step = take_instant(
             engine,
             counts,
-            &state.plan.integrators.quanta,
-            &state.plan.nodes.kinds,
-            &state.plan.nodes.a,
-            &state.plan.nodes.b,
-            &state.plan.nodes.lows,
-            &state.plan.nodes.highs,
-            &state.plan.links.sources,
-            &state.plan.links.coefficients,
-            &state.plan.commands.ticks,
-            &state.plan.commands.inputs,
-            &state.plan.commands.values,
-            &ranges,
+            quanta,
+            kinds,
+            a,
+            b,
+            lows,
+            highs,
+            sources,
+            coefficients,
+            ticks,
+            numbers,
+            settings,
+            ranges,
             &reach,
             ahead.tick,
             ahead.due,

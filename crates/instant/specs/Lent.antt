@@ -8,6 +8,7 @@ use lib.IntN.{ℤ}
 use lib.ListN.{length}
 use Rattle.bitset.specs.Mask.{maskOf, allOf, union}
 use Rattle.plan.specs.Numbers.{eventBytes}
+use Rattle.plan.specs.Lent.{planLent}
 use Rattle.plan.specs.declared.Counts.{Counts}
 use Rattle.plan.specs.declared.Plan.{Plan}
 use Rattle.machine.specs.Held.{runningBy}
@@ -36,15 +37,7 @@ pub record Unread : Type 0 where
 abbrev pub planOf : (counts : Counts) (quanta : List ℤ) (kinds a b : List ℕ) (lows highs : List ℤ) (sources : List ℕ) (coefficients : List ℤ)
     (ticks inputs : List ℕ) (settings : List ℤ) (unread : Unread) → Plan
 planOf counts quanta kinds a b lows highs sources coefficients ticks inputs settings unread =
-    record {
-      horizon = unread .horizon;
-      counts = counts;
-      integrators = record { starts = unread .starts; quanta = quanta };
-      inputs = record { firsts = unread .firsts };
-      nodes = record { kinds = kinds; a = a; b = b; lows = lows; highs = highs };
-      links = record { targets = unread .targets; sources = sources; coefficients = coefficients };
-      commands = record { ticks = ticks; inputs = inputs; values = settings };
-    }
+    planLent (unread .horizon) counts (unread .starts) quanta (unread .firsts) kinds a b lows highs (unread .targets) sources coefficients ticks inputs settings
 
 -- the running figures whose outputs and input values stand in the values of sources
 abbrev pub runningOf : (counts : Counts) (x s : List ℤ) (l d : List ℕ) (values : List ℤ) (clocks : Clocks) → Running

@@ -13,4 +13,5 @@ pub mod Plain
 pub mod Updates
 pub mod Sound
 pub mod SoundTest
+pub mod Lent
 pub mod Laws

@@ -10,6 +10,7 @@ pub mod Rules
 pub mod Unused
 pub mod Places
 pub mod Idle
+pub mod Lent
 pub mod Laws
 pub mod ExampleTables
 pub mod ExampleFiles

@@ -30,7 +30,25 @@ pub fn read_plan(file: &[u8]) -> FilePlan
         return refused(found);
     };
     let plan = decode(file);
-    let found = check_plan(plan);
+    let counts = plan.counts;
+    let found = check_plan(
+        plan.horizon,
+        counts,
+        &plan.integrators.starts,
+        &plan.integrators.quanta,
+        &plan.inputs.firsts,
+        &plan.nodes.kinds,
+        &plan.nodes.a,
+        &plan.nodes.b,
+        &plan.nodes.lows,
+        &plan.nodes.highs,
+        &plan.links.targets,
+        &plan.links.sources,
+        &plan.links.coefficients,
+        &plan.commands.ticks,
+        &plan.commands.inputs,
+        &plan.commands.values,
+    );
     let Finding::Clean = found else {
         return refused(found);
     };

@@ -1,17 +1,16 @@
 // The checks of a plan, document 01's refusals 4 to 9: each goes through its section from entry 0 and answers the first fault. They are lent
 // just the arrays that they look at, and ask that the counts are inside their limits, so that every index stays inside its array and every sum inside its type.
 ghost use mathlib.Core.Path.{_≡_};
-ghost use mathlib.Core.Bool.{_&&_};
 ghost use Prim.Native.Nat.{_+_, _≤_};
 ghost use Rattle.plan.specs.Numbers.{mostIntegrators, mostInputs, mostNodes, mostLinks, mostCommands};
-ghost use Rattle.plan.specs.Tests.{horizonKept, countsKept};
+ghost use Rattle.plan.specs.Tests.{horizonKept};
 ghost use Rattle.plan.specs.Rules.{CountsRule};
-ghost use Rattle.plan.specs.Refusals.{isClean, unless, orElse, planFinding};
+ghost use Rattle.plan.specs.Refusals.{unless, orElse, planFinding};
 ghost use Rattle.plan.specs.declared.Finding.the-variants.{Horizon};
 ghost use Rattle.planrules.specs.Checks.{integratorsCheck, inputsCheck, nodesCheck, linksCheck, commandsCheck};
+ghost use Rattle.plan.specs.Lent.{planLent};
 use entryrules::command_ascends;
 use entryrules::command_limits_test;
-use entryrules::counts_kept;
 use entryrules::horizon_kept;
 use entryrules::integrator_test;
 use entryrules::link_ascends;
@@ -19,15 +18,15 @@ use entryrules::link_limits_test;
 use entryrules::node_test;
 use entryrules::value_within_m;
 use plan::COMMANDS;
+use plan::Counts;
 use plan::Finding;
 use plan::INPUTS;
 use plan::INTEGRATORS;
 use plan::LINKS;
 use plan::NODES;
-use plan::Plan;
 
 // Refusal 4, the horizon.
-fn check_horizon(horizon: u32) -> Finding
+pub fn check_horizon(horizon: u32) -> Finding
     ensures { λ r. ⌜ r ≡ unless (horizonKept horizon) Horizon ⌝ }
 {
     if horizon_kept(horizon) {
@@ -38,7 +37,7 @@ fn check_horizon(horizon: u32) -> Finding
 }
 
 // Refusal 5, the integrators.
-fn check_integrators<'a>(
+pub fn check_integrators<'a>(
     n: usize,
     starts: &'a [i64; INTEGRATORS],
     quanta: &'a [i64; INTEGRATORS],
@@ -57,7 +56,7 @@ fn check_integrators<'a>(
 }
 
 // Refusal 6, the inputs.
-fn check_inputs(m: usize, firsts: &[i64; INPUTS]) -> Finding
+pub fn check_inputs(m: usize, firsts: &[i64; INPUTS]) -> Finding
     requires { ⌜ m ≤ mostInputs ⌝ }
     ensures { λ r. ⌜ r ≡ inputsCheck m (now (firsts .entry)) ⌝ }
 {
@@ -72,7 +71,7 @@ fn check_inputs(m: usize, firsts: &[i64; INPUTS]) -> Finding
 }
 
 // Refusal 7, the nodes. `base` is n + m, the source number of node 0.
-fn check_nodes<'a>(
+pub fn check_nodes<'a>(
     base: usize,
     k: usize,
     kinds: &'a [usize; NODES],
@@ -95,7 +94,7 @@ fn check_nodes<'a>(
 }
 
 // Refusal 8, the links. `all` is n + m + k, the number of sources.
-fn check_links<'a>(
+pub fn check_links<'a>(
     n: usize,
     all: usize,
     links: usize,
@@ -148,7 +147,7 @@ fn check_nodes_and_links<'a>(
 }
 
 // Refusal 9, the commands.
-fn check_commands<'a>(
+pub fn check_commands<'a>(
     horizon: u32,
     m: usize,
     commands: usize,
@@ -172,70 +171,61 @@ fn check_commands<'a>(
     Finding::Clean
 }
 
-// The refusals 4 to 9 of a plan whose counts are inside their limits, tried in order.
-pub fn check_plan(plan: Plan) -> Finding
-    requires { ⌜ CountsRule plan ⌝ }
-    ensures { λ r. ⌜ r ≡ planFinding plan ⌝ }
+// The refusals 4 to 9 of a plan whose counts are inside their limits, tried in order. The plan's columns are lent one by one, so that none is copied.
+pub fn check_plan<'a>(
+    horizon: u32,
+    counts: Counts,
+    starts: &'a [i64; INTEGRATORS],
+    quanta: &'a [i64; INTEGRATORS],
+    firsts: &'a [i64; INPUTS],
+    kinds: &'a [usize; NODES],
+    a: &'a [usize; NODES],
+    b: &'a [usize; NODES],
+    lows: &'a [i64; NODES],
+    highs: &'a [i64; NODES],
+    targets: &'a [usize; LINKS],
+    sources: &'a [usize; LINKS],
+    coefficients: &'a [i64; LINKS],
+    ticks: &'a [u32; COMMANDS],
+    numbers: &'a [usize; COMMANDS],
+    settings: &'a [i64; COMMANDS],
+) -> Finding
+    requires { ⌜ CountsRule (planLent horizon counts (now starts) (now quanta) (now firsts) (now kinds) (now a) (now b) (now lows) (now highs)
+        (now targets) (now sources) (now coefficients) (now ticks) (now numbers) (now settings)) ⌝ }
+    ensures { λ r. ⌜ r ≡ planFinding (planLent horizon counts (now (starts .entry)) (now (quanta .entry)) (now (firsts .entry)) (now (kinds .entry))
+        (now (a .entry)) (now (b .entry)) (now (lows .entry)) (now (highs .entry)) (now (targets .entry)) (now (sources .entry))
+        (now (coefficients .entry)) (now (ticks .entry)) (now (numbers .entry)) (now (settings .entry))) ⌝ }
 {
-    let n = plan.counts.n;
-    let m = plan.counts.m;
-    let k = plan.counts.k;
-    let found = check_horizon(plan.horizon);
+    let n = counts.n;
+    let m = counts.m;
+    let found = check_horizon(horizon);
     let Finding::Clean = found else {
         return found;
     };
-    let found = check_integrators(n, &plan.integrators.starts, &plan.integrators.quanta);
+    let found = check_integrators(n, starts, quanta);
     let Finding::Clean = found else {
         return found;
     };
-    let found = check_inputs(m, &plan.inputs.firsts);
+    let found = check_inputs(m, firsts);
     let Finding::Clean = found else {
         return found;
     };
     let found = check_nodes_and_links(
         n,
         m,
-        k,
-        plan.counts.links,
-        &plan.nodes.kinds,
-        &plan.nodes.a,
-        &plan.nodes.b,
-        &plan.nodes.lows,
-        &plan.nodes.highs,
-        &plan.links.targets,
-        &plan.links.sources,
-        &plan.links.coefficients,
+        counts.k,
+        counts.links,
+        kinds,
+        a,
+        b,
+        lows,
+        highs,
+        targets,
+        sources,
+        coefficients,
     );
     let Finding::Clean = found else {
         return found;
     };
-    check_commands(
-        plan.horizon,
-        m,
-        plan.counts.commands,
-        &plan.commands.ticks,
-        &plan.commands.inputs,
-        &plan.commands.values,
-    )
-}
-
-// Whether a plan that comes in no file keeps the counts' limits and the rules 4 to 9. It asks nothing of the plan: the counts are tested first.
-pub fn plan_kept(plan: Plan) -> bool
-    ensures { λ r. ⌜ r ≡ (countsKept plan && isClean (planFinding plan)) ⌝ }
-{
-    let counts = [
-        plan.counts.n,
-        plan.counts.m,
-        plan.counts.k,
-        plan.counts.links,
-        plan.counts.commands,
-    ];
-    if !counts_kept(&counts) {
-        return false;
-    }
-    let found = check_plan(plan);
-    let Finding::Clean = found else {
-        return false;
-    };
-    true
+    check_commands(horizon, m, counts.commands, ticks, numbers, settings)
 }

@@ -3,7 +3,12 @@
 mod checks;
 mod findings;
 
+pub use checks::check_commands;
+pub use checks::check_horizon;
+pub use checks::check_inputs;
+pub use checks::check_integrators;
+pub use checks::check_links;
+pub use checks::check_nodes;
 pub use checks::check_plan;
-pub use checks::plan_kept;
 pub use findings::entry_of;
 pub use findings::number_of;

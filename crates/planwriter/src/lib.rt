@@ -8,11 +8,17 @@ ghost use Rattle.plan.specs.Numbers.{sections, headerBytes};
 ghost use Rattle.plan.specs.Lists.{joined};
 ghost use Rattle.plan.specs.Rules.{PlanRules};
 ghost use Rattle.plan.specs.Encoding.{lengthFrom, offsetFrom, pairEntry};
+ghost use Rattle.plan.specs.Lent.{planLent};
 ghost use Rattle.planwriter.specs.Header.{CountsWithinLimits};
 ghost use Rattle.planwriter.specs.Plans.{planWritten, writtenBuffer};
 use entryrules::entry_size;
+use plan::COMMANDS;
+use plan::Counts;
 use plan::HEADER_BYTES;
-use plan::Plan;
+use plan::INPUTS;
+use plan::INTEGRATORS;
+use plan::LINKS;
+use plan::NODES;
 use plan::SECTION_COMMANDS;
 use plan::SECTION_INPUTS;
 use plan::SECTION_INTEGRATORS;
@@ -86,59 +92,65 @@ pub enum PlanWritten {
     Length(usize),
 }
 
-// Writes the file of a plan that keeps the rules; the bytes behind it keep their value. A buffer that is shorter than the file keeps all
-// its bytes.
-pub fn write_plan(plan: Plan, buffer: &mut [u8]) -> PlanWritten
-    requires { ⌜ PlanRules plan ⌝ }
-    ensures answer { λ r. ⌜ r ≡ planWritten plan (length (now (buffer .entry))) ⌝ }
-    ensures buffer { λ _. ⌜ now (buffer .exit) ≡ writtenBuffer plan (now (buffer .entry)) ⌝ }
+// Writes the file of a plan that keeps the rules, whose columns are lent one by one, so that none is copied; the bytes behind the file keep their value. A
+// buffer that is shorter than the file keeps all its bytes.
+pub fn write_plan<'a>(
+    horizon: u32,
+    counts: Counts,
+    starts: &'a [i64; INTEGRATORS],
+    quanta: &'a [i64; INTEGRATORS],
+    firsts: &'a [i64; INPUTS],
+    kinds: &'a [usize; NODES],
+    a: &'a [usize; NODES],
+    b: &'a [usize; NODES],
+    lows: &'a [i64; NODES],
+    highs: &'a [i64; NODES],
+    targets: &'a [usize; LINKS],
+    sources: &'a [usize; LINKS],
+    coefficients: &'a [i64; LINKS],
+    ticks: &'a [u32; COMMANDS],
+    numbers: &'a [usize; COMMANDS],
+    settings: &'a [i64; COMMANDS],
+    buffer: &mut [u8],
+) -> PlanWritten
+    requires { ⌜ PlanRules (planLent horizon counts (now starts) (now quanta) (now firsts) (now kinds) (now a) (now b) (now lows) (now highs)
+        (now targets) (now sources) (now coefficients) (now ticks) (now numbers) (now settings)) ⌝ }
+    ensures answer { λ r. ⌜ r ≡ planWritten (planLent horizon counts (now (starts .entry)) (now (quanta .entry)) (now (firsts .entry)) (now (kinds .entry))
+        (now (a .entry)) (now (b .entry)) (now (lows .entry)) (now (highs .entry)) (now (targets .entry)) (now (sources .entry))
+        (now (coefficients .entry)) (now (ticks .entry)) (now (numbers .entry)) (now (settings .entry)))
+        (length (now (buffer .entry))) ⌝ }
+    ensures buffer { λ _. ⌜ now (buffer .exit) ≡ writtenBuffer (planLent horizon counts (now (starts .entry)) (now (quanta .entry)) (now (firsts .entry)) (now (kinds .entry))
+        (now (a .entry)) (now (b .entry)) (now (lows .entry)) (now (highs .entry)) (now (targets .entry)) (now (sources .entry))
+        (now (coefficients .entry)) (now (ticks .entry)) (now (numbers .entry)) (now (settings .entry)))
+        (now (buffer .entry)) ⌝ }
 {
-    let counts = [
-        plan.counts.n,
-        plan.counts.m,
-        plan.counts.k,
-        plan.counts.links,
-        plan.counts.commands,
-    ];
-    let length = section_offset(&counts, SECTIONS);
+    let sizes = [counts.n, counts.m, counts.k, counts.links, counts.commands];
+    let length = section_offset(&sizes, SECTIONS);
     if buffer.len() < length {
         return PlanWritten::Short;
     }
-    write_header(buffer, plan.horizon, &counts);
-    let integrators = section_offset(&counts, SECTION_INTEGRATORS);
-    write_integrators(
-        &mut buffer[integrators..],
-        plan.counts.n,
-        &plan.integrators.starts,
-        &plan.integrators.quanta,
-    );
-    let inputs = section_offset(&counts, SECTION_INPUTS);
-    write_inputs(&mut buffer[inputs..], plan.counts.m, &plan.inputs.firsts);
-    let nodes = section_offset(&counts, SECTION_NODES);
-    write_nodes(
-        &mut buffer[nodes..],
-        plan.counts.k,
-        &plan.nodes.kinds,
-        &plan.nodes.a,
-        &plan.nodes.b,
-        &plan.nodes.lows,
-        &plan.nodes.highs,
-    );
-    let links = section_offset(&counts, SECTION_LINKS);
+    write_header(buffer, horizon, &sizes);
+    let integrators = section_offset(&sizes, SECTION_INTEGRATORS);
+    write_integrators(&mut buffer[integrators..], counts.n, starts, quanta);
+    let inputs = section_offset(&sizes, SECTION_INPUTS);
+    write_inputs(&mut buffer[inputs..], counts.m, firsts);
+    let nodes = section_offset(&sizes, SECTION_NODES);
+    write_nodes(&mut buffer[nodes..], counts.k, kinds, a, b, lows, highs);
+    let links = section_offset(&sizes, SECTION_LINKS);
     write_links(
         &mut buffer[links..],
-        plan.counts.links,
-        &plan.links.targets,
-        &plan.links.sources,
-        &plan.links.coefficients,
+        counts.links,
+        targets,
+        sources,
+        coefficients,
     );
-    let commands = section_offset(&counts, SECTION_COMMANDS);
+    let commands = section_offset(&sizes, SECTION_COMMANDS);
     write_commands(
         &mut buffer[commands..],
-        plan.counts.commands,
-        &plan.commands.ticks,
-        &plan.commands.inputs,
-        &plan.commands.values,
+        counts.commands,
+        ticks,
+        numbers,
+        settings,
     );
     PlanWritten::Length(length)
 }

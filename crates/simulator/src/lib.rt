@@ -1,6 +1,8 @@
 // The public calls of the cup simulator: what each answers.
 mod positions;
 mod runs;
+mod testing;
+mod writing;
 
 pub use calls::Loaded;
 pub use calls::Positioned;
@@ -9,23 +11,21 @@ pub use calls::Written;
 pub use positions::position;
 pub use runs::run_eager;
 pub use runs::run_lazy;
+pub use testing::is_sound;
+pub use writing::write;
 ghost use mathlib.Core.Path.{_≡_};
 ghost use Rattle.plan.specs.Refusals.{sectionOf, sectionStart};
 ghost use Rattle.directory.specs.Pointers.{further};
-ghost use Rattle.calls.specs.Calls.{loadOf, writeOf, bufferOfWrite};
+ghost use Rattle.calls.specs.Calls.{loadOf};
 use directory::section_in;
 use machine::State;
 use plan::ACCEPTED;
 use plan::Finding;
-use plan::REFUSED_UNSOUND;
-use plan::REFUSED_WRITE_BUFFER;
 use plan::SECTIONS;
+use planfile::finding_of;
 use planfile::read_plan;
 use planrules::entry_of;
 use planrules::number_of;
-use planwriter::PlanWritten;
-use planwriter::write_plan;
-use soundness::is_sound;
 use starts::start;
 
 // The section view: "hands back that part of the caller's own file, or an empty part if the file would be refused or the number is above 4". `answer`
@@ -37,8 +37,7 @@ pub fn section(file: &[u8], number: usize) -> &[u8]
     if SECTIONS <= number {
         return &file[..0];
     }
-    let reading = read_plan(file);
-    let found = reading.finding;
+    let found = finding_of(file);
     let Finding::Clean = found else {
         return &file[..0];
     };
@@ -69,33 +68,5 @@ pub fn load(file: &[u8]) -> Loaded
         number: ACCEPTED,
         entry: 0,
         state,
-    }
-}
-
-// "The writer writes the state's plan and returns the length; bytes after it keep their value." 10, then 13.
-pub fn write(state: State, buffer: &mut [u8]) -> Written
-    ensures answer { λ r. ⌜ r ≡ writeOf state (now (buffer .entry)) ⌝ }
-    ensures buffer { λ _. ⌜ now (buffer .exit) ≡ bufferOfWrite state (now (buffer .entry)) ⌝ }
-{
-    if !is_sound(state) {
-        return Written {
-            number: REFUSED_UNSOUND,
-            length: 0,
-            state,
-        };
-    }
-    let plan = state.plan;
-    let written = write_plan(plan, buffer);
-    match written {
-        PlanWritten::Short => Written {
-            number: REFUSED_WRITE_BUFFER,
-            length: 0,
-            state,
-        },
-        PlanWritten::Length(length) => Written {
-            number: ACCEPTED,
-            length,
-            state,
-        },
     }
 }

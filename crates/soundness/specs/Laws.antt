@@ -1,2 +1,3 @@
 -- What the proofs of the code go by.
 pub mod RunningTests
+pub mod Answers

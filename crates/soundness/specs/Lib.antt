@@ -1,2 +1,3 @@
--- What is proved of the test of a state.
+-- What the test of a state answers, and what is proved of it.
+pub mod Testing
 pub mod Laws

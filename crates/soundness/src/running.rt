@@ -6,16 +6,24 @@ ghost use Rattle.integers.specs.Range.{within};
 ghost use Rattle.plan.specs.Numbers.{M};
 ghost use Rattle.plan.specs.Lists.{intAt, every};
 ghost use Rattle.plan.specs.Rules.{PlanRules};
-ghost use Rattle.machine.specs.SoundTest.{runningSound};
+ghost use Rattle.plan.specs.Lent.{planLent};
+ghost use Rattle.machine.specs.Lent.{runningLent};
+ghost use Rattle.soundness.specs.Testing.{runningTestedOf, unsound};
+use crate::Tested;
 use entryrules::value_within_m;
-use machine::Running;
-use plan::Plan;
-use rates::link_ranges;
-use rates::rates;
+use machine::Clocks;
+use plan::COMMANDS;
+use plan::Counts;
+use plan::INPUTS;
+use plan::INTEGRATORS;
+use plan::LINKS;
+use plan::NODES;
+use plan::SOURCES;
+use rates::RANGES;
 use soundintegrators::integrators_sound;
+use tables::tables_by;
 use timing::next_entry;
 use unusedentries::running_unused_zero;
-use values::source_values;
 
 // "|q| ≤ M", and "inputs are within ±M".
 fn values_within_m(values: &[i64], count: usize) -> bool
@@ -32,64 +40,102 @@ fn values_within_m(values: &[i64], count: usize) -> bool
     true
 }
 
-// Outputs and inputs are bounded before a rate is worked out from them, and the instants by the clock before they are multiplied.
-pub fn running_sound(plan: Plan, run: Running) -> bool
-    requires { ⌜ PlanRules plan ⌝ }
-    ensures { λ r. ⌜ r ≡ runningSound plan run ⌝ }
+// What is answered of a state that is not sound.
+pub fn unsound() -> Tested
+    ensures { λ r. ⌜ r ≡ unsound ⌝ }
 {
-    let n = plan.counts.n;
-    let m = plan.counts.m;
-    let clock = run.clocks.clock;
-    if clock > plan.horizon {
-        return false;
+    Tested {
+        sound: false,
+        ranges: [0; RANGES],
+        values: [0; SOURCES],
     }
-    if !values_within_m(&run.q, n) {
-        return false;
+}
+
+// "c ≤ horizon; .. the next command is the first with tick above c, or the command count if none; instants ≤ c; updates ≤ n×instants"; the other clauses
+// are those of the functions called. Outputs and inputs are bounded before a rate is worked out from them, and the instants by the clock before they are
+// multiplied.
+pub fn running_tested<'a>(
+    horizon: u32,
+    counts: Counts,
+    starts: &'a [i64; INTEGRATORS],
+    quanta: &'a [i64; INTEGRATORS],
+    firsts: &'a [i64; INPUTS],
+    kinds: &'a [usize; NODES],
+    a: &'a [usize; NODES],
+    b: &'a [usize; NODES],
+    lows: &'a [i64; NODES],
+    highs: &'a [i64; NODES],
+    targets: &'a [usize; LINKS],
+    sources: &'a [usize; LINKS],
+    coefficients: &'a [i64; LINKS],
+    ticks: &'a [u32; COMMANDS],
+    numbers: &'a [usize; COMMANDS],
+    settings: &'a [i64; COMMANDS],
+    x: &'a [i64; INTEGRATORS],
+    q: &'a [i64; INTEGRATORS],
+    s: &'a [i64; INTEGRATORS],
+    l: &'a [u32; INTEGRATORS],
+    d: &'a [u32; INTEGRATORS],
+    inputs: &'a [i64; INPUTS],
+    clocks: Clocks,
+) -> Tested
+    requires { ⌜ PlanRules (planLent horizon counts (now starts) (now quanta) (now firsts) (now kinds) (now a) (now b) (now lows) (now highs)
+        (now targets) (now sources) (now coefficients) (now ticks) (now numbers) (now settings)) ⌝ }
+    ensures { λ r. ⌜ r ≡ runningTestedOf
+        (planLent horizon counts (now (starts .entry)) (now (quanta .entry)) (now (firsts .entry))
+        (now (kinds .entry)) (now (a .entry)) (now (b .entry)) (now (lows .entry)) (now (highs .entry))
+        (now (targets .entry)) (now (sources .entry)) (now (coefficients .entry))
+        (now (ticks .entry)) (now (numbers .entry)) (now (settings .entry)))
+        (runningLent (now (x .entry)) (now (q .entry)) (now (s .entry)) (now (l .entry)) (now (d .entry)) (now (inputs .entry)) clocks) ⌝ }
+{
+    let n = counts.n;
+    let m = counts.m;
+    let clock = clocks.clock;
+    let next = clocks.next;
+    let instants = clocks.instants;
+    let updates = clocks.updates;
+    if clock > horizon {
+        return unsound();
     }
-    if !values_within_m(&run.inputs, m) {
-        return false;
+    if !values_within_m(q, n) {
+        return unsound();
     }
-    let values = source_values(
-        n,
-        m,
-        plan.counts.k,
-        &plan.nodes.kinds,
-        &plan.nodes.a,
-        &plan.nodes.b,
-        &plan.nodes.lows,
-        &plan.nodes.highs,
-        &run.q,
-        &run.inputs,
+    if !values_within_m(inputs, m) {
+        return unsound();
+    }
+    let tables = tables_by(
+        counts,
+        kinds,
+        a,
+        b,
+        lows,
+        highs,
+        targets,
+        sources,
+        coefficients,
+        q,
+        inputs,
     );
-    let ranges = link_ranges(n, plan.counts.links, &plan.links.targets);
-    let slopes = rates(
-        n,
-        &plan.links.sources,
-        &plan.links.coefficients,
-        &ranges,
-        &values,
-    );
-    if !integrators_sound(
-        n,
-        &plan.integrators.quanta,
-        &slopes,
-        clock,
-        &run.x,
-        &run.q,
-        &run.s,
-        &run.l,
-        &run.d,
-    ) {
-        return false;
+    if !integrators_sound(n, quanta, &tables.slopes, clock, x, q, s, l, d) {
+        return unsound();
     }
-    if run.clocks.next != next_entry(plan.counts.commands, &plan.commands.ticks, clock) {
-        return false;
+    if next != next_entry(counts.commands, ticks, clock) {
+        return unsound();
     }
-    if run.clocks.instants > clock as u64 {
-        return false;
+    if instants > clock as u64 {
+        return unsound();
     }
-    if run.clocks.updates > (n as u64) * run.clocks.instants {
-        return false;
+    if updates > (n as u64) * instants {
+        return unsound();
     }
-    running_unused_zero(n, m, run)
+    if !running_unused_zero(n, m, x, q, s, l, d, inputs) {
+        return unsound();
+    }
+    let ranges = tables.ranges;
+    let values = tables.values;
+    Tested {
+        sound: true,
+        ranges,
+        values,
+    }
 }

@@ -1,4 +1,4 @@
-// "Start: x = q = start, l = c = 0, slopes and dues by rule, counts 0." The parts come from `values`, `rates` and `timing`.
+// "Start: x = q = start, l = c = 0, slopes and dues by rule, counts 0." The parts come from `tables` and `timing`.
 ghost use mathlib.Core.Path.{_≡_};
 ghost use Prim.Native.Nat.{_≤_};
 ghost use Rattle.plan.specs.Numbers.{mostIntegrators};
@@ -12,11 +12,9 @@ use machine::Clocks;
 use machine::Running;
 use plan::INTEGRATORS;
 use plan::Plan;
-use rates::link_ranges;
-use rates::rates;
+use tables::tables_by;
 use timing::due_tick;
 use timing::next_entry;
-use values::source_values;
 
 // The due tick of each integrator at its start.
 fn start_dues<'a>(
@@ -47,29 +45,24 @@ pub fn start(plan: Plan) -> Running
     requires { ⌜ PlanRules plan ⌝ }
     ensures { λ r. ⌜ r ≡ startOf plan ⌝ }
 {
-    let n = plan.counts.n;
-    let values = source_values(
-        n,
-        plan.counts.m,
-        plan.counts.k,
+    let counts = plan.counts;
+    let tables = tables_by(
+        counts,
         &plan.nodes.kinds,
         &plan.nodes.a,
         &plan.nodes.b,
         &plan.nodes.lows,
         &plan.nodes.highs,
+        &plan.links.targets,
+        &plan.links.sources,
+        &plan.links.coefficients,
         &plan.integrators.starts,
         &plan.inputs.firsts,
     );
-    let ranges = link_ranges(n, plan.counts.links, &plan.links.targets);
-    let s = rates(
-        n,
-        &plan.links.sources,
-        &plan.links.coefficients,
-        &ranges,
-        &values,
-    );
+    let s = tables.slopes;
+    let n = counts.n;
     let d = start_dues(n, &plan.integrators.starts, &plan.integrators.quanta, &s);
-    let next = next_entry(plan.counts.commands, &plan.commands.ticks, 0);
+    let next = next_entry(counts.commands, &plan.commands.ticks, 0);
     let x = plan.integrators.starts;
     let inputs = plan.inputs.firsts;
     Running {

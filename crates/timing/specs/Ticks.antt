@@ -4,23 +4,10 @@ use mathlib.Core.List.{List}
 use Prim.Native.Nat.{ℕ, _+_, _-_, _*_, _^_, _≤_, _<_}
 use lib.IntN.{ℤ, pos, _+ℤ_, _-ℤ_, _*ℤ_}
 use lib.Signed.{_≤ℤ_, _<ℤ_}
-use Rattle.integers.specs.Parts.{positivePart, ∣_∣}
-use Rattle.integers.specs.Division.{ceilDiv}
+use Rattle.integers.specs.Parts.{∣_∣}
 use Rattle.plan.specs.Numbers.{M, largestHorizon}
 use Rattle.plan.specs.Lists.{intAt}
 use Rattle.machine.specs.Values.{slopeLimit}
-
--- `from`, and the ticks that a move of `speed` a tick takes over `distance`
-unfoldable pub tickAt : ℕ → ℤ → ℤ → ℕ
-tickAt from distance speed = from + ceilDiv (positivePart distance) (positivePart speed)
-
--- a tick up to the largest horizon, a distance below 2^31, a speed below the limit of slopes
-pub record TicksReady (from : ℕ) (distance speed : ℤ) : Type 0 where
-  pub early : from ≤ largestHorizon
-  pub ahead : pos 1 ≤ℤ distance
-  pub near : distance <ℤ pos (2 ^ 31)
-  pub moving : pos 1 ≤ℤ speed
-  pub slow : speed <ℤ pos slopeLimit
 
 -- integrator i's levels, where outputs and quanta stand in arrays
 abbrev pub upperIn : (q quanta : List ℤ) (i : ℕ) → ℤ

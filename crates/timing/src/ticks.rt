@@ -6,34 +6,33 @@ ghost use Rattle.plan.specs.Numbers.{mostIntegrators, mostCommands};
 ghost use Rattle.machine.specs.Due.{dueTick};
 ghost use Rattle.machine.specs.Entries.{entryTick};
 ghost use Rattle.machine.specs.Next.{leastDue};
-ghost use Rattle.timing.specs.Ticks.{tickAt, TicksReady, DueReady, PositionReady};
+ghost use Rattle.timing.specs.Ticks.{DueReady, PositionReady};
 use crate::entries::entry_tick;
 use integers::divide_up;
 use machine::State;
 use plan::COMMANDS;
 use plan::INTEGRATORS;
 
-// The tick at which a move of `speed` a tick, begun at `from`, has gone `distance`: the distance is worked out first, then divided, as in source document 002 (M5).
-fn tick_at(from: u32, distance: i64, speed: i64) -> u32
-    requires { ⌜ TicksReady from distance speed ⌝ }
-    ensures { λ r. ⌜ r ≡ tickAt from distance speed ⌝ }
-{
-    let ticks = divide_up(distance as u64, speed as u64);
-    (from as u64 + ticks) as u32
-}
-
-// "For s > 0, d−l is the least T ≥ 1 with x+s×T ≥ q+D; for s < 0 the least T ≥ 1 with x+s×T ≤ q−D; for s = 0 d is never." The caller works out the two
-// levels.
+// "For s > 0, d−l is the least T ≥ 1 with x+s×T ≥ q+D; for s < 0 the least T ≥ 1 with x+s×T ≤ q−D; for s = 0 d is never." The steps are
+// those of source document 002 (M5) for σ_2, its time to the next level, in its order: the slope's sign, the distance to the level ahead, the division. Here
+// the quotient is rounded up to whole ticks. The caller works out the two levels.
 pub fn due_tick(from: u32, x: i64, upper: i64, lower: i64, s: i64) -> u32
     requires { ⌜ DueReady from x upper lower s ⌝ }
     ensures { λ r. ⌜ r ≡ dueTick from x upper lower s ⌝ }
 {
+    // M5: "(Q_{k+1} − (x + e·d_x)) / x_v if x_v > 0"
     if s > 0 {
-        return tick_at(from, upper - x, s);
+        let distance = upper - x;
+        let ticks = divide_up(distance as u64, s as u64);
+        return (from as u64 + ticks) as u32;
     }
+    // "((x + e·d_x) − (Q_k − ε)) / |x_v| if x_v < 0"
     if s < 0 {
-        return tick_at(from, x - lower, -s);
+        let distance = x - lower;
+        let ticks = divide_up(distance as u64, (-s) as u64);
+        return (from as u64 + ticks) as u32;
     }
+    // "∞ if x_v = 0"
     State::NEVER
 }
 

@@ -1,116 +1,83 @@
-// "unused entries are 0": of an array those from its count on.
+// "unused entries are 0": of an array those from its count on. The scans look at every entry that is left, with no early return, so that the
+// compiler can test several at a time.
 ghost use mathlib.Core.Path.{_≡_};
-ghost use Rattle.plan.specs.Unused.{natsZeroFrom, intsZeroFrom, planUnusedZero};
+ghost use Rattle.plan.specs.Unused.{natsZeroFrom, intsZeroFrom};
 ghost use Rattle.unusedentries.specs.Entries.{runningUnusedZeroBy};
-use machine::Running;
-use plan::Plan;
+use plan::INPUTS;
+use plan::INTEGRATORS;
 
 // Values, positions, quanta and slopes.
-fn signed_zero_from(entries: &[i64], count: usize) -> bool
-    ensures { λ r. ⌜ r ≡ intsZeroFrom count (now (entries .entry)) ⌝ }
+pub fn signed_zero_from(values: &[i64], count: usize) -> bool
+    ensures { λ r. ⌜ r ≡ intsZeroFrom count (now (values .entry)) ⌝ }
 {
+    let mut zero = true;
     let mut i = count;
-    while i < entries.len() {
-        if entries[i] != 0 {
-            return false;
+    while i < values.len() {
+        if values[i] != 0 {
+            zero = false;
         }
         i += 1;
     }
-    true
+    zero
 }
 
 // Ticks.
-fn ticks_zero_from(entries: &[u32], count: usize) -> bool
-    ensures { λ r. ⌜ r ≡ natsZeroFrom count (now (entries .entry)) ⌝ }
+pub fn ticks_zero_from(ticks: &[u32], count: usize) -> bool
+    ensures { λ r. ⌜ r ≡ natsZeroFrom count (now (ticks .entry)) ⌝ }
 {
+    let mut zero = true;
     let mut i = count;
-    while i < entries.len() {
-        if entries[i] != 0 {
-            return false;
+    while i < ticks.len() {
+        if ticks[i] != 0 {
+            zero = false;
         }
         i += 1;
     }
-    true
+    zero
 }
 
 // Kinds, and numbers of sources, integrators and inputs.
-fn numbers_zero_from(entries: &[usize], count: usize) -> bool
-    ensures { λ r. ⌜ r ≡ natsZeroFrom count (now (entries .entry)) ⌝ }
+pub fn numbers_zero_from(numbers: &[usize], count: usize) -> bool
+    ensures { λ r. ⌜ r ≡ natsZeroFrom count (now (numbers .entry)) ⌝ }
 {
+    let mut zero = true;
     let mut i = count;
-    while i < entries.len() {
-        if entries[i] != 0 {
-            return false;
+    while i < numbers.len() {
+        if numbers[i] != 0 {
+            zero = false;
         }
         i += 1;
     }
-    true
-}
-
-// Every column of a plan, each by the count of its section.
-pub fn plan_unused_zero(plan: Plan) -> bool
-    ensures { λ r. ⌜ r ≡ planUnusedZero plan ⌝ }
-{
-    if !signed_zero_from(&plan.integrators.starts, plan.counts.n) {
-        return false;
-    }
-    if !signed_zero_from(&plan.integrators.quanta, plan.counts.n) {
-        return false;
-    }
-    if !signed_zero_from(&plan.inputs.firsts, plan.counts.m) {
-        return false;
-    }
-    if !numbers_zero_from(&plan.nodes.kinds, plan.counts.k) {
-        return false;
-    }
-    if !numbers_zero_from(&plan.nodes.a, plan.counts.k) {
-        return false;
-    }
-    if !numbers_zero_from(&plan.nodes.b, plan.counts.k) {
-        return false;
-    }
-    if !signed_zero_from(&plan.nodes.lows, plan.counts.k) {
-        return false;
-    }
-    if !signed_zero_from(&plan.nodes.highs, plan.counts.k) {
-        return false;
-    }
-    if !numbers_zero_from(&plan.links.targets, plan.counts.links) {
-        return false;
-    }
-    if !numbers_zero_from(&plan.links.sources, plan.counts.links) {
-        return false;
-    }
-    if !signed_zero_from(&plan.links.coefficients, plan.counts.links) {
-        return false;
-    }
-    if !ticks_zero_from(&plan.commands.ticks, plan.counts.commands) {
-        return false;
-    }
-    if !numbers_zero_from(&plan.commands.inputs, plan.counts.commands) {
-        return false;
-    }
-    signed_zero_from(&plan.commands.values, plan.counts.commands)
+    zero
 }
 
 // The running figures of n integrators and m inputs.
-pub fn running_unused_zero(n: usize, m: usize, run: Running) -> bool
-    ensures { λ r. ⌜ r ≡ runningUnusedZeroBy n m run ⌝ }
+pub fn running_unused_zero<'a>(
+    n: usize,
+    m: usize,
+    x: &'a [i64; INTEGRATORS],
+    q: &'a [i64; INTEGRATORS],
+    s: &'a [i64; INTEGRATORS],
+    l: &'a [u32; INTEGRATORS],
+    d: &'a [u32; INTEGRATORS],
+    inputs: &'a [i64; INPUTS],
+) -> bool
+    ensures { λ r. ⌜ r ≡ runningUnusedZeroBy n m (now (x .entry)) (now (q .entry)) (now (s .entry)) (now (l .entry)) (now (d .entry)) (now (inputs .entry)) ⌝ }
 {
-    if !signed_zero_from(&run.x, n) {
+    if !signed_zero_from(x, n) {
         return false;
     }
-    if !signed_zero_from(&run.q, n) {
+    if !signed_zero_from(q, n) {
         return false;
     }
-    if !signed_zero_from(&run.s, n) {
+    if !signed_zero_from(s, n) {
         return false;
     }
-    if !ticks_zero_from(&run.l, n) {
+    if !ticks_zero_from(l, n) {
         return false;
     }
-    if !ticks_zero_from(&run.d, n) {
+    if !ticks_zero_from(d, n) {
         return false;
     }
-    signed_zero_from(&run.inputs, m)
+    signed_zero_from(inputs, m)
 }

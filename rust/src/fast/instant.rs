@@ -56,9 +56,16 @@ impl Fast {
         Status::Paused
     }
 
-    /// Takes the instant, with its events from `at` on; answers the place behind them.
+    /// Takes the instant, with its events from `at` on; answers the place behind them. The eager
+    /// engine moves every integrator.
     #[inline]
-    pub(super) fn take(&mut self, tick: u32, due: u32, buffer: &mut [u8], at: usize) -> usize {
+    pub(super) fn take<const EAGER: bool>(
+        &mut self,
+        tick: u32,
+        due: u32,
+        buffer: &mut [u8],
+        at: usize,
+    ) -> usize {
         for i in members(due) {
             let integrator = &mut self.integrators[i];
             integrator.x = integrator.position_at(tick);
@@ -77,13 +84,12 @@ impl Fast {
             end += EVENT_BYTES;
         }
         self.work_out_nodes((reached >> FIRST_NODE_BIT) as u32);
-        let moved = due | reached as u32;
-        for i in members(moved) {
-            self.move_integrator(i, tick);
-        }
+        self.updates += match EAGER {
+            true => self.move_all(tick),
+            false => self.move_members(due | reached as u32, tick),
+        };
         self.clock = tick;
         self.instants += 1;
-        self.updates += u64::from(moved.count_ones());
         end
     }
 
@@ -112,6 +118,24 @@ impl Fast {
         }
     }
 
+    /// Moves the integrators of a mask; answers how many.
+    #[inline]
+    fn move_members(&mut self, moved: u32, tick: u32) -> u64 {
+        for i in members(moved) {
+            self.move_integrator(i, tick);
+        }
+        u64::from(moved.count_ones())
+    }
+
+    /// Moves every integrator; answers how many.
+    #[inline]
+    fn move_all(&mut self, tick: u32) -> u64 {
+        for i in 0..self.tables.n {
+            self.move_integrator(i, tick);
+        }
+        self.tables.n as u64
+    }
+
     /// Brings an integrator to a tick, with the slope and due tick that it has from there.
     #[inline]
     fn move_integrator(&mut self, i: usize, tick: u32) {
@@ -134,7 +158,7 @@ impl IntegratorState {
     /// The due tick. The distance to the level ahead is 1 to 2^31 − 1, so a speed that is no less
     /// takes one tick, and for any other speed 32 bits are enough to divide in.
     #[inline]
-    fn due(&self, quantum: i64, q: i64) -> u32 {
+    pub(super) fn due(&self, quantum: i64, q: i64) -> u32 {
         if self.s == 0 {
             return NEVER;
         }

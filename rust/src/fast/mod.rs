@@ -1,22 +1,38 @@
-//! The lazy engine written for speed, to time the proved one against.
+//! The calls written for speed, to time the proved ones against.
 //!
-//! It is made from document 01's rules and from nothing else, as someone would write it who wants
-//! it fast and stays with safe Rust: all tables have a fixed size, an integrator's figures lie side
-//! by side and so do its links, what a change of a source reaches is one word of a table, due
-//! ticks lie in a row that is scanned, values are kept by source number, and an instant touches
-//! only what it changes. All sums are in 64 bits, which the limits of document 01 leave room for.
+//! They are made from document 01's rules and from nothing else, as someone would write them who
+//! wants them fast and stays with safe Rust. The engines: all tables have a fixed size, an
+//! integrator's figures lie side by side and so do its links, what a change of a source reaches is
+//! one word of a table, due ticks lie in a row that is scanned, values are kept by source number,
+//! and an instant touches only what it changes. The reader: one pass over the file, which tests an
+//! entry and puts it in its place. All sums are in 64 bits, which the limits of document 01 leave
+//! room for.
 //!
-//! There are two forms of it:
+//! There are two forms of the engines:
 //!
 //! - [`Fast`] has its tables worked out once and keeps them, and its figures, over all runs;
-//! - [`run_lazy`] works like the public call: a state goes in and comes out, and the tables are
-//!   worked out anew. It does not test whether the state is sound.
+//! - [`run_lazy`] and [`run_eager`] work like the public calls: a state goes in and comes out, and
+//!   the tables are worked out anew.
+//!
+//! [`load`], [`read`], [`section`], [`write`] and [`position`] work like the public calls too. None
+//! of these tests whether its state is sound, which has to be so. [`sound`] does, as a call of its
+//! own. No call becomes part of its caller's code, since those of a library do not either.
 
 mod instant;
+mod read;
+mod rules;
+mod sound;
+mod start;
 mod tables;
+mod write;
 
-use crate::calls::Ran;
-use crate::limits::{ACCEPTED, REFUSED_BUDGET, REFUSED_RUN_BUFFER};
+pub use read::{read, section, Refused};
+pub use sound::sound;
+pub use start::load;
+pub use write::write;
+
+use crate::calls::{Positioned, Ran};
+use crate::limits::{ACCEPTED, REFUSED_BUDGET, REFUSED_INTEGRATOR_NUMBER, REFUSED_RUN_BUFFER};
 use crate::limits::{EVENT_BYTES, INTEGRATORS, LARGEST_BUDGET, NEVER};
 use crate::raw::{RawClocks, RawRunning, RawState};
 use crate::status::Status;
@@ -83,6 +99,16 @@ impl Fast {
     /// Takes as many instants as the budget says, or fewer if the status is first 1 or 2. The buffer
     /// has to have room for their events.
     pub fn run(&mut self, budget: u64, buffer: &mut [u8]) -> Outcome {
+        self.run_by::<false>(budget, buffer)
+    }
+
+    /// The same by the eager engine.
+    pub fn run_eager(&mut self, budget: u64, buffer: &mut [u8]) -> Outcome {
+        self.run_by::<true>(budget, buffer)
+    }
+
+    #[inline]
+    fn run_by<const EAGER: bool>(&mut self, budget: u64, buffer: &mut [u8]) -> Outcome {
         let mut written = 0;
         let mut left = budget;
         loop {
@@ -91,7 +117,7 @@ impl Fast {
             if left == 0 || status != Status::Paused {
                 return Outcome { status, written };
             }
-            written = self.take(tick, due, buffer, written);
+            written = self.take::<EAGER>(tick, due, buffer, written);
             left -= 1;
         }
     }
@@ -121,7 +147,44 @@ impl Fast {
 }
 
 /// The lazy run of a sound state, with declines 11 and 12.
-pub fn run_lazy(mut state: RawState, budget: u64, buffer: &mut [u8]) -> Ran {
+#[inline(never)]
+pub fn run_lazy(state: RawState, budget: u64, buffer: &mut [u8]) -> Ran {
+    run_by(Fast::run, state, budget, buffer)
+}
+
+/// The eager run of a sound state, with the same declines.
+#[inline(never)]
+pub fn run_eager(state: RawState, budget: u64, buffer: &mut [u8]) -> Ran {
+    run_by(Fast::run_eager, state, budget, buffer)
+}
+
+/// The position call of a sound state, with decline 14.
+#[inline(never)]
+pub fn position(state: RawState, integrator: usize) -> Positioned {
+    let run = &state.run;
+    let (number, value) = match integrator < state.plan.counts.n {
+        false => (REFUSED_INTEGRATOR_NUMBER, 0),
+        true => {
+            let ticks = run.clocks.clock - run.l[integrator];
+            let way = run.s[integrator] * i64::from(ticks);
+            (ACCEPTED, run.x[integrator] + way)
+        }
+    };
+    Positioned {
+        number,
+        value,
+        state,
+    }
+}
+
+/// A run as a call. It is part of either, so that the state is not copied once more.
+#[inline(always)]
+fn run_by(
+    engine: impl Fn(&mut Fast, u64, &mut [u8]) -> Outcome,
+    mut state: RawState,
+    budget: u64,
+    buffer: &mut [u8],
+) -> Ran {
     let declined = |number, state| Ran {
         number,
         status: 0,
@@ -137,7 +200,7 @@ pub fn run_lazy(mut state: RawState, budget: u64, buffer: &mut [u8]) -> Ran {
         return declined(REFUSED_RUN_BUFFER, state);
     }
     let mut fast = Fast::prepared(&state);
-    let outcome = fast.run(budget, buffer);
+    let outcome = engine(&mut fast, budget, buffer);
     state.run = fast.running();
     Ran {
         number: ACCEPTED,

@@ -185,14 +185,20 @@ impl Node {
     /// What the node is, from the values of the sources below it.
     #[inline]
     pub fn value(&self, values: &Values) -> i64 {
-        let (a, b) = (values[usize::from(self.a)], values[usize::from(self.b)]);
-        match usize::from(self.kind) {
-            KIND_DIFFERENCE => limited(a - b, -M, M),
-            KIND_PRODUCT => limited((a * b) >> GRAIN_BITS, -M, M),
-            KIND_LIMIT => limited(a, self.low, self.high),
-            _ if a >= b => self.high,
-            _ => self.low,
-        }
+        let operands = (values[usize::from(self.a)], values[usize::from(self.b)]);
+        node_value(usize::from(self.kind), operands, self.low, self.high)
+    }
+}
+
+/// What a node of a kind makes of the values of A and B.
+#[inline]
+pub fn node_value(kind: usize, (a, b): (i64, i64), low: i64, high: i64) -> i64 {
+    match kind {
+        KIND_DIFFERENCE => limited(a - b, -M, M),
+        KIND_PRODUCT => limited((a * b) >> GRAIN_BITS, -M, M),
+        KIND_LIMIT => limited(a, low, high),
+        _ if a >= b => high,
+        _ => low,
     }
 }
 

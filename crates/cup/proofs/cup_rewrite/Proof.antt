@@ -36,9 +36,14 @@ returns c =
     let refused = rewrite-refused (now (a .file)) (now (a .buffer)) (reading-refuses (now (a .file)) reading (not-clean _ (c .before .match .keys2))) in
     (number ∙ refused .0, refused .1)
 
+-- from behind the lending of the plan to behind the reading
+abbrev read : tie.After-write-plan-arg16 → tie.After-enum-told
+read c =
+    c .before .before .before .before .before .before .before .before .before .before
+    .before .before .before .before .before .before .before .before
+
 write-plan-requires : tie.Need-write-plan-requires
-write-plan-requires c κs =
-    let told = c .before .before in rw (plan-is told) (accepted-rules _ (accepts told))
+write-plan-requires c κs = rw (plan-is (read c)) (accepted-rules _ (accepts (read c)))
 
 enum-told-2 : tie.Need-enum-told-2
 enum-told-2 c = search needs
@@ -52,7 +57,7 @@ same-length c = search needs
 returns-2 : tie.Need-returns-2
 returns-2 c =
     let wrote = c .before .before .before .before in
-    let told = wrote .before .before .before in
+    let told = read (wrote .before) in
     let answer = rw (plan-is told) at (wrote .write-plan .ensures) in
     rewrite-short _ _ (accepts told) (answer .0) (answer .1) (c .enum-told2 .given .1)
 
@@ -62,7 +67,7 @@ same-length-2 c = search needs
 returns-3 : tie.Need-returns-3
 returns-3 c =
     let wrote = c .before .before .before .before .before in
-    let told = wrote .before .before .before in
+    let told = read (wrote .before) in
     let answer = rw (plan-is told) at (wrote .write-plan .ensures) in
     rewrite-done _ _ (accepts told) (answer .0) (answer .1) (c .before .answer .given .1)
 

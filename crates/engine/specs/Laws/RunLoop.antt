@@ -6,7 +6,6 @@ use Prim.Native.Nat.{ℕ, _+_, _-_, _≤_, _<_}
 use native.Mathlib.Omega.{arith}
 use lib.IntN.{ℤ}
 use lib.ListN.{length, length-append}
-use Rattle.bitset.specs.Mask.{each}
 use Rattle.plan.specs.declared.Counts.{Counts}
 use Rattle.plan.specs.declared.Plan.{Plan}
 use Rattle.machine.specs.Instant.{instant, eventsOf}
@@ -17,7 +16,6 @@ use Rattle.machine.specs.Laws.SoundClauses.{SoundRunning}
 use Rattle.machine.specs.Laws.Lengths.{instant-bytes}
 use Rattle.machine.specs.Laws.Runs.{run-stopped, run-taken}
 use Rattle.machine.specs.Laws.Shapes.{instant-shaped}
-use Rattle.machine.specs.Laws.Held.{input-size}
 use Rattle.machine.specs.Laws.Soundness.{instant-sound}
 use Rattle.machine.specs.Laws.SoundTest.{clauses-words}
 use Rattle.machine.specs.Laws.Status.{paused-true, is-paused, true-paused}
@@ -25,8 +23,7 @@ use Rattle.machine.specs.declared.Clocks.{Clocks}
 use Rattle.machine.specs.declared.Running.{Running}
 use Rattle.machine.specs.declared.Engine.{Engine}
 use Rattle.machine.specs.declared.Status.the-variants.{Paused}
-use Rattle.values.specs.Sources.{valuesOf, outputAndInputValues, outputsIn, inputsIn, nodeStep, NodesReady}
-use Rattle.values.specs.Laws.SourceValues.{nodes-ready, first-sized, all-nodes}
+use Rattle.values.specs.Sources.{valuesOf, outputsIn, inputsIn}
 use Rattle.values.specs.Laws.ReadOut.{outputs-read, inputs-read}
 use Rattle.rates.specs.Links.{rangesOf}
 use Rattle.reach.specs.Table.{reachTable}
@@ -43,13 +40,6 @@ use Rattle.engine.specs.declared.runs.Ended.{Ended}
 abbrev pub aheadAt : Plan → Running → Ahead
 aheadAt p r = aheadOf (p .horizon) (p .counts .n) (p .counts .commands) (p .commands .ticks) (r .x) (r .s) (r .l) (r .d) (r .clocks .next)
 
--- before the loop: what working out the values of all sources asks
-pub source-values-ready : (p : Plan) (r : Running) → SoundRunning p r
-    → NodesReady (p .nodes .a) (p .nodes .b) (p .nodes .lows) (p .nodes .highs) (outputAndInputValues (p .counts .n) (p .counts .m) (r .q) (r .inputs)) (p .counts .n + p .counts .m) (p .counts .k)
-source-values-ready p r ok =
-    nodes-ready p (ok .plan) (outputAndInputValues (p .counts .n) (p .counts .m) (r .q) (r .inputs))
-    (first-sized p (r .q) (r .inputs) (ok .plan) (ok .held .outputs) (input-size (ok .held)))
-
 -- ---- outputs and input values that are read out of the values of sources
 pub figures-read : (counts : Counts) (x s : List ℤ) (l d : List ℕ) (values : List ℤ) (clocks : Clocks) {q u : List ℤ}
     → q ≡ outputsIn (counts .n) values → u ≡ inputsIn (counts .n) (counts .m) values
@@ -57,7 +47,7 @@ pub figures-read : (counts : Counts) (x s : List ℤ) (l d : List ℕ) (values :
 figures-read counts x s l d values clocks e f = rw (e, f)
 
 -- those of the figures r, from the values of all sources by r
-running-read : (p : Plan) (r : Running) → RunningWidths r → SoundRunning p r → {values : List ℤ} → values ≡ valuesOf p (r .q) (r .inputs)
+pub running-read : (p : Plan) (r : Running) → RunningWidths r → SoundRunning p r → {values : List ℤ} → values ≡ valuesOf p (r .q) (r .inputs)
     → r ≡ runningOf (p .counts) (r .x) (r .s) (r .l) (r .d) values (r .clocks)
 running-read p r shaped ok {values} e =
     figures-read (p .counts) (r .x) (r .s) (r .l) (r .d) values (r .clocks)
@@ -76,26 +66,23 @@ module _ (p : Plan) (engine : Engine) (budget : ℕ) (first : Running) (buffer�
     pub same-size : length buffer ≡ length buffer₀
     pub room : end + roomOf p (budget - taken) ≤ length buffer
 
-  pub begun : {values : List ℤ} → RunningWidths first → SoundRunning p first
-      → roomOf p budget ≤ length buffer₀
-      → values
-      ≡ each (nodeStep (p .nodes .kinds) (p .nodes .a) (p .nodes .b) (p .nodes .lows) (p .nodes .highs) (p .counts .n + p .counts .m)) (λ _. true) (p .counts .k)
-      (outputAndInputValues (p .counts .n) (p .counts .m) (first .q) (first .inputs))
-      → Progress (runningOf (p .counts) (first .x) (first .s) (first .l) (first .d) values (first .clocks)) values 0 0 buffer₀
-  begun {values} shaped ok room worked =
-      let all : budget - 0 ≡ budget = omega arith in
-      let values-are = worked ∙ all-nodes p (first .q) (first .inputs) (ok .plan) in
-      subst (λ (r : Running). Progress r values 0 0 buffer₀) (running-read p first shaped ok values-are)
-      (record {
-        shaped = shaped;
-        sound = ok;
-        values-are = values-are;
-        figures = rw all;
-        bytes = rw all;
-        ends = rw all (omega arith);
-        same-size = refl;
-        room = rw all (omega (arith, room));
-      })
+-- before the first instant
+pub begun : (p : Plan) (engine : Engine) (budget : ℕ) (r : Running) (buffer : List ℕ) {values : List ℤ} → RunningWidths r → SoundRunning p r
+    → values ≡ valuesOf p (r .q) (r .inputs) → roomOf p budget ≤ length buffer
+    → let first = runningOf (p .counts) (r .x) (r .s) (r .l) (r .d) values (r .clocks) in Progress p engine budget first buffer first values 0 0 buffer
+begun p engine budget r buffer {values} shaped ok values-are room =
+    let all : budget - 0 ≡ budget = omega arith in
+    subst (λ (first : Running). Progress p engine budget first buffer first values 0 0 buffer) (running-read p r shaped ok values-are)
+    (record {
+      shaped = shaped;
+      sound = ok;
+      values-are = values-are;
+      figures = rw all;
+      bytes = rw all;
+      ends = rw all (omega arith);
+      same-size = refl;
+      room = rw all (omega (arith, room));
+    })
 
 module _ {p : Plan} {engine : Engine} {budget : ℕ} {first : Running} {buffer₀ : List ℕ} {r : Running}
     {values : List ℤ} {end taken : ℕ} {buffer : List ℕ} {ahead : Ahead}
@@ -160,26 +147,26 @@ module _ {p : Plan} {engine : Engine} {budget : ℕ} {first : Running} {buffer�
           }
 
   -- ---- the end
-  -- what the code answers and leaves in the buffer, where nothing is left of the run; r' are the figures as it tells them
-  abbrev Done : Running → Type 0
-  Done r' =
-      _≡_ {A = Ended} (record { status = ahead .status; written = end; run = r' }) (endedOf p engine budget first)
-      × (buffer ≡ putAt buffer₀ 0 (eventsOfRun p engine budget first))
+  -- what the code answers and leaves in the buffer, where nothing is left of the run; `given` are the figures that it was handed, r' those that it tells
+  abbrev Done : Running → Running → Type 0
+  Done given r' =
+      _≡_ {A = Ended} (record { status = ahead .status; written = end; run = r' }) (endedOf p engine budget given)
+      × (buffer ≡ putAt buffer₀ 0 (eventsOfRun p engine budget given))
 
-  module _ {r' : Running} (told : r' ≡ r) where
-    done : (afterRun p engine (budget - taken) r ≡ r) × (eventsOfRun p engine (budget - taken) r ≡ []) → Done r'
+  module _ {given r' : Running} (begins : given ≡ first) (told : r' ≡ r) where
+    done : (afterRun p engine (budget - taken) r ≡ r) × (eventsOfRun p engine (budget - taken) r ≡ []) → Done given r'
     unfolding endedOf
     done none =
         let here : r ≡ afterRun p engine budget first = sym (none .0) ∙ now .figures in
         let written : end ≡ length (eventsOfRun p engine budget first) = omega (arith, now .ends, ap length (none .1)) in
-        (rw (told, status-is, written, ← here), sym (put-none buffer end) ∙ rw (none .1) at (now .bytes))
+        rw begins (rw (told, status-is, written, ← here), sym (put-none buffer end) ∙ rw (none .1) at (now .bytes))
 
     -- by the status
-    pub stopped : isPaused (ahead .status) ≡ false → Done r'
+    pub stopped : isPaused (ahead .status) ≡ false → Done given r'
     stopped h =
         done (run-stopped p engine (budget - taken) r (λ e. true≢false (sym (paused-true (ahead .status) (status-is ∙ e)) ∙ h)))
 
     -- by the budget
-    pub spent : budget ≤ taken → Done r'
+    pub spent : budget ≤ taken → Done given r'
     unfolding afterRun eventsOfRun
     spent h = let none : budget - taken ≡ 0 = omega (arith, h) in done (rw none (refl, refl))

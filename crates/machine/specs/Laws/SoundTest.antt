@@ -26,7 +26,7 @@ use Rattle.machine.specs.declared.Running.{Running}
 use Rattle.machine.specs.declared.State.{State}
 
 -- ---- the plan
-plan-means : (p : Plan) → Means (planSound p) (PlanRules p × PlanUnusedZero p)
+pub plan-means : (p : Plan) → Means (planSound p) (PlanRules p × PlanUnusedZero p)
 unfolding planSound
 plan-means p = both (Iff·trans (both Iff·rfl Iff·rfl) (plan-rules p)) (plan-unused p)
 

@@ -1,4 +1,4 @@
--- Laws: what a reading of a file says of it, refused or accepted.
+-- Laws: what the finding and a reading of a file say of it, refused or accepted.
 use mathlib.Core.Path.{_≡_, sym, ap, _∙_}
 use mathlib.Core.Bool.{true, false}
 use mathlib.Core.List.{List}
@@ -21,6 +21,14 @@ module _ (file : List ℕ) {finding : Finding} (e : finding ≡ findingOf file) 
   unfolding filePlanOf accepted isClean numberOf
   reading-accepted c p = rw (← e, c, p)
 
+  pub finding-accepts : finding ≡ Clean → accepted file ≡ true
+  unfolding accepted isClean numberOf
+  finding-accepts c = rw (← e, c)
+
+  pub finding-refuses : isClean finding ≡ false → accepted file ≡ false
+  unfolding accepted
+  finding-refuses c = rw (← e, c)
+
 -- what a reading of a file says of it
 module _ (file : List ℕ) {r : FilePlan} (e : r ≡ filePlanOf file) where
   pub reading-finding : r .finding ≡ findingOf file
@@ -32,9 +40,7 @@ module _ (file : List ℕ) {r : FilePlan} (e : r ≡ filePlanOf file) where
   reading-plan c = let clean : findingOf file ≡ Clean = sym reading-finding ∙ c in ap (λ (s : FilePlan). s .plan) e ∙ rw clean
 
   pub reading-accepts : r .finding ≡ Clean → accepted file ≡ true
-  unfolding accepted isClean numberOf
-  reading-accepts c = rw (← reading-finding, c)
+  reading-accepts = finding-accepts file reading-finding
 
   pub reading-refuses : isClean (r .finding) ≡ false → accepted file ≡ false
-  unfolding accepted
-  reading-refuses c = rw (← reading-finding, c)
+  reading-refuses = finding-refuses file reading-finding

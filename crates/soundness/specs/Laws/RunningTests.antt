@@ -1,9 +1,9 @@
 -- Laws: the clauses of a sound state's running figures in the order in which the code tests them, and what its tests ask. Assumes nothing.
-use mathlib.Core.Path.{_≡_, refl, sym}
+use mathlib.Core.Path.{_≡_, refl, sym, _∙_}
 use mathlib.Core.Bool.{Bool, true, false, _&&_}
 use mathlib.Core.Logic.{Iff·rfl}
 use mathlib.Core.List.{List, [], _∷_}
-use Prim.Native.Nat.{ℕ, zero, suc, _+_, _*_, _≤_, _<_}
+use Prim.Native.Nat.{ℕ, zero, suc, _*_, _≤_, _<_}
 use native.Mathlib.Nat.{mul-le-mul-right}
 use native.Mathlib.Omega.{arith}
 use lib.IntN.{ℤ, pos}
@@ -30,26 +30,16 @@ use Rattle.machine.specs.SoundTest.{heldSound, movedUnusedZero, integratorSound
 use Rattle.machine.specs.Laws.Held.{slope-within}
 use Rattle.machine.specs.Laws.Levels.{levels-apart}
 use Rattle.machine.specs.declared.Running.{Running}
-use Rattle.values.specs.Sources.{valuesOf, outputAndInputValues, NodesReady}
-use Rattle.values.specs.Laws.SourceValues.{nodes-ready, first-sized, values-sized}
-use Rattle.rates.specs.Links.{rangesOf, RatesReady}
-use Rattle.rates.specs.Laws.OwnRange.{own-rated}
 use Rattle.timing.specs.Laws.Dues.{level-ready}
 use Rattle.unusedentries.specs.Entries.{runningUnusedZeroBy}
 use Rattle.soundintegrators.specs.Figures.{figuresSound, IntegratorsReady}
 use Rattle.soundintegrators.specs.Laws.OneIntegrator.{figuresIn}
-use Rattle.unusedentries.specs.Laws.EarlyReturns.{passes}
+use Rattle.unusedentries.specs.Laws.EarlyReturns.{passes, same-tests}
 
 every-same : (f g : ℕ → Bool) (n : ℕ) → ((i : ℕ) → i < n → f i ≡ g i) → every f n ≡ every g n
 unfolding every
 every-same f g zero e = refl
 every-same f g (suc n) e = rw (every-same f g n (λ i h. e i (omega arith)), e n (omega arith))
-
--- tests that pass together are one test
-together : (a b : Bool) → (a ≡ true → b ≡ true) → (b ≡ true → a ≡ true) → a ≡ b
-together true b f g = sym (f refl)
-together false true f g = g refl
-together false false f g = refl
 
 itself : (b : Bool) → Means b (b ≡ true)
 itself b = Iff·rfl
@@ -81,7 +71,7 @@ module _ (p : Plan) (r : Running) where
       ∷ eqb (r .clocks .next) (nextCommand p (r .clocks .clock))
       ∷ leb (r .clocks .instants) (r .clocks .clock)
       ∷ leb (r .clocks .updates) (p .counts .n * r .clocks .instants)
-      ∷ runningUnusedZeroBy (p .counts .n) (p .counts .m) r
+      ∷ runningUnusedZeroBy (p .counts .n) (p .counts .m) (r .x) (r .q) (r .s) (r .l) (r .d) (r .inputs)
       ∷ []
 
   pub running-tests : passes clauses 8 ≡ runningSound p r
@@ -105,15 +95,16 @@ module _ (p : Plan) (r : Running) where
           let held = both (both (both (both (both (itself outputs) (itself inputs)) (itself next)) (itself instants)) (itself q)) (itself u) in
           let moved = both (both (both (itself x) (itself s)) (itself l)) (itself d) in
           let then = both (both (both (both (itself clock) (itself figures)) held) (itself updates)) moved in
-          together _ _
-          (λ e. let f = first .0 e in let c = f .0 in let w = f .1 in then .1 (
-            ((((c .0 .0 .0 .0 .0 .0, c .0 .0 .0 .1), (((((c .0 .0 .0 .0 .0 .1, c .0 .0 .0 .0 .1), c .0 .0 .1), c .0 .1), w .0 .0 .0 .0 .1), w .1)), c .1)),
-            (((w .0 .0 .0 .0 .0, w .0 .0 .0 .1), w .0 .0 .1), w .0 .1),
-          ))
-          (λ e. let f = then .0 e in let c = f .0 in let h = c .0 .1 in let w = f .1 in first .1 (
-            ((((((c .0 .0 .0, h .0 .0 .0 .0 .0), h .0 .0 .0 .0 .1), c .0 .0 .1), h .0 .0 .0 .1), h .0 .0 .1), c .1),
-            (((((w .0 .0 .0, h .0 .1), w .0 .0 .1), w .0 .1), w .1), h .1),
-          ))
+          same-tests first then (
+            (λ t. let c = t .0 in let w = t .1 in (
+              ((((c .0 .0 .0 .0 .0 .0, c .0 .0 .0 .1), (((((c .0 .0 .0 .0 .0 .1, c .0 .0 .0 .0 .1), c .0 .0 .1), c .0 .1), w .0 .0 .0 .0 .1), w .1)), c .1)),
+              (((w .0 .0 .0 .0 .0, w .0 .0 .0 .1), w .0 .0 .1), w .0 .1),
+            )),
+            (λ t. let c = t .0 in let h = c .0 .1 in let w = t .1 in (
+              ((((((c .0 .0 .0, h .0 .0 .0 .0 .0), h .0 .0 .0 .0 .1), c .0 .0 .1), h .0 .0 .0 .1), h .0 .0 .1), c .1),
+              (((((w .0 .0 .0, h .0 .1), w .0 .0 .1), w .0 .1), w .1), h .1),
+            )),
+          )
 
   -- ---- what testing the integrators asks, once the clock, the outputs and the inputs have passed
   abbrev pub slopes : List ℤ
@@ -124,21 +115,11 @@ module _ (p : Plan) (r : Running) where
     slope-at i h = row-at (pos 0) 32 (p .counts .n) (slopeOf p (heldOf r)) i (count-limits p (rules .counts) .n) h
 
     module _ (outputs : every outputAt (p .counts .n) ≡ true) (inputs : every inputAt (p .counts .m) ≡ true) where
-      output-size : (i : ℕ) → i < p .counts .n → ∣ intAt (r .q) i ∣ ≤ M
+      pub output-size : (i : ℕ) → i < p .counts .n → ∣ intAt (r .q) i ∣ ≤ M
       output-size i h = within-true M (intAt (r .q) i) .0 (every-true outputAt (p .counts .n) .0 outputs i h)
 
-      input-size : (j : ℕ) → j < p .counts .m → ∣ intAt (r .inputs) j ∣ ≤ M
+      pub input-size : (j : ℕ) → j < p .counts .m → ∣ intAt (r .inputs) j ∣ ≤ M
       input-size j h = within-true M (intAt (r .inputs) j) .0 (every-true inputAt (p .counts .m) .0 inputs j h)
-
-      pub sources-ready : (p .counts .n ≤ 32) × (p .counts .m ≤ 8)
-          × NodesReady (p .nodes .a) (p .nodes .b) (p .nodes .lows) (p .nodes .highs) (outputAndInputValues (p .counts .n) (p .counts .m) (r .q) (r .inputs)) (p .counts .n + p .counts .m) (p .counts .k)
-      sources-ready =
-          let c = count-limits p (rules .counts) in
-          (c .n, c .m, nodes-ready p rules _ (first-sized p (r .q) (r .inputs) rules output-size input-size))
-
-      pub rates-ready : (p .counts .n ≤ 32) × RatesReady (p .counts .n) (p .links .sources) (p .links .coefficients) (rangesOf p) (valuesOf p (r .q) (r .inputs))
-      rates-ready =
-          (count-limits p (rules .counts) .n, own-rated p rules _ (values-sized p (r .q) (r .inputs) rules output-size input-size))
 
       pub figures-ready : leb (r .clocks .clock) (p .horizon) ≡ true → IntegratorsReady (p .counts .n) (p .integrators .quanta) slopes (r .clocks .clock) (r .q)
       unfolding upperLevel lowerLevel
@@ -163,6 +144,8 @@ module _ (p : Plan) (r : Running) where
         omega (arith, leb-true (r .clocks .clock) (p .horizon) clock, leb-true (r .clocks .instants) (r .clocks .clock) instants, rules .horizon .1)
 
     -- the test by the slopes that the code has worked out
-    pub figures-same : every (figuresIn (p .integrators .quanta) slopes (r .clocks .clock) (r .x) (r .q) (r .s) (r .l) (r .d)) (p .counts .n) ≡ every figuresAt (p .counts .n)
+    pub figures-tested : {by : List ℤ} {found : Bool} → by ≡ slopes
+        → found ≡ every (figuresIn (p .integrators .quanta) by (r .clocks .clock) (r .x) (r .q) (r .s) (r .l) (r .d)) (p .counts .n)
+        → found ≡ every figuresAt (p .counts .n)
     unfolding upperLevel lowerLevel
-    figures-same = every-same _ figuresAt (p .counts .n) (λ i h. rw (slope-at i h))
+    figures-tested e f = rw e at f ∙ every-same _ figuresAt (p .counts .n) (λ i h. rw (slope-at i h))

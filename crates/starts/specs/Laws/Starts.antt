@@ -2,14 +2,13 @@
 use mathlib.Core.Path.{_≡_, refl, sym, _∙_}
 use mathlib.Core.Bool.{Bool, true, false, cond}
 use mathlib.Core.List.{List}
-use Prim.Native.Nat.{ℕ, _+_, _≤_, _<_}
+use Prim.Native.Nat.{ℕ, _≤_, _<_}
 use lib.IntN.{ℤ, pos}
 use lib.Dec.{ltb}
 use lib.ListN.{replicate}
 use Rattle.integers.specs.Parts.{∣_∣}
-use Rattle.bitset.specs.Mask.{each}
 use Rattle.plan.specs.Numbers.{M}
-use Rattle.plan.specs.Lists.{natAt, intAt, row}
+use Rattle.plan.specs.Lists.{intAt, row}
 use Rattle.plan.specs.Rules.{PlanRules}
 use Rattle.plan.specs.Laws.CountLimits.{count-limits}
 use Rattle.plan.specs.Laws.TestMeanings.{within-size}
@@ -17,13 +16,9 @@ use Rattle.plan.specs.Laws.Rows.{table-ext, row-at, row-ext, row-none}
 use Rattle.plan.specs.declared.Plan.{Plan}
 use Rattle.machine.specs.Due.{dueTick}
 use Rattle.machine.specs.Next.{nextCommand}
-use Rattle.machine.specs.Held.{runningBy, heldStart}
+use Rattle.machine.specs.Held.{runningBy}
 use Rattle.machine.specs.Start.{startSlope, startDue, startOf}
 use Rattle.machine.specs.declared.Running.{Running}
-use Rattle.values.specs.Sources.{valuesOf, outputAndInputValues, nodeStep, NodesReady}
-use Rattle.values.specs.Laws.SourceValues.{nodes-ready, first-sized, values-at, values-sized, all-nodes}
-use Rattle.rates.specs.Links.{firstLink, rangesOf, rangeRate, RatesReady}
-use Rattle.rates.specs.Laws.OwnRange.{own-rated, own-slopes}
 use Rattle.timing.specs.Ticks.{upperIn, lowerIn}
 use Rattle.timing.specs.Laws.Dues.{level-ready-start, due-ready-start, due-is-start}
 use Rattle.starts.specs.Starting.{StartsReady}
@@ -38,36 +33,12 @@ zeros w k = row-none 0 w (λ i. 0) ∙ table-ext w _ _ (λ i h. same (ltb i 0) �
     same false = refl
 
 module _ (p : Plan) (rules : PlanRules p) where
-  outputs : (i : ℕ) → i < p .counts .n → ∣ intAt (p .integrators .starts) i ∣ ≤ M
-  outputs i h = within-size M (intAt (p .integrators .starts) i) .0 (rules .integrators i h .start)
+  -- ---- what is held at first
+  pub first-outputs : (i : ℕ) → i < p .counts .n → ∣ intAt (p .integrators .starts) i ∣ ≤ M
+  first-outputs i h = within-size M (intAt (p .integrators .starts) i) .0 (rules .integrators i h .start)
 
-  inputs : (j : ℕ) → j < p .counts .m → ∣ intAt (p .inputs .firsts) j ∣ ≤ M
-  inputs j h = within-size M (intAt (p .inputs .firsts) j) .0 (rules .inputs j h)
-
-  -- ---- the values of sources
-  pub start-nodes-ready : NodesReady (p .nodes .a) (p .nodes .b) (p .nodes .lows) (p .nodes .highs) (outputAndInputValues (p .counts .n) (p .counts .m) (p .integrators .starts) (p .inputs .firsts)) (p .counts .n + p .counts .m) (p .counts .k)
-  start-nodes-ready = nodes-ready p rules _ (first-sized p (p .integrators .starts) (p .inputs .firsts) rules outputs inputs)
-
-  -- ---- the slopes
-  module _ {values : List ℤ} {ranges : List ℕ}
-      (worked : values ≡ each (nodeStep (p .nodes .kinds) (p .nodes .a) (p .nodes .b) (p .nodes .lows) (p .nodes .highs) (p .counts .n + p .counts .m)) (λ _. true) (p .counts .k)
-      (outputAndInputValues (p .counts .n) (p .counts .m) (p .integrators .starts) (p .inputs .firsts)))
-      (found : ranges ≡ row 0 33 (p .counts .n + 1) (firstLink (p .links .targets) (p .counts .links))) where
-    values-are : values ≡ valuesOf p (p .integrators .starts) (p .inputs .firsts)
-    values-are = worked ∙ all-nodes p (p .integrators .starts) (p .inputs .firsts) rules
-
-    ranges-are : ranges ≡ rangesOf p
-    unfolding rangesOf
-    ranges-are = found
-
-    pub start-rates-ready : RatesReady (p .counts .n) (p .links .sources) (p .links .coefficients) ranges values
-    start-rates-ready = rw (values-are, ranges-are) (own-rated p rules _ (values-sized p (p .integrators .starts) (p .inputs .firsts) rules outputs inputs))
-
-    pub start-slopes : {s : List ℤ}
-        → s ≡ row (pos 0) 32 (p .counts .n) (λ i. rangeRate (p .links .sources) (p .links .coefficients) values (natAt ranges i) (natAt ranges (i + 1)))
-        → s ≡ row (pos 0) 32 (p .counts .n) (startSlope p)
-    unfolding startSlope
-    start-slopes e = rw (values-are, ranges-are) at e ∙ own-slopes p rules _ (heldStart p) (values-at p (p .integrators .starts) (p .inputs .firsts) rules)
+  pub first-inputs : (j : ℕ) → j < p .counts .m → ∣ intAt (p .inputs .firsts) j ∣ ≤ M
+  first-inputs j h = within-size M (intAt (p .inputs .firsts) j) .0 (rules .inputs j h)
 
   -- ---- the due ticks
   module _ {s : List ℤ} (slopes : s ≡ row (pos 0) 32 (p .counts .n) (startSlope p)) where

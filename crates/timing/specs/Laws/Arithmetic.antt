@@ -1,10 +1,10 @@
 -- Laws: the arithmetic of positions, levels and due ticks step by step: what each step asks, and what the steps come to. Assumes nothing.
-use mathlib.Core.Path.{_≡_, sym, ap, _∙_}
+use mathlib.Core.Path.{_≡_, sym, _∙_}
 use mathlib.Core.Bool.{true, false}
 use Prim.Native.Nat.{ℕ, _+_, _-_, _^_, _≤_, _<_, max}
 use native.Mathlib.Omega.{arith}
 use lib.IntN.{ℤ, pos, natAbs, _+ℤ_, _-ℤ_, _*ℤ_}
-use lib.Signed.{ltZ, nonNeg}
+use lib.Signed.{ltZ, nonNeg, _≤ℤ_, _<ℤ_}
 use lib.Dec.{T}
 use mir.Syntax.{w64}
 use mir.Val.{SFits, Fits}
@@ -14,10 +14,11 @@ use Rattle.integers.specs.Laws.Parts.{sum, dif, abs, tight, zs}
 use Rattle.integers.specs.Division.{ceilDiv}
 use Rattle.integers.specs.Laws.Division.{ceil-one, ceil-most}
 use Rattle.integers.specs.Laws.Signed64.{rd, rd-add, rd-sub, as-u64}
-use Rattle.plan.specs.Numbers.{never}
+use Rattle.plan.specs.Numbers.{largestHorizon, never}
+use Rattle.machine.specs.Values.{slopeLimit}
 use Rattle.machine.specs.Due.{distance, ticksTo, dueTick}
 use Rattle.machine.specs.Laws.Due.{due-still, due-moving}
-use Rattle.timing.specs.Ticks.{tickAt, TicksReady, LevelReady, DueReady, PositionReady}
+use Rattle.timing.specs.Ticks.{LevelReady, DueReady, PositionReady}
 
 -- ---- a position
 module _ (x s : ℤ) (l t : ℕ) (ready : PositionReady x s l t) where
@@ -48,7 +49,19 @@ module _ {q quantum : ℤ} (ready : LevelReady q quantum) where
     pub lower-read : rd (rd q -ℤ rd quantum) ≡ q -ℤ quantum
     lower-read = toZ-ofZ lower-made ∙ rd-sub fq fd
 
--- ---- the tick at which a move has gone its distance
+-- ---- the due tick
+-- distance and speed of a slope that is not 0: a tick up to the largest horizon, a distance below 2^31, a speed below the limit of slopes
+pub record TicksReady (from : ℕ) (distance speed : ℤ) : Type 0 where
+  pub early : from ≤ largestHorizon
+  pub ahead : pos 1 ≤ℤ distance
+  pub near : distance <ℤ pos (2 ^ 31)
+  pub moving : pos 1 ≤ℤ speed
+  pub slow : speed <ℤ pos slopeLimit
+
+-- a distance of at least 1 gives a quotient of at least 1, so "T ≥ 1" asks no more
+quotient-least : (d k : ℕ) → 1 ≤ d → 0 < k → max 1 (ceilDiv d k) ≡ ceilDiv d k
+quotient-least d k h l = omega (arith, ceil-one d k l h)
+
 module _ (from : ℕ) (distance speed : ℤ) (ready : TicksReady from distance speed) where
   -- both are above 0, so a cast keeps them
   pub distance-cast : T (nonNeg distance) × Fits w64 (natAbs distance)
@@ -63,21 +76,12 @@ module _ (from : ℕ) (distance speed : ℤ) (ready : TicksReady from distance s
   distance-same : natAbs distance ≡ positivePart distance
   distance-same = omega (arith, zs, abs distance, tight distance)
 
-  speed-same : natAbs speed ≡ positivePart speed
-  speed-same = omega (arith, zs, abs speed, tight speed)
-
-  pub tick-is : {ticks : ℕ} → ticks ≡ ceilDiv (natAbs distance) (natAbs speed) → from + ticks ≡ tickAt from distance speed
-  unfolding tickAt
-  tick-is e = ap (λ k. from + k) (e ∙ rw (distance-same, speed-same))
-
   -- at most one tick for each unit of the distance: below never
   pub tick-most : {ticks : ℕ} → ticks ≡ ceilDiv (natAbs distance) (natAbs speed) → from + ticks < 2 ^ 32 - 1
   tick-most e = omega (arith, zs, ready .early, ready .near, distance-same, ceil-most (natAbs distance) (natAbs speed) speed-positive, tight distance)
 
--- ---- the due tick
--- a distance of at least 1 gives a quotient of at least 1, so "T ≥ 1" asks no more
-quotient-least : (d k : ℕ) → 1 ≤ d → 0 < k → max 1 (ceilDiv d k) ≡ ceilDiv d k
-quotient-least d k h l = omega (arith, ceil-one d k l h)
+  quotient-is : max 1 (ceilDiv (positivePart distance) (natAbs speed)) ≡ ceilDiv (natAbs distance) (natAbs speed)
+  quotient-is = rw distance-same (quotient-least (positivePart distance) (natAbs speed) (omega (arith, zs, tight distance)) speed-positive)
 
 module _ (from : ℕ) (x upper lower s : ℤ) (ready : DueReady from x upper lower s) where
   pub rise-fits : SFits w64 (upper -ℤ x)
@@ -95,20 +99,20 @@ module _ (from : ℕ) (x upper lower s : ℤ) (ready : DueReady from x upper low
   pub fall-ready : ltZ s (pos 0) ≡ true → TicksReady from (x -ℤ lower) (pos 0 -ℤ s)
   fall-ready e = omega (arith, zs, dif upper lower, dif x lower, dif (pos 0) s)
 
-  pub due-rise : ltZ (pos 0) s ≡ true → tickAt from (upper -ℤ x) s ≡ dueTick from x upper lower s
-  unfolding tickAt distance ticksTo
-  due-rise e =
-      let r = rise-ready e in let size : ∣ s ∣ ≡ positivePart s = omega (arith, zs, tight s) in
-      sym (due-moving from x upper lower s (λ z. omega (arith, zs))
-      ∙ rw (e, size, quotient-least (positivePart (upper -ℤ x)) (positivePart s) (omega (arith, zs)) (omega (arith, zs))))
+  pub due-rise : ltZ (pos 0) s ≡ true → {ticks : ℕ} → ticks ≡ ceilDiv (natAbs (upper -ℤ x)) (natAbs s) → from + ticks ≡ dueTick from x upper lower s
+  unfolding distance ticksTo
+  due-rise e quotient =
+      let size : ∣ s ∣ ≡ natAbs s = omega (arith, zs, abs s) in
+      sym (due-moving from x upper lower s (λ z. omega (arith, zs)) ∙ rw (e, size, quotient-is from (upper -ℤ x) s (rise-ready e), quotient))
 
-  pub due-fall : ltZ s (pos 0) ≡ true → tickAt from (x -ℤ lower) (pos 0 -ℤ s) ≡ dueTick from x upper lower s
-  unfolding tickAt distance ticksTo
-  due-fall e =
-      let r = fall-ready e in let size : ∣ s ∣ ≡ positivePart (pos 0 -ℤ s) = omega (arith, zs, dif (pos 0) s, tight s) in
+  pub due-fall : ltZ s (pos 0) ≡ true → {ticks : ℕ} → ticks ≡ ceilDiv (natAbs (x -ℤ lower)) (natAbs (pos 0 -ℤ s))
+      → from + ticks ≡ dueTick from x upper lower s
+  unfolding distance ticksTo
+  due-fall e quotient =
+      let size : ∣ s ∣ ≡ natAbs (pos 0 -ℤ s) = omega (arith, zs, abs (pos 0 -ℤ s), dif (pos 0) s, tight s) in
       let falls : ltZ (pos 0) s ≡ false = omega (arith, zs) in
       sym (due-moving from x upper lower s (λ z. omega (arith, zs))
-      ∙ rw (falls, size, quotient-least (positivePart (x -ℤ lower)) (positivePart (pos 0 -ℤ s)) (omega (arith, zs)) (omega (arith, zs))))
+      ∙ rw (falls, size, quotient-is from (x -ℤ lower) (pos 0 -ℤ s) (fall-ready e), quotient))
 
   pub due-never : ltZ (pos 0) s ≡ false → ltZ s (pos 0) ≡ false → never ≡ dueTick from x upper lower s
   due-never e f = sym (due-still from x upper lower s (omega (arith, zs)))

@@ -1,8 +1,10 @@
--- The entries before this one are 0, so what is left decides.
+-- What was found in the entries before this one and what is left decide.
 use borrow.Author.Needs.{needs}
 use borrow.Author.Tests.{eq-eqb, ne-eqb}
 use lib.Dec.{eqb}
 use lib.ListN.{length}
+use mathlib.Core.Bool.{_&&_}
+use mathlib.Core.Logic.{⊎-elim}
 use mathlib.Core.Path.{_≡_, refl}
 use Prim.Native.Nat.{_-_}
 use Rattle.plan.specs.Unused.{natsZeroFrom}
@@ -11,10 +13,10 @@ use Rattle.unusedentries.proofs.ticks_zero_from.Statement.{statement}
 use Rattle.unusedentries.proofs.ticks_zero_from.Tie as tie
 
 abbrev Inv-loop : tie.InvT-loop
-Inv-loop entries count i₀ i = natsZeroFrom i entries ≡ natsZeroFrom count entries
+Inv-loop ticks count zero₀ i₀ found i = (found && natsZeroFrom i ticks) ≡ natsZeroFrom count ticks
 
 abbrev μ-loop : tie.MeasureT-loop
-μ-loop entries count i₀ i = length entries - i
+μ-loop ticks count zero₀ i₀ found i = length ticks - i
 
 loop-holds : tie.Need-loop-holds Inv-loop μ-loop
 loop-holds c = refl
@@ -25,25 +27,25 @@ mul-if1 c = search needs
 shared-slice-read-if1 : tie.Need-shared-slice-read-if1 Inv-loop μ-loop
 shared-slice-read-if1 c = search needs
 
-returns : tie.Need-returns Inv-loop μ-loop
-unfolding natsZeroFrom
-returns c =
-    one-fails (λ x. eqb x 0) 0 _ _ (c .before .before .before .loop .inv) (c .before .before .loop-test .taken) (ne-eqb _ 0 (c .if1 .taken))
-
 add-i : tie.Need-add-i Inv-loop μ-loop
 add-i c = search needs
 
 loop-less : tie.Need-loop-less Inv-loop μ-loop
 loop-less c = search needs
 
+-- behind the test of an entry: it failed, and false is stored, or it passed, and what was found stays
 loop-again : tie.Need-loop-again Inv-loop μ-loop
 unfolding natsZeroFrom
 loop-again c =
-    one-more (λ x. eqb x 0) 0 _ _ (c .before .before .before .loop .inv) (c .before .before .loop-test .taken) (eq-eqb _ 0 (c .if1 .left))
+    let t = c .before .before in let l = t .before .loop in
+    ⊎-elim
+    (λ w. rw (w .1) (one-fails (λ x. eqb x 0) 0 _ _ (l .zero) (l .inv) (t .loop-test .taken) (ne-eqb _ 0 (w .0 .taken))))
+    (λ w. rw (w .1) (one-more (λ x. eqb x 0) 0 _ _ (l .zero) (l .inv) (t .loop-test .taken) (eq-eqb _ 0 (w .0 .left))))
+    (c .if1 .came)
 
-returns-2 : tie.Need-returns-2 Inv-loop μ-loop
+returns : tie.Need-returns Inv-loop μ-loop
 unfolding natsZeroFrom
-returns-2 c = none-left (λ x. eqb x 0) 0 _ _ (c .before .loop .inv) (c .loop-test .left)
+returns c = let l = c .before .loop in none-left (λ x. eqb x 0) 0 _ _ (l .zero) (l .inv) (c .loop-test .left)
 
 pub ticks-zero-from-spec : {M : Type 1} → statement M
 ticks-zero-from-spec =
@@ -54,8 +56,7 @@ ticks-zero-from-spec =
     loop-holds
     mul-if1
     shared-slice-read-if1
-    returns
     add-i
     loop-less
     loop-again
-    returns-2)
+    returns)

@@ -1,13 +1,15 @@
 -- Laws: a chain of early returns: its tests in order. It answers false at the first that fails, and else what the last says. Assumes
 -- nothing.
-use mathlib.Core.Path.{_≡_, sym, _∙_}
+use mathlib.Core.Path.{_≡_, refl, sym, _∙_}
 use mathlib.Core.Bool.{Bool, true, false}
+use mathlib.Core.Logic.{_↔_}
 use mathlib.Core.List.{List}
 use Prim.Native.Nat.{ℕ, _+_, _<_}
 use native.Mathlib.Numerals.{add-one}
 use lib.ListN.{getD}
 use Rattle.plan.specs.Lists.{every}
 use Rattle.plan.specs.Laws.Searches.{every-true}
+use Rattle.plan.specs.Laws.TestMeanings.{Means}
 use Rattle.entryrules.specs.Laws.Testing.{every-none, every-more, every-fails}
 
 -- the first k of the tests pass
@@ -40,3 +42,9 @@ module _ {tests : List Bool} {k : ℕ} (p : Passed tests k) where
 pub fails : (tests : List Bool) {n : ℕ} {whole : Bool} → passes tests n ≡ whole → (k : ℕ) → k < n → getD tests k true ≡ false → false ≡ whole
 unfolding passes
 fails tests {n} all-of k h e = sym (every-fails _ n k h e) ∙ all-of
+
+-- The code's order of the tests and the definition's: tests that mean the same are one test.
+pub same-tests : {a b : Bool} {P Q : Type 0} → Means a P → Means b Q → P ↔ Q → a ≡ b
+same-tests {a = true} f g same = sym (g .1 (same .0 (f .0 refl)))
+same-tests {a = false} {b = true} f g same = f .1 (same .1 (g .0 refl))
+same-tests {a = false} {b = false} f g same = refl

@@ -1,7 +1,8 @@
 -- Where the directory is clean the finding is that of the plan, which is decoded then.
-use mathlib.Core.Path.{_≡_, sym, _∙_}
+use mathlib.Core.Path.{_≡_, sym, ap, subst, _∙_}
 use denote.Ref.{now}
 use Rattle.plan.specs.Format.{planIn}
+use Rattle.plan.specs.Rules.{CountsRule}
 use Rattle.plan.specs.Refusals.{planFinding, findingOf}
 use Rattle.plan.specs.Laws.FileRefusals.{counts-in}
 use Rattle.directory.specs.Directory.{Directory}
@@ -37,8 +38,12 @@ left c = tried _ (finding-directory _) (c .before .before .check-directory .ensu
 decode-requires : tie.Need-decode-requires
 decode-requires c κs = directory c
 
+-- from where the columns are lent to behind the decoding
+abbrev decoded : tie.After-check-plan-arg14 → tie.After-decode
+decoded c = c .before .before .before .before .before .before .before .before .before .before .before .before .before .before .before .before
+
 check-plan-requires : tie.Need-check-plan-requires
-check-plan-requires c κs = rw (c .decode .ensures) (counts-in _ (directory (c .before) .sizes))
+check-plan-requires c κs = subst CountsRule (sym (decoded c .decode .ensures)) (counts-in _ (directory (decoded c .before) .sizes))
 
 enum-told-2 : tie.Need-enum-told-2
 enum-told-2 c = search needs
@@ -46,17 +51,18 @@ enum-told-2 c = search needs
 refused-requires-2 : tie.Need-refused-requires-2
 refused-requires-2 c κs = search needs
 
+-- what the checks have found is the file's finding
+found : (c : tie.After-check-plan) → let clean = decoded (c .before) .before in c .check-plan .result ≡ findingOf (now (clean .before .before .before .before .args .file))
+found c =
+    let behind = decoded (c .before) in c .check-plan .ensures ∙ ap planFinding (behind .decode .ensures) ∙ sym (left (behind .before))
+
 returns-2 : tie.Need-returns-2
-returns-2 c =
-    let file = now (c .before .before .before .before .before .before .before .before .args .file) in
-    let found = rw (c .before .before .before .decode .ensures, ← left (c .before .before .before .before)) at (c .before .before .check-plan .ensures) in
-    c .refused2 .ensures ∙ reading-refused file found (not-clean _ (c .before .match2 .keys2))
+returns-2 c = c .refused2 .ensures ∙ reading-refused _ (found (c .before .before)) (not-clean _ (c .before .match2 .keys2))
 
 returns-3 : tie.Need-returns-3
 returns-3 c =
-    let file = now (c .before .before .before .before .before .before .before .before .args .file) in
-    let found = rw (c .before .before .before .decode .ensures, ← left (c .before .before .before .before)) at (c .before .before .check-plan .ensures) in
-    reading-accepted file found (c .enum-told2 .given .1) (c .before .before .before .decode .ensures)
+    let checked = c .before .before in
+    reading-accepted _ (found checked) (c .enum-told2 .given .1) (decoded (checked .before) .decode .ensures)
 
 pub read-plan-spec : {M : Type 1} → statement M
 read-plan-spec =

@@ -1,0 +1,2 @@
+-- What the proofs of the code go by.
+pub mod SectionTests

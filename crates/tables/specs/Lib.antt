@@ -1,0 +1,3 @@
+-- The tables of a plan, and what is proved of them.
+pub mod Columns
+pub mod Laws
