@@ -1,4 +1,4 @@
--- Model of the code: the tables of a state, for tests, those that a run works out once, or all 0 where the state is not sound.
+-- Model of the code: the tables of a state, for tests, those that a run starts with, or all 0 where the state is not sound.
 use mathlib.Core.Bool.{cond}
 use Prim.Native.Nat.{_+_}
 use lib.IntN.{pos}

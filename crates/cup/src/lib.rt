@@ -147,7 +147,7 @@ pub extern "C" fn cup_echo(state: State) -> State
     state
 }
 
-// The tables that a run works out once: where each integrator's links begin, what a change of each source reaches, and the value of each source.
+// The tables that a run starts with: where each integrator's links begin, what a change of each source reaches, and the value of each source.
 #[repr(C)]
 pub struct Tables {
     pub ranges: [usize; RANGES],

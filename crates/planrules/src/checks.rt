@@ -26,7 +26,7 @@ use plan::LINKS;
 use plan::NODES;
 
 // Refusal 4, the horizon.
-pub fn check_horizon(horizon: u32) -> Finding
+fn check_horizon(horizon: u32) -> Finding
     ensures { λ r. ⌜ r ≡ unless (horizonKept horizon) Horizon ⌝ }
 {
     if horizon_kept(horizon) {

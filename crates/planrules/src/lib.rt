@@ -4,7 +4,6 @@ mod checks;
 mod findings;
 
 pub use checks::check_commands;
-pub use checks::check_horizon;
 pub use checks::check_inputs;
 pub use checks::check_integrators;
 pub use checks::check_links;

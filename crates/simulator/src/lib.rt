@@ -1,6 +1,5 @@
 // The public calls of the cup simulator: what each answers.
 mod positions;
-mod runs;
 mod testing;
 mod writing;
 
@@ -9,8 +8,8 @@ pub use calls::Positioned;
 pub use calls::Ran;
 pub use calls::Written;
 pub use positions::position;
-pub use runs::run_eager;
-pub use runs::run_lazy;
+pub use runcalls::run_eager;
+pub use runcalls::run_lazy;
 pub use testing::is_sound;
 pub use writing::write;
 ghost use mathlib.Core.Path.{_≡_};

@@ -51,8 +51,9 @@ fn position_tested<'a>(
     clocks: Clocks,
     integrator: usize,
 ) -> Found
-    ensures { λ w. ⌜ PositionAnswered (planLent horizon counts (now (starts .entry)) (now (quanta .entry)) (now (firsts .entry)) (now (kinds .entry)) (now (a .entry)) (now (b .entry))
-        (now (lows .entry)) (now (highs .entry)) (now (targets .entry)) (now (sources .entry)) (now (coefficients .entry))
+    ensures { λ w. ⌜ PositionAnswered (planLent horizon counts (now (starts .entry)) (now (quanta .entry)) (now (firsts .entry))
+        (now (kinds .entry)) (now (a .entry)) (now (b .entry)) (now (lows .entry)) (now (highs .entry))
+        (now (targets .entry)) (now (sources .entry)) (now (coefficients .entry))
         (now (ticks .entry)) (now (numbers .entry)) (now (settings .entry)))
         (runningLent (now (x .entry)) (now (q .entry)) (now (s .entry)) (now (l .entry)) (now (d .entry)) (now (inputs .entry)) clocks) integrator w ⌝ }
 {

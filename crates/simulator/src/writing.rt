@@ -52,8 +52,9 @@ fn write_tested<'a>(
     clocks: Clocks,
     buffer: &mut [u8],
 ) -> Wrote
-    ensures { λ w. ⌜ WriteAnswered (planLent horizon counts (now (starts .entry)) (now (quanta .entry)) (now (firsts .entry)) (now (kinds .entry)) (now (a .entry)) (now (b .entry))
-        (now (lows .entry)) (now (highs .entry)) (now (targets .entry)) (now (sources .entry)) (now (coefficients .entry))
+    ensures { λ w. ⌜ WriteAnswered (planLent horizon counts (now (starts .entry)) (now (quanta .entry)) (now (firsts .entry))
+        (now (kinds .entry)) (now (a .entry)) (now (b .entry)) (now (lows .entry)) (now (highs .entry))
+        (now (targets .entry)) (now (sources .entry)) (now (coefficients .entry))
         (now (ticks .entry)) (now (numbers .entry)) (now (settings .entry)))
         (runningLent (now (x .entry)) (now (q .entry)) (now (s .entry)) (now (l .entry)) (now (d .entry)) (now (inputs .entry)) clocks) (now (buffer .entry)) w (now (buffer .exit)) ⌝ }
 {

@@ -53,7 +53,7 @@ pub fn unsound() -> Tested
 
 // "c ≤ horizon; .. the next command is the first with tick above c, or the command count if none; instants ≤ c; updates ≤ n×instants"; the other clauses
 // are those of the functions called. Outputs and inputs are bounded before a rate is worked out from them, and the instants by the clock before they are
-// multiplied.
+// multiplied. `starts`, `firsts`, `numbers` and `settings` are read by the contract alone.
 pub fn running_tested<'a>(
     horizon: u32,
     counts: Counts,

@@ -1,5 +1,5 @@
 -- Model of the code: the tables as they are made of the columns of a plan, and what that asks. What they are of a plan that keeps its
--- rules: `tablesOf`, by Laws/OfPlan.
+-- rules: `planTables`, by Laws/OfPlan.
 use mathlib.Core.Bool.{true}
 use mathlib.Core.List.{List}
 use Prim.Native.Nat.{ℕ, _+_, _≤_}
@@ -15,8 +15,8 @@ use Rattle.rates.specs.Links.{firstLink, rangesOf, rangeRate, RatesReady}
 use Rattle.tables.specs.declared.Tables.{Tables}
 
 -- the tables of a plan, by what is held
-abbrev pub tablesOf : Plan → Held → Tables
-tablesOf p h =
+abbrev pub planTables : Plan → Held → Tables
+planTables p h =
     record {
       ranges = rangesOf p;
       values = valuesOf p (h .q) (h .inputs);

@@ -1,4 +1,4 @@
--- Where the reading is clean the file is accepted, and its directory keeps its rules.
+-- Where the finding is clean the file is accepted, and its directory keeps its rules.
 use native.Mathlib.Omega.{arith}
 use mathlib.Core.Path.{sym, _∙_}
 use denote.Ref.{now}

@@ -11,7 +11,7 @@ use Rattle.machine.specs.Held.{heldOf}
 use Rattle.machine.specs.SoundTest.{planSound, runningSound, isSound}
 use Rattle.machine.specs.declared.Running.{Running}
 use Rattle.machine.specs.declared.State.{State}
-use Rattle.tables.specs.Columns.{tablesOf}
+use Rattle.tables.specs.Columns.{planTables}
 use Rattle.tables.specs.declared.Tables.{Tables}
 use Rattle.soundness.specs.Testing.{soundWith, unsound, testedOf, runningTestedOf}
 use Rattle.soundness.specs.declared.Tested.{Tested}
@@ -33,7 +33,7 @@ module _ (p : Plan) (r : Running) where
   unfolding runningTestedOf
   figures-unsound e answer = rw (← e) answer
 
-  pub figures-sound : {t : Tables} → runningSound p r ≡ true → t ≡ tablesOf p (heldOf r) → handedOn t ≡ runningTestedOf p r
+  pub figures-sound : {t : Tables} → runningSound p r ≡ true → t ≡ planTables p (heldOf r) → handedOn t ≡ runningTestedOf p r
   unfolding runningTestedOf
   figures-sound e tables = rw e (ap handedOn tables)
 

@@ -13,14 +13,14 @@ use Rattle.values.specs.Sources.{valuesOf}
 use Rattle.values.specs.Laws.SourceValues.{nodes-ready, first-sized, values-at, values-sized, all-nodes}
 use Rattle.rates.specs.Links.{rangesOf}
 use Rattle.rates.specs.Laws.OwnRange.{own-rated, own-slopes}
-use Rattle.tables.specs.Columns.{tablesOf, tablesBy, TablesReady}
+use Rattle.tables.specs.Columns.{planTables, tablesBy, TablesReady}
 use Rattle.tables.specs.declared.Tables.{Tables}
 
 module _ (p : Plan) (rules : PlanRules p) (h : Held) where
   pub tables-are : {t : Tables}
       → t ≡ tablesBy (p .counts) (p .nodes .kinds) (p .nodes .a) (p .nodes .b) (p .nodes .lows) (p .nodes .highs)
       (p .links .targets) (p .links .sources) (p .links .coefficients) (h .q) (h .inputs)
-      → t ≡ tablesOf p h
+      → t ≡ planTables p h
   unfolding rangesOf
   tables-are e =
       e ∙ rw (all-nodes p (h .q) (h .inputs) rules, own-slopes p rules (valuesOf p (h .q) (h .inputs)) h (values-at p (h .q) (h .inputs) rules))

@@ -144,6 +144,7 @@ fn write(sample: &Sample) -> Sides<'_> {
     sample.buffer.borrow_mut().fill(0);
     assert_eq!(by_hand().length, sample.file.len());
     assert_eq!(written(), sample.file);
+    assert!(RawState::from(&proved().state) == by_hand().state);
     [repeated(proved), repeated(by_hand)]
 }
 
@@ -152,6 +153,7 @@ fn position(sample: &Sample) -> Sides<'_> {
     let by_hand = || Box::new(fast::position(sample.state(), black_box(0)));
     let answered = (by_hand().number, by_hand().value);
     assert_eq!((proved().number, proved().value), answered);
+    assert!(RawState::from(&proved().state) == by_hand().state);
     [repeated(proved), repeated(by_hand)]
 }
 

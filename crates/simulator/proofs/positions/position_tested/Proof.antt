@@ -15,7 +15,7 @@ use Rattle.machine.specs.SoundTest.{isSound}
 use Rattle.machine.specs.Laws.SoundTest.{test-clauses}
 use Rattle.machine.specs.declared.Running.{Running}
 use Rattle.soundness.specs.Laws.Answers.{sound-told}
-use Rattle.simulator.specs.Answers.{stateBy}
+use Rattle.runcalls.specs.Answers.{stateBy}
 use Rattle.simulator.specs.Laws.Answers.{position-unsound, position-above, position-ready, position-known}
 use Rattle.simulator.proofs.positions.position_tested.Statement.{statement}
 use Rattle.simulator.proofs.positions.position_tested.Tie as tie

@@ -11,7 +11,7 @@ use Rattle.machine.specs.SoundTest.{isSound}
 use Rattle.machine.specs.Laws.SoundTest.{test-clauses}
 use Rattle.machine.specs.declared.Running.{Running}
 use Rattle.soundness.specs.Laws.Answers.{sound-told}
-use Rattle.simulator.specs.Answers.{stateBy}
+use Rattle.runcalls.specs.Answers.{stateBy}
 use Rattle.simulator.specs.Laws.Answers.{write-unsound, write-short, write-whole}
 use Rattle.simulator.proofs.writing.write_tested.Statement.{statement}
 use Rattle.simulator.proofs.writing.write_tested.Tie as tie

@@ -17,7 +17,7 @@ use Rattle.plan.specs.Lent.{planLent}
 use Rattle.machine.specs.Lent.{runningLent}
 use Rattle.machine.specs.SoundTest.{runningSound}
 use Rattle.machine.specs.declared.Running.{Running}
-use Rattle.tables.specs.Columns.{tablesOf}
+use Rattle.tables.specs.Columns.{planTables}
 use Rattle.tables.specs.Laws.OfPlan.{tables-ready, tables-are}
 use Rattle.entryrules.specs.Laws.Testing.{held, failed}
 use Rattle.unusedentries.specs.Laws.EarlyReturns.{passes, Passed, begin, next, passed-at, fails}
@@ -110,7 +110,7 @@ tables-by-requires c κs =
     tables-ready (plan s) (s .pre) (heldOf (run s))
     (output-size (plan s) (run s) (s .pre) outputs inputs) (input-size (plan s) (run s) (s .pre) outputs inputs)
 
-tables : (c : tie.After-tables-by) → let s = entry3 (c .before) in c .tables-by .result ≡ tablesOf (plan s) (heldOf (run s))
+tables : (c : tie.After-tables-by) → let s = entry3 (c .before) in c .tables-by .result ≡ planTables (plan s) (heldOf (run s))
 tables c = let s = entry3 (c .before) in tables-are (plan s) (s .pre) (heldOf (run s)) (c .tables-by .ensures)
 
 -- ---- the integrators

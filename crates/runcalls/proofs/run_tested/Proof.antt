@@ -1,5 +1,5 @@
 -- 10 where the state is not sound, 11 where the budget is above its limit, 12 where the buffer is short, else the engine's answer.
-use mathlib.Core.Path.{_≡_, sym, ap, _∙_}
+use mathlib.Core.Path.{_≡_, sym, _∙_}
 use mathlib.Core.Bool.{true}
 use native.Mathlib.Omega.{arith}
 use Prim.Native.Nat.{_≤_}
@@ -13,12 +13,12 @@ use Rattle.machine.specs.Runs.{eventsMost, roomOf}
 use Rattle.machine.specs.SoundTest.{isSound}
 use Rattle.machine.specs.Laws.SoundTest.{test-clauses}
 use Rattle.machine.specs.declared.Running.{Running}
-use Rattle.soundness.specs.Laws.Answers.{sound-told, told-sound}
+use Rattle.soundness.specs.Laws.Answers.{sound-told}
 use Rattle.calls.specs.Proofs.StateLimits.{room-most}
-use Rattle.simulator.specs.Answers.{stateBy}
-use Rattle.simulator.specs.Laws.Answers.{run-unsound, run-above, run-short, run-ready, run-accepted}
-use Rattle.simulator.proofs.runs.run_tested.Statement.{statement}
-use Rattle.simulator.proofs.runs.run_tested.Tie as tie
+use Rattle.runcalls.specs.Answers.{stateBy}
+use Rattle.runcalls.specs.Laws.Answers.{run-unsound, run-above, run-short, run-ready, run-accepted}
+use Rattle.runcalls.proofs.run_tested.Statement.{statement}
+use Rattle.runcalls.proofs.run_tested.Tie as tie
 
 abbrev plan : tie.Start → Plan
 plan c =

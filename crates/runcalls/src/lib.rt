@@ -4,7 +4,7 @@ ghost use mathlib.Core.Path.{_≡_};
 ghost use Rattle.plan.specs.Lent.{planLent};
 ghost use Rattle.machine.specs.declared.Engine.the-variants.{Lazy, Eager};
 ghost use Rattle.calls.specs.Calls.{runOf, bufferOfRun};
-ghost use Rattle.simulator.specs.Answers.{declinedWith, RunAnswered};
+ghost use Rattle.runcalls.specs.Answers.{declinedWith, RunAnswered};
 use calls::Ran;
 use engine::run;
 use machine::Engine;
@@ -69,8 +69,9 @@ fn run_tested<'a>(
     budget: u64,
     buffer: &mut [u8],
 ) -> Outcome
-    ensures { λ w. ⌜ RunAnswered engine (planLent horizon counts (now (starts .entry)) (now (quanta .entry)) (now (firsts .entry)) (now (kinds .entry)) (now (a .entry)) (now (b .entry))
-        (now (lows .entry)) (now (highs .entry)) (now (targets .entry)) (now (sources .entry)) (now (coefficients .entry))
+    ensures { λ w. ⌜ RunAnswered engine (planLent horizon counts (now (starts .entry)) (now (quanta .entry)) (now (firsts .entry))
+        (now (kinds .entry)) (now (a .entry)) (now (b .entry)) (now (lows .entry)) (now (highs .entry))
+        (now (targets .entry)) (now (sources .entry)) (now (coefficients .entry))
         (now (ticks .entry)) (now (numbers .entry)) (now (settings .entry))) first budget (now (buffer .entry)) w (now (buffer .exit)) ⌝ }
 {
     let test = test_state(
