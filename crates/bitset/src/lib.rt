@@ -1,5 +1,7 @@
 // Sets of small numbers as masks: bit i of a mask is set where i is in the set. Masks of 32 bits hold integrators, inputs or nodes; those of 64 bits, in
 // `wide`, sources, or integrators and nodes together. A set is visited in ascending order by `lowest` and `rest` while it is not 0.
+#![tactic(auto)]
+
 ghost use Rattle.std.specs.Prelude.{◌≡◌, ◌<◌, ◌≤◌, eqb, get_or};
 ghost use Rattle.bitset.specs.Mask.{has, mask_of, all_of, union, with_bit, lowest_of, rest_of};
 ghost use Rattle.bitset.specs.Counts.{count_of};

@@ -4,4 +4,3 @@ pub mod Lists
 pub mod Sessions
 pub mod Limits
 pub mod Promises
-pub mod Proofs

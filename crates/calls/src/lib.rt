@@ -1,5 +1,7 @@
 // What the public calls answer, as structs. What each answers, lists of run calls, the promises and their proofs stand in specs; the calls themselves in the
 // crates `filecalls`, `runcalls` and `simulator`.
+#![tactic(auto)]
+
 use machine::State;
 
 // Number 0 is acceptance; else it is one of document 01's refusals. A refused load gives the lowest faulty entry, and the idle state. Every

@@ -1,4 +1,3 @@
 -- What is proved of the calls for C and Rust, and what they answer beside the public calls.
 pub mod Rewriting
 pub mod Tables
-pub mod Laws

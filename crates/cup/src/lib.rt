@@ -1,5 +1,7 @@
 // The calls for C and Rust, as a static library; `include/cup.h` declares them. A `&[u8]` is a pointer and a length, and a state goes in and out by value.
 // No call keeps anything, and none asks anything of the bytes or of the state.
+#![tactic(auto)]
+
 ghost use Rattle.std.specs.Prelude.{◌≡◌, length};
 ghost use Rattle.plan.specs.Format.{part};
 ghost use Rattle.plan.specs.Refusals.{number_of, entry_of, finding_of, section_of, section_start};

@@ -1,4 +1,6 @@
 // The directory of a plan file: where its sections start and end, and the refusals 1 to 3.
+#![tactic(auto)]
+
 ghost use Rattle.std.specs.Prelude.{◌≡◌, ◌&&◌, ◌<◌, ◌≤◌, ◌^◌, ◌%◌, ◌/◌, eqb, length};
 ghost use Rattle.plan.specs.Numbers.{sections, entry_sizes, header_bytes};
 ghost use Rattle.plan.specs.Lists.{nat_at};

@@ -1,4 +1,6 @@
 // Runs: what lies ahead of a state, and the loop that takes instants.
+#![tactic(auto)]
+
 mod ahead;
 mod runs;
 

@@ -1,2 +1,1 @@
 -- What is proved of the rules of entries.
-pub mod Laws

@@ -1,5 +1,7 @@
 // The rules of a plan's parts in code: the limits of the counts, and the rule of one entry of each section. The section checks and the reader of
 // a file's directory stand on them, and so does the test of a state that was filled by hand.
+#![tactic(auto)]
+
 mod entries;
 mod layout;
 

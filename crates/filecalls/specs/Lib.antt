@@ -1,3 +1,2 @@
 -- What the calls on plan files answer, by the cases that their code tells apart.
 pub mod Answers
-pub mod Laws

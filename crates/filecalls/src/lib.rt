@@ -1,4 +1,6 @@
 // The calls on plan files: `load`, and the section view.
+#![tactic(auto)]
+
 mod loading;
 
 ghost use Rattle.std.specs.Prelude.{◌≡◌};

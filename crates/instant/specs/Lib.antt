@@ -1,3 +1,2 @@
 -- An instant on lent arrays, and what is proved of it.
 pub mod Lent
-pub mod Laws

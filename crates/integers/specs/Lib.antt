@@ -2,4 +2,3 @@
 pub mod Parts
 pub mod Division
 pub mod Range
-pub mod Laws

@@ -1,4 +1,6 @@
 // Division of whole numbers that rounds down or up, and a value limited to a range.
+#![tactic(auto)]
+
 ghost use Rattle.std.specs.Prelude.{◌≡◌, ◌<◌};
 ghost use Rattle.integers.specs.Division.{floor65536, ceil_div};
 ghost use Rattle.integers.specs.Range.{limited};

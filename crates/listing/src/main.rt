@@ -1,4 +1,6 @@
 // "The listing program reads at most 4,493 bytes of standard input": what is read goes to `listingturns`, and the text of each turn to standard output.
+#![tactic(auto)]
+
 ghost use Rattle.std.specs.Prelude.{◌≡◌, length};
 ghost use Rattle.plan.specs.Numbers.{listing_input};
 ghost use Rattle.listingturns.specs.Turns.{event_space, text_space};

@@ -2,5 +2,3 @@
 pub mod Decimal
 pub mod Lines
 pub mod Printed
-pub mod Laws
-pub mod Examples

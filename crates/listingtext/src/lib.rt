@@ -1,5 +1,7 @@
 // The text of the listing program, as ASCII bytes at the start of a lent buffer: numbers, and the lines that they make up. Each function answers the
 // length of its text, and the bytes behind the text keep their value.
+#![tactic(auto)]
+
 ghost use Rattle.std.specs.Prelude.{◌≡◌, ◌+◌, ◌*◌, ◌≤◌, nat_abs, length};
 ghost use Rattle.plan.specs.Numbers.{event_bytes};
 ghost use Rattle.listingtext.specs.Decimal.{decimal, signed_decimal};

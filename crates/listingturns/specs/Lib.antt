@@ -2,5 +2,3 @@
 pub mod Listing
 pub mod Turns
 pub mod Promises
-pub mod Laws
-pub mod Examples

@@ -1,4 +1,6 @@
 // The listing program's work: "loads them, runs lazily with budget 64 until status 1 or 2", a turn for each run, whose text the program writes.
+#![tactic(auto)]
+
 ghost use Rattle.std.specs.Prelude.{◌≡◌, ◌≤◌, length};
 ghost use Rattle.plan.specs.Numbers.{listing_budget};
 ghost use Rattle.machine.specs.Sound.{Sound};

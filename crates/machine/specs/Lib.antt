@@ -14,4 +14,3 @@ pub mod Updates
 pub mod Sound
 pub mod SoundTest
 pub mod Lent
-pub mod Laws

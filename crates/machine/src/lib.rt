@@ -1,4 +1,6 @@
 // The state of the machine of document 01: the plan, and the running figures.
+#![tactic(auto)]
+
 ghost use Rattle.std.specs.Prelude.{◌≡◌, pos};
 ghost use Rattle.plan.specs.Numbers.{M, never};
 ghost use Rattle.machine.specs.Start.{idle_state};

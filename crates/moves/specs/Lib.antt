@@ -1,3 +1,2 @@
 -- The step that moves integrators, and what is proved of it.
 pub mod Motion
-pub mod Laws

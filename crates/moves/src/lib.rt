@@ -1,5 +1,7 @@
 // 5. "x becomes x+s×(t−l), l = t, then the new slope and due tick." The integrators of a mask are walked over twice, lowest first: for their positions and
 // slopes, and for the due ticks that these make. The second walk reads slopes from the array, as `due_tick_zero_first` wants.
+#![tactic(auto)]
+
 ghost use Rattle.std.specs.Prelude.{◌≡◌};
 ghost use Rattle.bitset.specs.Mask.{has, each};
 ghost use Rattle.moves.specs.Motion.{motion, places, after_move, after_timing, after_moves, Movable, AllMovable, Timed, AllTimed, MovesReady};

@@ -11,6 +11,5 @@ pub mod Unused
 pub mod Places
 pub mod Idle
 pub mod Lent
-pub mod Laws
 pub mod ExampleTables
 pub mod ExampleFiles

@@ -1,4 +1,6 @@
 // The plan of a cup: what document 01's plan file says, number for number, with 0 in the unused entries. And document 01's numbers by name.
+#![tactic(auto)]
+
 mod numbers;
 
 ghost use Rattle.std.specs.Prelude.{◌≡◌};

@@ -1,4 +1,6 @@
 // Reading plan files: the section readers; what a file holds; and the refusal of any bytes.
+#![tactic(auto)]
+
 mod checking;
 mod decoding;
 mod readers;

@@ -1,3 +1,2 @@
 -- The section checks, and what is proved of them.
 pub mod Checks
-pub mod Laws

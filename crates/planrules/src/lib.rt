@@ -1,5 +1,7 @@
 // The section checks of a plan, refusals 4 to 9, and document 01's number and entry of a finding. Reading a plan file and testing a plan that was
 // filled by hand use the same checks.
+#![tactic(auto)]
+
 mod checks;
 mod findings;
 

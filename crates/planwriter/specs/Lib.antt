@@ -1,4 +1,3 @@
 -- What the plan writer answers and asks, and what is proved of it.
 pub mod Header
 pub mod Plans
-pub mod Laws

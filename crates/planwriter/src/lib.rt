@@ -1,4 +1,6 @@
 // The plan writer: the header, then each section into the part of the buffer behind what is written.
+#![tactic(auto)]
+
 ghost use Rattle.std.specs.Prelude.{◌≡◌, [], ◌∷◌, ◌*◌, ◌<◌, ◌≤◌, ◌^◌, length};
 ghost use Rattle.words.specs.Putting.{written};
 ghost use Rattle.plan.specs.Numbers.{sections, header_bytes};

@@ -1,3 +1,2 @@
 -- Rates over ranges of links, and what is proved of them.
 pub mod Links
-pub mod Laws

@@ -1,5 +1,7 @@
 // Rates. "Strictly ascending by target, then source": an integrator's own links stand together, so its rate is worked out over a range of links.
 // Arrays are lent, not copied.
+#![tactic(auto)]
+
 ghost use Rattle.std.specs.Prelude.{◌≡◌, ◌+◌, ◌-◌, ◌≤◌, ◌<◌, pos, leb};
 ghost use Rattle.plan.specs.Numbers.{most_integrators, most_links};
 ghost use Rattle.plan.specs.Lists.{nat_at, row, first_from};

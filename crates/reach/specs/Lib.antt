@@ -1,3 +1,2 @@
 -- The table of what a change reaches, and what is proved of it.
 pub mod Table
-pub mod Laws

@@ -1,5 +1,7 @@
 // Which integrators a change reaches, and which nodes it touches: "dependence is followed down through lower-numbered nodes". A table, worked out once
 // for a run, has an entry of 64 bits for each source: bit i is set where a change of the source reaches integrator i, bit FIRST_NODE_BIT + j where it touches node j.
+#![tactic(auto)]
+
 ghost use Rattle.std.specs.Prelude.{◌≡◌, ◌+◌, ◌/◌, ◌%◌, ◌^◌, ◌≤◌, ◌<◌};
 ghost use Rattle.plan.specs.Numbers.{most_nodes, source_width};
 ghost use Rattle.reach.specs.Table.{link_entries, own_entries, added_to, added_to_operands, followed_down, table_from, entries_of, LinksReady, OperandsReady};

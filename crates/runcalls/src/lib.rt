@@ -1,5 +1,7 @@
 // The lazy and the eager run: 10, 11 and 12 in order, then the engine's run. Both are one function of the engine, so that they decline alike. The plan's arrays
 // are lent where they lie in the state that was handed in; just its running figures change, and the answer is put together once, whatever is answered.
+#![tactic(auto)]
+
 ghost use Rattle.std.specs.Prelude.{◌≡◌};
 ghost use Rattle.plan.specs.Lent.{plan_lent};
 ghost use Rattle.machine.specs.declared.Engine.TheVariants.{Lazy, Eager};

@@ -1,3 +1,2 @@
 -- What the section writers ask, and what is proved of them.
 pub mod Entries
-pub mod Laws

@@ -1,5 +1,7 @@
 // The section writers: each writes the entries of its section, one behind the other, at the start of the part of the buffer that it is lent. They ask
 // for room and that each number fits its word of 32 bits.
+#![tactic(auto)]
+
 ghost use Rattle.std.specs.Prelude.{◌≡◌, [], ◌∷◌, ◌*◌, ◌<◌, ◌≤◌, ◌^◌, length};
 ghost use Rattle.std.specs.Int.Signed.{mag};
 ghost use Rattle.words.specs.Word.{word_of};

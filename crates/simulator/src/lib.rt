@@ -1,4 +1,6 @@
 // The public calls of the cup simulator: what each answers.
+#![tactic(auto)]
+
 mod positions;
 mod testing;
 mod writing;

@@ -1,3 +1,2 @@
 -- The test of one integrator, and what is proved of it.
 pub mod Figures
-pub mod Laws

@@ -1,4 +1,6 @@
 // The figures of the integrators in a sound state.
+#![tactic(auto)]
+
 ghost use Rattle.std.specs.Prelude.{◌≡◌, ◌≤◌};
 ghost use Rattle.plan.specs.Numbers.{most_integrators};
 ghost use Rattle.plan.specs.Lists.{nat_at, int_at, every};

@@ -1,5 +1,7 @@
 // "A sound state": the test behind refusal 10. It asks nothing of the state: each number is bounded before it is used as
 // an index, a factor or a term. What it works out on the way it hands on. Arrays are lent, not copied.
+#![tactic(auto)]
+
 ghost use Rattle.std.specs.Prelude.{◌≡◌};
 ghost use Rattle.plan.specs.Lent.{plan_lent};
 ghost use Rattle.machine.specs.Lent.{running_lent};

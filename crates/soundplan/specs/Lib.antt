@@ -1,3 +1,2 @@
 -- The test of a plan's sections, and what is proved of it.
 pub mod Sections
-pub mod Laws

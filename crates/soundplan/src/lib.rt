@@ -1,5 +1,7 @@
 // "its plan keeps all rules above", and its "unused entries are 0": the plan's part of a sound state. The arrays are lent one by one, so that
 // nothing is copied.
+#![tactic(auto)]
+
 mod sections;
 
 ghost use Rattle.std.specs.Prelude.{◌≡◌};

@@ -1,4 +1,6 @@
 // "Start: x = q = start, l = c = 0, slopes and dues by rule, counts 0." The parts come from `tables` and `timing`.
+#![tactic(auto)]
+
 ghost use Rattle.std.specs.Prelude.{◌≡◌, ◌≤◌};
 ghost use Rattle.plan.specs.Numbers.{most_integrators};
 ghost use Rattle.plan.specs.Rules.{PlanRules};

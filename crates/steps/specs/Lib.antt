@@ -2,4 +2,3 @@
 pub mod Entries
 pub mod Outputs
 pub mod Events
-pub mod Laws

@@ -1,4 +1,6 @@
 // The steps of one instant that set outputs and inputs and write its events. The step that moves integrators is the crate `moves`.
+#![tactic(auto)]
+
 mod entries;
 mod events;
 mod outputs;

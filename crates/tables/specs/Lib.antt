@@ -1,3 +1,2 @@
 -- The tables of a plan, and what is proved of them.
 pub mod Columns
-pub mod Laws

@@ -1,4 +1,6 @@
 // The tables that a run looks things up in, and the slopes by them. They are worked out once in a call, by one function. Arrays are lent, not copied.
+#![tactic(auto)]
+
 ghost use Rattle.std.specs.Prelude.{◌≡◌};
 ghost use Rattle.tables.specs.Columns.{tables_by, TablesReady};
 

@@ -2,4 +2,3 @@
 pub mod Ticks
 pub mod Soonest
 pub mod Status
-pub mod Laws

@@ -1,4 +1,6 @@
 // Due ticks, positions, the next instant's tick and command, and the status. Arrays are lent, not copied.
+#![tactic(auto)]
+
 mod entries;
 mod soonest;
 mod status;

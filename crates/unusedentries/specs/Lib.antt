@@ -1,3 +1,2 @@
 -- The test of unused entries, and what is proved of it.
 pub mod Entries
-pub mod Laws

@@ -1,5 +1,7 @@
 // "unused entries are 0": of an array those from its count on. A scan joins the bits of all entries that are left and tests them once, at the end:
 // they are 0 just where every entry is. With no test of an entry the compiler can take several at a time.
+#![tactic(auto)]
+
 ghost use Rattle.std.specs.Prelude.{◌≡◌};
 ghost use Rattle.plan.specs.Unused.{nats_zero_from, ints_zero_from};
 ghost use Rattle.unusedentries.specs.Entries.{running_unused_zero_by};

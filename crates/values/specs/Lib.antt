@@ -1,3 +1,2 @@
 -- The values of sources, and what is proved of them.
 pub mod Sources
-pub mod Laws

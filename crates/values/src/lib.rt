@@ -1,5 +1,7 @@
 // The values of sources: outputs, inputs, and nodes in node order. `values` holds the value of each source at its source number. Arrays are lent,
 // not copied.
+#![tactic(auto)]
+
 ghost use Rattle.std.specs.Prelude.{◌≡◌, true, ◌+◌, ◌^◌, ◌≤◌, ◌<◌};
 ghost use Rattle.integers.specs.Parts.{∣◌∣};
 ghost use Rattle.bitset.specs.Mask.{has, each};

@@ -1,5 +1,3 @@
 -- Numbers of 32 bits in lists of bytes. Definitions, worked examples, and what is proved of these.
 pub mod Word
 pub mod Putting
-pub mod Examples
-pub mod Laws

@@ -1,5 +1,7 @@
 // Numbers of 32 bits in a slice of bytes, lowest byte first. A word is the unsigned value of four bytes; a signed number is in two's
 // complement.
+#![tactic(auto)]
+
 ghost use Rattle.std.specs.Prelude.{◌≡◌, [], ◌∷◌, ◌+◌, ◌^◌, ◌≤◌, ◌<◌, length};
 ghost use Rattle.std.specs.Int.Signed.{mag};
 ghost use Rattle.words.specs.Word.{word, signed_word, signed_of, word_of};

@@ -13,7 +13,7 @@ use Rattle.plan.specs.Tests.{node_test, pair_ascends, node_kept, link_limits_kep
 use Rattle.plan.specs.Refusals.{number_of, entry_of, is_clean, or_else, first_finding, horizon_finding, integrators_finding, inputs_finding}
 use Rattle.plan.specs.Refusals.{nodes_finding, links_finding, commands_finding, plan_finding, finding_of, accepted, section_of}
 use Rattle.plan.specs.Encoding.{offset_from, offset_of, file_length, header_words, integrator_words, input_words, node_words, link_words}
-use Rattle.plan.specs.Laws.Layout.{length_of}
+use Rattle.plan.proofs.Laws.Layout.{length_of}
 use Rattle.plan.specs.Encoding.{command_words, file_words, encode}
 use Rattle.plan.specs.ExampleTables.{Case, case, AllRight, end, ◌&◌}
 use Rattle.plan.specs.ExampleFiles.{file_of, cup_file, cup_plan}

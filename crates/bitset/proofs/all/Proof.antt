@@ -4,7 +4,7 @@ use mathlib.Core.Path.{ap, sym, ◌∙◌}
 use Prim.Native.Nat.{◌-◌}
 use native.Mathlib.Omega.{arith}
 use lib.Pow.{pow_pos, pow_mono}
-use Rattle.bitset.specs.Laws.Bits.{one_shl, all_of_is}
+use Rattle.bitset.proofs.Laws.Bits.{one_shl, all_of_is}
 use Rattle.bitset.proofs.all.Statement.{statement}
 use Rattle.bitset.proofs.all.Tie as tie
 

@@ -2,7 +2,7 @@
 use native.Mathlib.Nat.{lt_of_le_of_lt}
 use native.Mathlib.Omega.{arith}
 use lib.Count.{ones-le}
-use Rattle.bitset.specs.Laws.Counts.{ones_count}
+use Rattle.bitset.proofs.Laws.Counts.{ones_count}
 use Rattle.bitset.proofs.count.Statement.{statement}
 use Rattle.bitset.proofs.count.Tie as tie
 

@@ -8,7 +8,7 @@ use native.Mathlib.Omega.{arith}
 use lib.Dec.{eqb}
 use lib.ListN.{get_or}
 use Rattle.bitset.specs.Mask.{mask_of, with_bit}
-use Rattle.bitset.specs.Laws.Bits.{mask_of_in, mask_of_out}
+use Rattle.bitset.proofs.Laws.Bits.{mask_of_in, mask_of_out}
 use Rattle.bitset.proofs.where_equal.Statement.{statement}
 use Rattle.bitset.proofs.where_equal.Tie as tie
 

@@ -2,7 +2,7 @@
 use borrow.Author.Rules.{rules}
 use mathlib.Core.Path.{ap}
 use Rattle.bitset.specs.Mask.{union, with_bit}
-use Rattle.bitset.specs.Laws.Bits.{one_shl}
+use Rattle.bitset.proofs.Laws.Bits.{one_shl}
 use Rattle.bitset.proofs.with_bit.Statement.{statement}
 use Rattle.bitset.proofs.with_bit.Tie as tie
 

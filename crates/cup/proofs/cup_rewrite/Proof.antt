@@ -2,11 +2,11 @@
 use mathlib.Core.Path.{◌≡◌, ap, ◌∙◌}
 use mathlib.Core.Bool.{true}
 use Rattle.plan.specs.Refusals.{number_of, accepted}
-use Rattle.plan.specs.Laws.FileRefusals.{accepted-rules}
-use Rattle.directory.specs.Laws.Directory.{directory_accepted}
-use Rattle.entryrules.specs.Laws.ChecksInOrder.{not_clean}
-use Rattle.planfile.specs.Laws.Reading.{finding_accepts, finding_refuses}
-use Rattle.cup.specs.Laws.Rewriting.{rewrite_refused, rewrite_short, rewrite_done}
+use Rattle.plan.proofs.Laws.FileRefusals.{accepted-rules}
+use Rattle.directory.proofs.Laws.Directory.{directory_accepted}
+use Rattle.entryrules.proofs.Laws.ChecksInOrder.{not_clean}
+use Rattle.planfile.proofs.Laws.Reading.{finding_accepts, finding_refuses}
+use Rattle.cup.proofs.Laws.Rewriting.{rewrite_refused, rewrite_short, rewrite_done}
 use borrow.Author.Rules.{rules}
 use Rattle.cup.proofs.cup_rewrite.Statement.{statement}
 use Rattle.cup.proofs.cup_rewrite.Tie as tie

@@ -9,9 +9,9 @@ use lib.ListN.{length}
 use Rattle.plan.specs.Numbers.{sections}
 use Rattle.plan.specs.Format.{offset_in, section_in}
 use Rattle.plan.specs.Refusals.{accepted, section_of}
-use Rattle.plan.specs.Laws.View.{view-shown, start-shown}
-use Rattle.directory.specs.Laws.Directory.{directory_accepted}
-use Rattle.cup.specs.Laws.Viewing.{first-refused, first-accepted, none-refused, none_above, view-part}
+use Rattle.plan.proofs.Laws.View.{view-shown, start-shown}
+use Rattle.directory.proofs.Laws.Directory.{directory_accepted}
+use Rattle.cup.proofs.Laws.Viewing.{first-refused, first-accepted, none-refused, none_above, view-part}
 use borrow.Author.Rules.{rules}
 use borrow.Author.Tests.{leb-true, leb-false}
 use Rattle.cup.proofs.cup_section.Statement.{statement}

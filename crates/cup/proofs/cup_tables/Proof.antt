@@ -4,15 +4,15 @@ use mathlib.Core.Bool.{true}
 use native.Mathlib.Omega.{arith}
 use borrow.Author.Rules.{rules}
 use borrow.Author.Tests.{not-true, not-false}
-use Rattle.plan.specs.Laws.CountLimits.{CountLimits, count-limits}
+use Rattle.plan.proofs.Laws.CountLimits.{CountLimits, count-limits}
 use Rattle.machine.specs.Sound.{Sound}
 use Rattle.machine.specs.SoundTest.{is_sound}
-use Rattle.machine.specs.Laws.SoundTest.{sound_means}
+use Rattle.machine.proofs.Laws.SoundTest.{sound_means}
 use Rattle.machine.specs.declared.State.{State}
 use Rattle.reach.specs.Table.{reach_table}
-use Rattle.reach.specs.Laws.Reached.{table_wired, table_linked}
-use Rattle.soundness.specs.Laws.Answers.{sound_told}
-use Rattle.cup.specs.Laws.Tables.{tables_none, tables_are}
+use Rattle.reach.proofs.Laws.Reached.{table_wired, table_linked}
+use Rattle.soundness.proofs.Laws.Answers.{sound_told}
+use Rattle.cup.proofs.Laws.Tables.{tables_none, tables_are}
 use Rattle.cup.proofs.cup_tables.Statement.{statement}
 use Rattle.cup.proofs.cup_tables.Tie as tie
 

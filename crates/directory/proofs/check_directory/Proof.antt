@@ -7,7 +7,7 @@ use Rattle.plan.specs.Numbers.{header_bytes}
 use Rattle.plan.specs.Tests.{long_enough, offsets_kept, sizes_kept}
 use Rattle.plan.specs.Refusals.{number_of, is_clean, unless, or_else}
 use Rattle.plan.specs.declared.Finding.TheVariants.{Offsets, Sizes}
-use Rattle.entryrules.specs.Laws.ChecksInOrder.{tried, refused, not_clean}
+use Rattle.entryrules.proofs.Laws.ChecksInOrder.{tried, refused, not_clean}
 use Rattle.directory.specs.Directory.{directory_finding}
 use borrow.Author.Rules.{rules}
 use Rattle.directory.proofs.check_directory.Statement.{statement}

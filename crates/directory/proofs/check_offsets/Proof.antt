@@ -12,7 +12,7 @@ use Rattle.plan.specs.Numbers.{sections}
 use Rattle.plan.specs.Lists.{every}
 use Rattle.plan.specs.Format.{offset_in, required_offset}
 use Rattle.plan.specs.Tests.{offsets_kept}
-use Rattle.entryrules.specs.Laws.Testing.{every-none, every_more, every_fails}
+use Rattle.entryrules.proofs.Laws.Testing.{every-none, every_more, every_fails}
 use Rattle.directory.proofs.check_offsets.Statement.{statement}
 use Rattle.directory.proofs.check_offsets.Tie as tie
 

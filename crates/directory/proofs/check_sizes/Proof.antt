@@ -10,7 +10,7 @@ use Rattle.plan.specs.Numbers.{sections, entry_sizes}
 use Rattle.plan.specs.Lists.{nat_at, every}
 use Rattle.plan.specs.Format.{length_in, count_in}
 use Rattle.plan.specs.Tests.{count_kept, sizes_kept}
-use Rattle.entryrules.specs.Laws.Testing.{every-none, every_more, every_fails, held, failed}
+use Rattle.entryrules.proofs.Laws.Testing.{every-none, every_more, every_fails, held, failed}
 use Rattle.directory.proofs.check_sizes.Statement.{statement}
 use Rattle.directory.proofs.check_sizes.Tie as tie
 

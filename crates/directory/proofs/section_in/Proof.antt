@@ -3,7 +3,7 @@ use mathlib.Core.Path.{◌≡◌}
 use Prim.Native.Nat.{◌+◌, ◌-◌}
 use native.Mathlib.Omega.{arith}
 use Rattle.plan.specs.Format.{part, section_in}
-use Rattle.plan.specs.Laws.Parts.{section_end}
+use Rattle.plan.proofs.Laws.Parts.{section_end}
 use borrow.Author.Rules.{rules}
 use Rattle.directory.proofs.section_in.Statement.{statement}
 use Rattle.directory.proofs.section_in.Tie as tie

@@ -1,11 +1,11 @@
 -- Where the finding is clean the file is accepted, and its directory keeps its rules.
 use native.Mathlib.Omega.{arith}
 use mathlib.Core.Path.{sym, ◌∙◌}
-use Rattle.plan.specs.Laws.View.{view-shown, view-refused, view-above, start-shown, start-refused, start-above}
-use Rattle.directory.specs.Laws.Directory.{directory_accepted}
-use Rattle.entryrules.specs.Laws.ChecksInOrder.{not_clean}
-use Rattle.directory.specs.Laws.Pointers.{further-none}
-use Rattle.planfile.specs.Laws.Reading.{finding_accepts, finding_refuses}
+use Rattle.plan.proofs.Laws.View.{view-shown, view-refused, view-above, start-shown, start-refused, start-above}
+use Rattle.directory.proofs.Laws.Directory.{directory_accepted}
+use Rattle.entryrules.proofs.Laws.ChecksInOrder.{not_clean}
+use Rattle.directory.proofs.Laws.Pointers.{further-none}
+use Rattle.planfile.proofs.Laws.Reading.{finding_accepts, finding_refuses}
 use borrow.Author.Rules.{rules}
 use Rattle.filecalls.proofs.section.Statement.{statement}
 use Rattle.filecalls.proofs.section.Tie as tie

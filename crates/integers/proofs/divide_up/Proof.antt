@@ -3,7 +3,7 @@ use borrow.Author.Rules.{rules}
 use mir.Facts.{Fits-le}
 use native.Mathlib.Omega.{arith}
 use native.Mathlib.Nat.{le_refl, add-le-add, div-le_self}
-use Rattle.integers.specs.Laws.Division.{ceil_less-one}
+use Rattle.integers.proofs.Laws.Division.{ceil_less-one}
 use Rattle.integers.proofs.divide_up.Statement.{statement}
 use Rattle.integers.proofs.divide_up.Tie as tie
 

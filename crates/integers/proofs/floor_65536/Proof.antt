@@ -1,6 +1,6 @@
 -- `integers::floor_65536` meets its contract: the shift is the definition, and its result fits. Assumes nothing.
 use mir.Facts.{to_z-of_z}
-use Rattle.integers.specs.Laws.Division.{floor_fits}
+use Rattle.integers.proofs.Laws.Division.{floor_fits}
 use Rattle.integers.proofs.floor_65536.Statement.{statement}
 use Rattle.integers.proofs.floor_65536.Tie as tie
 

@@ -6,7 +6,7 @@ use lib.ListN.{length}
 use lib.Seq.{length-take-le}
 use borrow.Author.Rules.{rules}
 use borrow.Author.Tests.{not-false}
-use Rattle.listingturns.specs.Laws.Loop.{Ready, first-ready, turn_ready, ticks_left, ticks_fall}
+use Rattle.listingturns.proofs.Laws.Loop.{Ready, first-ready, turn_ready, ticks_left, ticks_fall}
 use Rattle.listing.proofs.main.Statement.{statement}
 use Rattle.listing.proofs.main.Tie as tie
 

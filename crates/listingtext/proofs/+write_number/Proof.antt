@@ -5,8 +5,8 @@ use Prim.Native.Nat.{ℕ, ◌/◌, ◌%◌, ◌<◌}
 use native.Mathlib.Omega.{arith}
 use lib.ListN.{length, length-append, length-set}
 use Rattle.listingtext.specs.Decimal.{digit, decimal}
-use Rattle.listingtext.specs.Laws.Decimals.{decimal-one, decimal_more, decimal-some}
-use Rattle.listingtext.specs.Laws.Printing.{nothing, then_byte}
+use Rattle.listingtext.proofs.Laws.Decimals.{decimal-one, decimal_more, decimal-some}
+use Rattle.listingtext.proofs.Laws.Printing.{nothing, then_byte}
 use borrow.Fn.Kinds.{In}
 use borrow.Fn.PlainCycle.{Measures, is, falls, and}
 use Rattle.listingtext.proofs.write_number.Reads as write-number

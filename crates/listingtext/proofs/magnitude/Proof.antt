@@ -7,8 +7,8 @@ use lib.IntN.{ℤ, pos, negsuc, nat_abs, ◌-ℤ◌}
 use lib.Signed.{mag, lt_z}
 use mir.Syntax.{w64}
 use mir.Facts.{to_z-of_z}
-use Rattle.integers.specs.Laws.Signed64.{rd}
-use Rattle.listingtext.specs.Laws.Signs.{below_zero, size_below, from_zero}
+use Rattle.integers.proofs.Laws.Signed64.{rd}
+use Rattle.listingtext.proofs.Laws.Signs.{below_zero, size_below, from_zero}
 use Rattle.listingtext.proofs.magnitude.Statement.{statement}
 use Rattle.listingtext.proofs.magnitude.Tie as tie
 

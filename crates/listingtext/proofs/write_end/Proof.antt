@@ -4,7 +4,7 @@ use Prim.Native.Nat.{ℕ}
 use Rattle.listingtext.specs.Decimal.{decimal}
 use Rattle.listingtext.specs.Lines.{space, newline, field, end_word, end_line}
 use Rattle.listingtext.specs.Printed.{Printed}
-use Rattle.listingtext.specs.Laws.Printing.{then_text, front_fits, more_fits}
+use Rattle.listingtext.proofs.Laws.Printing.{then_text, front_fits, more_fits}
 use borrow.Author.Rules.{rules}
 use Rattle.listingtext.proofs.write_end.Statement.{statement}
 use Rattle.listingtext.proofs.write_end.Tie as tie

@@ -3,11 +3,11 @@ use mathlib.Core.Path.{◌≡◌}
 use mathlib.Core.List.{List, ◌++◌}
 use Prim.Native.Nat.{ℕ}
 use mir.Facts.{to_z-of_z}
-use Rattle.integers.specs.Laws.Signed64.{rd}
+use Rattle.integers.proofs.Laws.Signed64.{rd}
 use Rattle.listingtext.specs.Decimal.{decimal, signed_decimal}
 use Rattle.listingtext.specs.Lines.{space, newline, field, event_line}
 use Rattle.listingtext.specs.Printed.{Printed}
-use Rattle.listingtext.specs.Laws.Printing.{nothing, then_text, front_fits, more_fits}
+use Rattle.listingtext.proofs.Laws.Printing.{nothing, then_text, front_fits, more_fits}
 use borrow.Author.Rules.{rules}
 use Rattle.listingtext.proofs.write_event.Statement.{statement}
 use Rattle.listingtext.proofs.write_event.Tie as tie

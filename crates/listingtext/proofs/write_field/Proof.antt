@@ -3,10 +3,10 @@ use mathlib.Core.List.{[], ◌∷◌}
 use Prim.Native.Nat.{◌+◌, ◌≤◌, ◌<◌}
 use native.Mathlib.Omega.{arith}
 use lib.ListN.{length, length-append}
-use Rattle.words.specs.Laws.Putting.{back, length_behind}
+use Rattle.words.proofs.Laws.Putting.{back, length_behind}
 use Rattle.listingtext.specs.Decimal.{decimal}
 use Rattle.listingtext.specs.Printed.{PrintedAt}
-use Rattle.listingtext.specs.Laws.Printing.{in_part, then_byte_at, length_at}
+use Rattle.listingtext.proofs.Laws.Printing.{in_part, then_byte_at, length_at}
 use borrow.Author.Rules.{rules}
 use Rattle.listingtext.proofs.write_field.Statement.{statement}
 use Rattle.listingtext.proofs.write_field.Tie as tie

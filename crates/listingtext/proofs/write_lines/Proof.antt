@@ -6,12 +6,12 @@ use native.Mathlib.Omega.{arith}
 use lib.ListN.{length}
 use mir.Facts.{to_z-of_z}
 use borrow.Author.Rules.{rules, sfits_of}
-use Rattle.integers.specs.Laws.Signed64.{rd}
-use Rattle.words.specs.Laws.Putting.{back, length_behind}
+use Rattle.integers.proofs.Laws.Signed64.{rd}
+use Rattle.words.proofs.Laws.Putting.{back, length_behind}
 use Rattle.listingtext.specs.Lines.{event_line, line_at, lines_of}
 use Rattle.listingtext.specs.Printed.{Printed, PrintedAt}
-use Rattle.listingtext.specs.Laws.Lines.{begun, lines_more, lines_fit, lines_fit_to, line_read}
-use Rattle.listingtext.specs.Laws.Printing.{then_text, in_part, length-printed, more_fits}
+use Rattle.listingtext.proofs.Laws.Lines.{begun, lines_more, lines_fit, lines_fit_to, line_read}
+use Rattle.listingtext.proofs.Laws.Printing.{then_text, in_part, length-printed, more_fits}
 use Rattle.listingtext.proofs.write_lines.Statement.{statement}
 use Rattle.listingtext.proofs.write_lines.Tie as tie
 

@@ -6,12 +6,12 @@ use native.Mathlib.Omega.{arith}
 use lib.IntN.{nat_abs}
 use lib.ListN.{length, set, length-set}
 use mir.Facts.{to_z-of_z}
-use Rattle.integers.specs.Laws.Signed64.{rd}
-use Rattle.words.specs.Laws.Putting.{back, length_behind}
+use Rattle.integers.proofs.Laws.Signed64.{rd}
+use Rattle.words.proofs.Laws.Putting.{back, length_behind}
 use Rattle.listingtext.specs.Decimal.{minus, decimal, signed_decimal}
 use Rattle.listingtext.specs.Printed.{Printed}
-use Rattle.listingtext.specs.Laws.Signs.{signed_below, signed_from}
-use Rattle.listingtext.specs.Laws.Printing.{nothing, then_byte, then_text, in_part, length-printed}
+use Rattle.listingtext.proofs.Laws.Signs.{signed_below, signed_from}
+use Rattle.listingtext.proofs.Laws.Printing.{nothing, then_byte, then_text, in_part, length-printed}
 use borrow.Author.Rules.{rules}
 use Rattle.listingtext.proofs.write_signed.Statement.{statement}
 use Rattle.listingtext.proofs.write_signed.Tie as tie

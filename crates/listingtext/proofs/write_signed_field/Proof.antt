@@ -5,11 +5,11 @@ use Prim.Native.Nat.{◌+◌, ◌≤◌, ◌<◌}
 use native.Mathlib.Omega.{arith}
 use lib.ListN.{length, length-append}
 use mir.Facts.{to_z-of_z}
-use Rattle.integers.specs.Laws.Signed64.{rd}
-use Rattle.words.specs.Laws.Putting.{back, length_behind}
+use Rattle.integers.proofs.Laws.Signed64.{rd}
+use Rattle.words.proofs.Laws.Putting.{back, length_behind}
 use Rattle.listingtext.specs.Decimal.{signed_decimal}
 use Rattle.listingtext.specs.Printed.{PrintedAt}
-use Rattle.listingtext.specs.Laws.Printing.{in_part, then_byte_at, length_at}
+use Rattle.listingtext.proofs.Laws.Printing.{in_part, then_byte_at, length_at}
 use borrow.Author.Rules.{rules}
 use Rattle.listingtext.proofs.write_signed_field.Statement.{statement}
 use Rattle.listingtext.proofs.write_signed_field.Tie as tie

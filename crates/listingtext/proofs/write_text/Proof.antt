@@ -3,7 +3,7 @@ use Prim.Native.Nat.{◌-◌, ◌≤◌}
 use native.Mathlib.Omega.{arith}
 use lib.ListN.{length, take}
 use Rattle.listingtext.specs.Printed.{Printed}
-use Rattle.listingtext.specs.Laws.Printing.{nothing, length-printed, then_element, whole}
+use Rattle.listingtext.proofs.Laws.Printing.{nothing, length-printed, then_element, whole}
 use Rattle.listingtext.proofs.write_text.Statement.{statement}
 use Rattle.listingtext.proofs.write_text.Tie as tie
 

@@ -1,7 +1,7 @@
 -- `listingturns::begin` meets its contract: an accepted file prints nothing yet, another its refusal. Assumes nothing.
 use native.Mathlib.Omega.{arith}
-use Rattle.listingturns.specs.Laws.Fits.{refusal_fits}
-use Rattle.listingturns.specs.Laws.Answers.{first-accepted, first-refused}
+use Rattle.listingturns.proofs.Laws.Fits.{refusal_fits}
+use Rattle.listingturns.proofs.Laws.Answers.{first-accepted, first-refused}
 use borrow.Author.Rules.{rules}
 use Rattle.listingturns.proofs.begin.Statement.{statement}
 use Rattle.listingturns.proofs.begin.Tie as tie

@@ -3,7 +3,7 @@
 use mathlib.Core.List.{List}
 use Prim.Native.Nat.{ℕ}
 use native.Mathlib.Omega.{arith}
-use Rattle.listingturns.specs.Laws.Answers.{lines_ready, turn_paused, end-place, end-ready, turn_length, turn_stopped}
+use Rattle.listingturns.proofs.Laws.Answers.{lines_ready, turn_paused, end-place, end-ready, turn_length, turn_stopped}
 use borrow.Author.Rules.{rules}
 use Rattle.listingturns.proofs.take_turn.Statement.{statement}
 use Rattle.listingturns.proofs.take_turn.Tie as tie

@@ -3,9 +3,9 @@ use mathlib.Core.Path.{◌≡◌, refl}
 use Prim.Native.Nat.{◌^◌, ◌<◌}
 use native.Mathlib.Omega.{arith}
 use Rattle.bitset.specs.Mask.{has, each}
-use Rattle.bitset.specs.Laws.Visiting.{rest_lt, each_turn, each_done}
+use Rattle.bitset.proofs.Laws.Visiting.{rest_lt, each_turn, each_done}
 use Rattle.moves.specs.Motion.{places, after_move, AllMovable}
-use Rattle.moves.specs.Laws.Moving.{movable-lowest, movable_rest}
+use Rattle.moves.proofs.Laws.Moving.{movable-lowest, movable_rest}
 use Rattle.moves.proofs.move_each.Statement.{statement}
 use Rattle.moves.proofs.move_each.Tie as tie
 

@@ -4,10 +4,10 @@ use mathlib.Core.Path.{◌≡◌, ◌∙◌}
 use mir.Syntax.{w64}
 use mir.Val.{SFits}
 use mir.Facts.{to_z-of_z}
-use Rattle.integers.specs.Laws.Signed64.{rd}
+use Rattle.integers.proofs.Laws.Signed64.{rd}
 use Rattle.plan.specs.Lists.{int_at}
 use Rattle.moves.specs.Motion.{places, position_then, slope_from}
-use Rattle.moves.specs.Laws.Moving.{move_stores}
+use Rattle.moves.proofs.Laws.Moving.{move_stores}
 use Rattle.moves.proofs.move_one.Statement.{statement}
 use Rattle.moves.proofs.move_one.Tie as tie
 

@@ -3,9 +3,9 @@ use mathlib.Core.Path.{◌≡◌, refl}
 use Prim.Native.Nat.{◌^◌, ◌<◌}
 use native.Mathlib.Omega.{arith}
 use Rattle.bitset.specs.Mask.{has, each}
-use Rattle.bitset.specs.Laws.Visiting.{rest_lt, each_turn, each_done}
+use Rattle.bitset.proofs.Laws.Visiting.{rest_lt, each_turn, each_done}
 use Rattle.moves.specs.Motion.{after_timing, AllTimed}
-use Rattle.moves.specs.Laws.Moving.{timed-lowest, timed_rest}
+use Rattle.moves.proofs.Laws.Moving.{timed-lowest, timed_rest}
 use Rattle.moves.proofs.time_each.Statement.{statement}
 use Rattle.moves.proofs.time_each.Tie as tie
 

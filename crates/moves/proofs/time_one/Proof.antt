@@ -4,7 +4,7 @@ use borrow.Author.Rules.{rules, sfits_of}
 use mathlib.Core.Path.{ap}
 use lib.ListN.{set}
 use mir.Facts.{to_z-of_z}
-use Rattle.timing.specs.Laws.Arithmetic.{upper_made, lower_made, upper-read, lower-read}
+use Rattle.timing.proofs.Laws.Arithmetic.{upper_made, lower_made, upper-read, lower-read}
 use Rattle.moves.specs.Motion.{due_from, after_timing}
 use Rattle.moves.proofs.time_one.Statement.{statement}
 use Rattle.moves.proofs.time_one.Tie as tie

@@ -1,6 +1,6 @@
 -- The product of an entry's size and a count is small by the limits of the counts.
 use native.Mathlib.Omega.{arith}
-use Rattle.planwriter.specs.Laws.Header.{length_limit}
+use Rattle.planwriter.proofs.Laws.Header.{length_limit}
 use borrow.Author.Rules.{rules}
 use Rattle.planwriter.proofs.section_length.Statement.{statement}
 use Rattle.planwriter.proofs.section_length.Tie as tie

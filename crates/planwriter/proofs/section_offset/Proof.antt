@@ -4,7 +4,7 @@ use Prim.Native.Nat.{◌-◌, ◌≤◌}
 use native.Mathlib.Omega.{arith}
 use borrow.Author.Rules.{rules}
 use Rattle.plan.specs.Encoding.{offset_from}
-use Rattle.planwriter.specs.Laws.Header.{offset-none, offset_more, offset_limit, length_limit}
+use Rattle.planwriter.proofs.Laws.Header.{offset-none, offset_more, offset_limit, length_limit}
 use Rattle.planwriter.proofs.section_offset.Statement.{statement}
 use Rattle.planwriter.proofs.section_offset.Tie as tie
 

@@ -3,11 +3,11 @@ use mathlib.Core.Path.{refl}
 use mathlib.Core.List.{[], ◌∷◌}
 use native.Mathlib.Omega.{arith}
 use borrow.Author.Rules.{rules}
-use Rattle.words.specs.Laws.Flat.{written-part}
+use Rattle.words.proofs.Laws.Flat.{written-part}
 use Rattle.plan.specs.Numbers.{sections}
 use Rattle.plan.specs.Lists.{joined}
 use Rattle.plan.specs.Encoding.{pair_entry}
-use Rattle.words.specs.Laws.Putting.{begin, more}
+use Rattle.words.proofs.Laws.Putting.{begin, more}
 use Rattle.planwriter.proofs.write_header.Statement.{statement}
 use Rattle.planwriter.proofs.write_header.Tie as tie
 

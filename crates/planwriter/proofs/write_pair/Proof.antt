@@ -1,6 +1,6 @@
 -- The words of the entry are put one behind the other.
 use borrow.Author.Rules.{rules}
-use Rattle.words.specs.Laws.Putting.{begin, more}
+use Rattle.words.proofs.Laws.Putting.{begin, more}
 use Rattle.planwriter.proofs.write_pair.Statement.{statement}
 use Rattle.planwriter.proofs.write_pair.Tie as tie
 

@@ -6,9 +6,9 @@ use borrow.Author.Rules.{rules}
 use Rattle.plan.specs.Numbers.{sections}
 use Rattle.plan.specs.Lists.{joined}
 use Rattle.plan.specs.Encoding.{pair_entry}
-use Rattle.planwriter.specs.Laws.Header.{offset_limit, length_limit}
-use Rattle.words.specs.Laws.Putting.{length_behind}
-use Rattle.sectionwriters.specs.Laws.Writing.{BeginsWith, none, all, entry}
+use Rattle.planwriter.proofs.Laws.Header.{offset_limit, length_limit}
+use Rattle.words.proofs.Laws.Putting.{length_behind}
+use Rattle.sectionwriters.proofs.Laws.Writing.{BeginsWith, none, all, entry}
 use Rattle.planwriter.proofs.write_pairs.Statement.{statement}
 use Rattle.planwriter.proofs.write_pairs.Tie as tie
 

@@ -6,14 +6,14 @@ use native.Mathlib.Omega.{arith}
 use borrow.Author.Rules.{rules}
 use Rattle.plan.specs.Tests.{count_list}
 use Rattle.plan.specs.Encoding.{integrator_words, input_words, node_words, link_words, command_words}
-use Rattle.plan.specs.Laws.CountLimits.{count-limits}
-use Rattle.plan.specs.Laws.Layout.{entry_words, section_words}
+use Rattle.plan.proofs.Laws.CountLimits.{count-limits}
+use Rattle.plan.proofs.Laws.Layout.{entry_words, section_words}
 use Rattle.plan.specs.declared.Plan.{Plan}
 use Rattle.plan.specs.Lent.{plan_lent}
 use Rattle.planwriter.specs.Header.{CountsWithinLimits}
-use Rattle.planwriter.specs.Laws.Header.{counts-within-limits}
-use Rattle.planwriter.specs.Laws.SectionWriting.{fitting, WrittenUpTo, inside, section_room, next, header-room, headed, filed, short}
-use Rattle.words.specs.Laws.Putting.{back}
+use Rattle.planwriter.proofs.Laws.Header.{counts-within-limits}
+use Rattle.planwriter.proofs.Laws.SectionWriting.{fitting, WrittenUpTo, inside, section_room, next, header-room, headed, filed, short}
+use Rattle.words.proofs.Laws.Putting.{back}
 use Rattle.planwriter.proofs.write_plan.Statement.{statement}
 use Rattle.planwriter.proofs.write_plan.Tie as tie
 

@@ -5,7 +5,7 @@ use native.Mathlib.Omega.{arith}
 use lib.Dec.{leb}
 use borrow.Author.Tests.{ltb-true, ltb-false, lt-leb, le-leb}
 use Rattle.plan.specs.Lists.{nat_at, first_from}
-use Rattle.rates.specs.Laws.Ranges.{first_on, first_here, first-end}
+use Rattle.rates.proofs.Laws.Ranges.{first_on, first_here, first-end}
 use Rattle.rates.proofs.first_link_from.Statement.{statement}
 use Rattle.rates.proofs.first_link_from.Tie as tie
 

@@ -4,9 +4,9 @@ use Prim.Native.Nat.{◌+◌, ◌-◌, ◌≤◌}
 use native.Mathlib.Omega.{arith}
 use lib.Dec.{leb}
 use Rattle.plan.specs.Lists.{nat_at, row, first_from}
-use Rattle.plan.specs.Laws.Rows.{row_none, row_more}
+use Rattle.plan.proofs.Laws.Rows.{row_none, row_more}
 use Rattle.rates.specs.Links.{first_link}
-use Rattle.rates.specs.Laws.Ranges.{first-most, next-first}
+use Rattle.rates.proofs.Laws.Ranges.{first-most, next-first}
 use Rattle.rates.proofs.link_ranges.Statement.{statement}
 use Rattle.rates.proofs.link_ranges.Tie as tie
 

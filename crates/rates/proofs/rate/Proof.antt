@@ -7,10 +7,10 @@ use mir.Syntax.{w64}
 use mir.Val.{SFits, to_z, of_z}
 use mir.Facts.{to_z-of_z}
 use Rattle.integers.specs.Division.{floor65536}
-use Rattle.integers.specs.Laws.Signed64.{reads}
+use Rattle.integers.proofs.Laws.Signed64.{reads}
 use Rattle.plan.specs.Lists.{nat_at}
 use Rattle.rates.specs.Links.{term, sum_from, range_rate}
-use Rattle.rates.specs.Laws.Sums.{sum_more, coefficient_fits, value_fits, term_fits, sum_fits}
+use Rattle.rates.proofs.Laws.Sums.{sum_more, coefficient_fits, value_fits, term_fits, sum_fits}
 use Rattle.rates.proofs.rate.Statement.{statement}
 use Rattle.rates.proofs.rate.Tie as tie
 

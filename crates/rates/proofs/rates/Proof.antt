@@ -8,7 +8,7 @@ use mir.Syntax.{w64}
 use mir.Val.{SFits}
 use mir.Facts.{to_z-of_z}
 use Rattle.plan.specs.Lists.{nat_at, row}
-use Rattle.plan.specs.Laws.Rows.{row_none, row_more}
+use Rattle.plan.proofs.Laws.Rows.{row_none, row_more}
 use Rattle.rates.specs.Links.{range_rate}
 use Rattle.rates.proofs.rates.Statement.{statement}
 use Rattle.rates.proofs.rates.Tie as tie

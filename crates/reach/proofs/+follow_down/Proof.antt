@@ -5,7 +5,7 @@ use native.Mathlib.Omega.{arith}
 use borrow.Fn.Kinds.{In}
 use borrow.Fn.PlainCycle.{Measures, is, falls, and}
 use Rattle.reach.specs.Table.{followed_down}
-use Rattle.reach.specs.Laws.TableLoops.{followed_more}
+use Rattle.reach.proofs.Laws.TableLoops.{followed_more}
 use Rattle.reach.proofs.follow_down.Reads as follow-down
 use Rattle.reach.proofs.follow_down.Kinds as follow-down-kinds
 use Rattle.reach.proofs.+follow_down.Lts-follow_down as lts

@@ -2,7 +2,7 @@
 use borrow.Author.Rules.{rules}
 use mathlib.Core.Path.{◌∙◌}
 use native.Mathlib.Omega.{arith}
-use Rattle.reach.specs.Laws.TableLoops.{operands_inside, operands-left, operands_both}
+use Rattle.reach.proofs.Laws.TableLoops.{operands_inside, operands-left, operands_both}
 use Rattle.reach.proofs.add_to_operands.Statement.{statement}
 use Rattle.reach.proofs.add_to_operands.Tie as tie
 

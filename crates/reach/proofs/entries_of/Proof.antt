@@ -5,7 +5,7 @@ use mathlib.Core.List.{List}
 use Prim.Native.Nat.{ℕ, ◌<◌, ◌^◌}
 use native.Mathlib.Omega.{arith}
 use Rattle.bitset.specs.Mask.{has, each, union}
-use Rattle.bitset.specs.Laws.Visiting.{rest_lt, lowest_lt, each_turn, each_done}
+use Rattle.bitset.proofs.Laws.Visiting.{rest_lt, lowest_lt, each_turn, each_done}
 use Rattle.plan.specs.Lists.{nat_at}
 use Rattle.reach.specs.Table.{entries_of}
 use Rattle.reach.proofs.entries_of.Statement.{statement}

@@ -5,7 +5,7 @@ use native.Mathlib.Omega.{arith}
 use lib.ListN.{replicate}
 use Rattle.plan.specs.Lists.{nat_at}
 use Rattle.reach.specs.Table.{marked, link_entries}
-use Rattle.reach.specs.Laws.TableLoops.{link_inside, marked_more}
+use Rattle.reach.proofs.Laws.TableLoops.{link_inside, marked_more}
 use Rattle.reach.proofs.link_entries.Statement.{statement}
 use Rattle.reach.proofs.link_entries.Tie as tie
 

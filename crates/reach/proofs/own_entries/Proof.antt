@@ -3,7 +3,7 @@ use mathlib.Core.Path.{◌≡◌, refl, ap, ◌∙◌}
 use Prim.Native.Nat.{◌≤◌, ◌+◌, ◌-◌}
 use native.Mathlib.Omega.{arith}
 use Rattle.reach.specs.Table.{marked, own_entries}
-use Rattle.reach.specs.Laws.TableLoops.{marked_more}
+use Rattle.reach.proofs.Laws.TableLoops.{marked_more}
 use Rattle.reach.proofs.own_entries.Statement.{statement}
 use Rattle.reach.proofs.own_entries.Tie as tie
 

@@ -1,7 +1,7 @@
 -- What is answered beside the plan, with the plan that was handed in.
 use mathlib.Core.Path.{refl}
 use borrow.Author.Rules.{rules}
-use Rattle.runcalls.specs.Laws.Answers.{put_together}
+use Rattle.runcalls.proofs.Laws.Answers.{put_together}
 use Rattle.runcalls.proofs.run_by.Statement.{statement}
 use Rattle.runcalls.proofs.run_by.Tie as tie
 

@@ -5,18 +5,18 @@ use native.Mathlib.Omega.{arith}
 use Prim.Native.Nat.{◌≤◌}
 use borrow.Author.Rules.{rules}
 use borrow.Author.Tests.{not-true, not-false}
-use Rattle.plan.specs.Laws.CountLimits.{CountLimits, count-limits}
+use Rattle.plan.proofs.Laws.CountLimits.{CountLimits, count-limits}
 use Rattle.plan.specs.declared.Plan.{Plan}
 use Rattle.plan.specs.Lent.{plan_lent}
 use Rattle.machine.specs.Runs.{events_most, room_of}
 use Rattle.machine.specs.SoundTest.{is_sound}
-use Rattle.machine.specs.Laws.SoundTest.{test_clauses}
+use Rattle.machine.proofs.Laws.SoundTest.{test_clauses}
 use Rattle.machine.specs.declared.Running.{Running}
-use Rattle.soundness.specs.Laws.Answers.{sound_told}
-use Rattle.calls.specs.Proofs.StateLimits.{room_most}
+use Rattle.soundness.proofs.Laws.Answers.{sound_told}
+use Rattle.calls.proofs.Proofs.StateLimits.{room_most}
 use Rattle.runcalls.specs.Answers.{state_by}
 use Rattle.runcalls.specs.declared.Outcome.{Outcome}
-use Rattle.runcalls.specs.Laws.Answers.{run-unsound, run-above, run_short, run-ready, run-accepted, told_by}
+use Rattle.runcalls.proofs.Laws.Answers.{run-unsound, run-above, run_short, run-ready, run-accepted, told_by}
 use Rattle.runcalls.proofs.run_tested.Statement.{statement}
 use Rattle.runcalls.proofs.run_tested.Tie as tie
 

@@ -1,6 +1,6 @@
 -- The words of the entry are put one behind the other.
 use borrow.Author.Rules.{rules}
-use Rattle.words.specs.Laws.Putting.{begin, more, more_signed}
+use Rattle.words.proofs.Laws.Putting.{begin, more, more_signed}
 use Rattle.sectionwriters.proofs.write_node.Statement.{statement}
 use Rattle.sectionwriters.proofs.write_node.Tie as tie
 

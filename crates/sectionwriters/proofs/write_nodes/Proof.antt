@@ -6,8 +6,8 @@ use native.Mathlib.Omega.{arith}
 use borrow.Author.Rules.{rules}
 use Rattle.plan.specs.Lists.{joined}
 use Rattle.plan.specs.Encoding.{node_entry}
-use Rattle.words.specs.Laws.Putting.{length_behind}
-use Rattle.sectionwriters.specs.Laws.Writing.{rd_at, rd_small, BeginsWith, none, all, entry}
+use Rattle.words.proofs.Laws.Putting.{length_behind}
+use Rattle.sectionwriters.proofs.Laws.Writing.{rd_at, rd_small, BeginsWith, none, all, entry}
 use Rattle.sectionwriters.proofs.write_nodes.Statement.{statement}
 use Rattle.sectionwriters.proofs.write_nodes.Tie as tie
 

@@ -7,9 +7,9 @@ use mathlib.Core.List.{List}
 use mathlib.Core.Path.{◌≡◌, ap}
 use mir.Facts.{to_z-of_z}
 use Rattle.soundintegrators.specs.Figures.{figures_sound}
-use Rattle.unusedentries.specs.Laws.EarlyReturns.{passes, Passed, begin, next, passed_at, fails, last}
-use Rattle.soundintegrators.specs.Laws.OneIntegrator.{figure_clauses, figure_tests, same_slope, other_slope}
-use Rattle.soundintegrators.specs.Laws.OneIntegrator.{above_lower, below-upper, due-ready}
+use Rattle.unusedentries.proofs.Laws.EarlyReturns.{passes, Passed, begin, next, passed_at, fails, last}
+use Rattle.soundintegrators.proofs.Laws.OneIntegrator.{figure_clauses, figure_tests, same_slope, other_slope}
+use Rattle.soundintegrators.proofs.Laws.OneIntegrator.{above_lower, below-upper, due-ready}
 use Rattle.soundintegrators.proofs.figures_sound.Statement.{statement}
 use Rattle.soundintegrators.proofs.figures_sound.Tie as tie
 

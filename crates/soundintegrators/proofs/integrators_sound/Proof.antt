@@ -5,10 +5,10 @@ use mathlib.Core.Path.{◌≡◌, sym}
 use native.Mathlib.Omega.{arith}
 use Prim.Native.Nat.{◌-◌, ◌≤◌}
 use Rattle.plan.specs.Lists.{every}
-use Rattle.entryrules.specs.Laws.Testing.{every-none, every_more, every_fails, element, held, failed}
-use Rattle.timing.specs.Laws.Arithmetic.{upper_made, lower_made, upper-read, lower-read}
+use Rattle.entryrules.proofs.Laws.Testing.{every-none, every_more, every_fails, element, held, failed}
+use Rattle.timing.proofs.Laws.Arithmetic.{upper_made, lower_made, upper-read, lower-read}
 use Rattle.soundintegrators.specs.Figures.{IntegratorReady}
-use Rattle.soundintegrators.specs.Laws.OneIntegrator.{figures_in}
+use Rattle.soundintegrators.proofs.Laws.OneIntegrator.{figures_in}
 use Rattle.soundintegrators.proofs.integrators_sound.Statement.{statement}
 use Rattle.soundintegrators.proofs.integrators_sound.Tie as tie
 

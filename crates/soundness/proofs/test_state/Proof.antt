@@ -6,8 +6,8 @@ use Rattle.plan.specs.Lent.{plan_lent}
 use Rattle.machine.specs.Lent.{running_lent}
 use Rattle.machine.specs.SoundTest.{plan_sound}
 use Rattle.machine.specs.declared.Running.{Running}
-use Rattle.entryrules.specs.Laws.Testing.{held, failed}
-use Rattle.soundness.specs.Laws.Answers.{sound-rules, plan-unsound, plan_passed}
+use Rattle.entryrules.proofs.Laws.Testing.{held, failed}
+use Rattle.soundness.proofs.Laws.Answers.{sound-rules, plan-unsound, plan_passed}
 use Rattle.soundness.proofs.test_state.Statement.{statement}
 use Rattle.soundness.proofs.test_state.Tie as tie
 

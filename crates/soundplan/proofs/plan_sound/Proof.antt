@@ -7,14 +7,14 @@ use mathlib.Core.List.{List}
 use mathlib.Core.Path.{◌≡◌}
 use native.Mathlib.Omega.{arith}
 use Rattle.plan.specs.Tests.{count_list, counts_kept}
-use Rattle.plan.specs.Laws.CountLimits.{CountLimits, count-limits}
-use Rattle.plan.specs.Laws.PlanTests.{counts_kept_lem}
+use Rattle.plan.proofs.Laws.CountLimits.{CountLimits, count-limits}
+use Rattle.plan.proofs.Laws.PlanTests.{counts_kept_lem}
 use Rattle.plan.specs.declared.Plan.{Plan}
 use Rattle.plan.specs.Lent.{plan_lent}
 use Rattle.machine.specs.SoundTest.{plan_sound}
-use Rattle.entryrules.specs.Laws.Testing.{held, failed}
-use Rattle.unusedentries.specs.Laws.EarlyReturns.{passes, Passed, begin, next, fails, last}
-use Rattle.soundplan.specs.Laws.SectionTests.{plan_clauses, section_tests}
+use Rattle.entryrules.proofs.Laws.Testing.{held, failed}
+use Rattle.unusedentries.proofs.Laws.EarlyReturns.{passes, Passed, begin, next, fails, last}
+use Rattle.soundplan.proofs.Laws.SectionTests.{plan_clauses, section_tests}
 use Rattle.soundplan.proofs.plan_sound.Statement.{statement}
 use Rattle.soundplan.proofs.plan_sound.Tie as tie
 

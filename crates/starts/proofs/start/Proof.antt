@@ -3,13 +3,13 @@ use mathlib.Core.Path.{◌≡◌, ap}
 use lib.IntN.{pos}
 use Rattle.plan.specs.Lists.{row}
 use Rattle.plan.specs.Lent.{plan_lent}
-use Rattle.plan.specs.Laws.CountLimits.{count-limits}
+use Rattle.plan.proofs.Laws.CountLimits.{count-limits}
 use Rattle.plan.specs.declared.Plan.{Plan}
 use Rattle.machine.specs.Held.{held_start}
 use Rattle.machine.specs.Next.{next_command}
 use Rattle.machine.specs.Start.{start_slope}
-use Rattle.tables.specs.Laws.OfPlan.{tables_ready, tables_are}
-use Rattle.starts.specs.Laws.Starts.{first_outputs, first-inputs, start_dues_ready, start_dues, start_is}
+use Rattle.tables.proofs.Laws.OfPlan.{tables_ready, tables_are}
+use Rattle.starts.proofs.Laws.Starts.{first_outputs, first-inputs, start_dues_ready, start_dues, start_is}
 use Rattle.starts.proofs.start.Statement.{statement}
 use Rattle.starts.proofs.start.Tie as tie
 

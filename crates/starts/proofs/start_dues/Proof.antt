@@ -7,10 +7,10 @@ use mir.Facts.{to_z-of_z}
 use lib.IntN.{ℤ}
 use mathlib.Core.List.{List}
 use Rattle.plan.specs.Lists.{int_at, row}
-use Rattle.plan.specs.Laws.Rows.{row_none, row_more}
+use Rattle.plan.proofs.Laws.Rows.{row_none, row_more}
 use Rattle.machine.specs.Due.{due_tick}
 use Rattle.timing.specs.Ticks.{upper_in, lower_in}
-use Rattle.timing.specs.Laws.Arithmetic.{upper_made, lower_made, upper-read, lower-read}
+use Rattle.timing.proofs.Laws.Arithmetic.{upper_made, lower_made, upper-read, lower-read}
 use Rattle.starts.specs.Starting.{StartReady}
 use Rattle.starts.proofs.start_dues.Statement.{statement}
 use Rattle.starts.proofs.start_dues.Tie as tie

@@ -6,7 +6,7 @@ use mathlib.Core.Bool.{◌&&◌}
 use mathlib.Core.Path.{◌≡◌, refl}
 use Prim.Native.Nat.{◌-◌}
 use Rattle.plan.specs.Unused.{nats_zero_from}
-use Rattle.unusedentries.specs.Laws.Unused.{none_left, one_more}
+use Rattle.unusedentries.proofs.Laws.Unused.{none_left, one_more}
 use Rattle.unusedentries.proofs.numbers_zero_from.Statement.{statement}
 use Rattle.unusedentries.proofs.numbers_zero_from.Tie as tie
 

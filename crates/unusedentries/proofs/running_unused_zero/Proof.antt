@@ -8,8 +8,8 @@ use mathlib.Core.Path.{◌≡◌, refl}
 use Rattle.plan.specs.Lists.{every}
 use Rattle.plan.specs.Unused.{nats_zero_from, ints_zero_from}
 use Rattle.unusedentries.specs.Entries.{running_unused_zero_by}
-use Rattle.entryrules.specs.Laws.Testing.{held, failed}
-use Rattle.unusedentries.specs.Laws.EarlyReturns.{passes, Passed, begin, next, fails, last}
+use Rattle.entryrules.proofs.Laws.Testing.{held, failed}
+use Rattle.unusedentries.proofs.Laws.EarlyReturns.{passes, Passed, begin, next, fails, last}
 use Rattle.unusedentries.proofs.running_unused_zero.Statement.{statement}
 use Rattle.unusedentries.proofs.running_unused_zero.Tie as tie
 

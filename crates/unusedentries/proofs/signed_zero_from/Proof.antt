@@ -11,8 +11,8 @@ use Prim.Native.Nat.{◌-◌}
 use Rattle.integers.specs.Parts.{∣◌∣}
 use Rattle.plan.specs.Lists.{int_at}
 use Rattle.plan.specs.Unused.{ints_zero_from}
-use Rattle.entryrules.specs.Laws.Comparing.{zero_bits}
-use Rattle.unusedentries.specs.Laws.Unused.{none_left, one_more}
+use Rattle.entryrules.proofs.Laws.Comparing.{zero_bits}
+use Rattle.unusedentries.proofs.Laws.Unused.{none_left, one_more}
 use Rattle.unusedentries.proofs.signed_zero_from.Statement.{statement}
 use Rattle.unusedentries.proofs.signed_zero_from.Tie as tie
 

@@ -9,9 +9,9 @@ use borrow.Author.Rules.{sfits_of}
 use mir.Facts.{to_z-of_z}
 use mir.Syntax.{w64}
 use mir.Val.{SFits}
-use Rattle.integers.specs.Laws.Signed64.{rd}
+use Rattle.integers.proofs.Laws.Signed64.{rd}
 use Rattle.plan.specs.Lists.{int_at, row}
-use Rattle.plan.specs.Laws.Rows.{row_none, row_more}
+use Rattle.plan.proofs.Laws.Rows.{row_none, row_more}
 use Rattle.values.specs.Sources.{inputs_in}
 use Rattle.values.proofs.inputs_in.Statement.{statement}
 use Rattle.values.proofs.inputs_in.Tie as tie

@@ -10,8 +10,8 @@ use mir.Syntax.{w64}
 use mir.Val.{SFits}
 use lib.IntN.{◌-ℤ◌, ◌*ℤ◌}
 use lib.Signed.{le_z}
-use Rattle.integers.specs.Laws.Parts.{zs}
-use Rattle.integers.specs.Laws.Signed64.{fits_sub, fits_mul, sized}
+use Rattle.integers.proofs.Laws.Parts.{zs}
+use Rattle.integers.proofs.Laws.Signed64.{fits_sub, fits_mul, sized}
 use Rattle.plan.specs.Numbers.{M}
 use Rattle.machine.specs.Values.{node_value}
 use Rattle.values.proofs.node_value.Statement.{statement}

@@ -3,8 +3,8 @@ use borrow.Author.Rules.{rules}
 use mathlib.Core.Path.{◌∙◌}
 use mathlib.Core.Bool.{true}
 use native.Mathlib.Omega.{arith}
-use Rattle.bitset.specs.Laws.Bits.{mask_of_lt}
-use Rattle.bitset.specs.Laws.Visiting.{each_mask}
+use Rattle.bitset.proofs.Laws.Bits.{mask_of_lt}
+use Rattle.bitset.proofs.Laws.Visiting.{each_mask}
 use Rattle.values.proofs.source_values.Statement.{statement}
 use Rattle.values.proofs.source_values.Tie as tie
 

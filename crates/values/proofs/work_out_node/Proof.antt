@@ -5,7 +5,7 @@ use mathlib.Core.Path.{◌≡◌}
 use Prim.Native.Nat.{ℕ, ◌<◌}
 use native.Mathlib.Omega.{arith}
 use mir.Facts.{to_z-of_z}
-use Rattle.integers.specs.Laws.Signed64.{rd, fits_size}
+use Rattle.integers.proofs.Laws.Signed64.{rd, fits_size}
 use Rattle.plan.specs.Numbers.{M}
 use Rattle.plan.specs.Lists.{nat_at, int_at}
 use Rattle.values.specs.Sources.{node_from, node_step}

@@ -5,9 +5,9 @@ use native.Mathlib.Nat.{lt_of_lt_of_le}
 use native.Mathlib.Omega.{arith}
 use lib.Pow.{pow_mono}
 use Rattle.bitset.specs.Mask.{has, each, lowest_of}
-use Rattle.bitset.specs.Laws.Visiting.{rest_lt, lowest-below, each_turn, each_done}
+use Rattle.bitset.proofs.Laws.Visiting.{rest_lt, lowest-below, each_turn, each_done}
 use Rattle.values.specs.Sources.{node_step, NodesReady}
-use Rattle.values.specs.Laws.NodeSteps.{step-ready}
+use Rattle.values.proofs.Laws.NodeSteps.{step-ready}
 use Rattle.values.proofs.work_out_nodes.Statement.{statement}
 use Rattle.values.proofs.work_out_nodes.Tie as tie
 

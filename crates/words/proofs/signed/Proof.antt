@@ -6,7 +6,7 @@ use lib.IntN.{sub_ℕ}
 use mir.Syntax.{w64}
 use mir.Val.{SFits}
 use mir.ValLaws.{to_z_pos, to_z-of_z}
-use Rattle.words.specs.Laws.Signs.{signed_low, signed_high, signed_mag}
+use Rattle.words.proofs.Laws.Signs.{signed_low, signed_high, signed_mag}
 use borrow.Author.Rules.{rules}
 use Rattle.words.proofs.signed.Statement.{statement}
 use Rattle.words.proofs.signed.Tie as tie

@@ -7,7 +7,7 @@ use mir.Syntax.{w64}
 use mir.Val.{SFits, to_z, of_z}
 use mir.ValLaws.{to_z-of_z}
 use Rattle.words.specs.Word.{word_of}
-use Rattle.words.specs.Laws.Signs.{unsigned_low, unsigned_high, unsigned_lt}
+use Rattle.words.proofs.Laws.Signs.{unsigned_low, unsigned_high, unsigned_lt}
 use Rattle.words.proofs.unsigned.Statement.{statement}
 use Rattle.words.proofs.unsigned.Tie as tie
 

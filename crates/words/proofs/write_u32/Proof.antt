@@ -3,7 +3,7 @@ use native.Mathlib.Numerals.{towards_suc}
 use native.Mathlib.Omega.{arith}
 use lib.ListN.{length-set}
 use Rattle.words.specs.Word.{bytes_of}
-use Rattle.words.specs.Laws.Writing.{sets-put}
+use Rattle.words.proofs.Laws.Writing.{sets-put}
 use borrow.Author.Rules.{rules}
 use Rattle.words.proofs.write_u32.Statement.{statement}
 use Rattle.words.proofs.write_u32.Tie as tie

@@ -1,6 +1,6 @@
 -- Tick and mask are the definition's, so the status is asked and told of them.
 use borrow.Author.Rules.{rules}
-use Rattle.bitset.specs.Laws.Bits.{mask_of_lt}
+use Rattle.bitset.proofs.Laws.Bits.{mask_of_lt}
 use Rattle.engine.specs.Ahead.{tick_ahead, due_ahead, ahead_of}
 use Rattle.engine.proofs.ahead.look_ahead.Statement.{statement}
 use Rattle.engine.proofs.ahead.look_ahead.Tie as tie

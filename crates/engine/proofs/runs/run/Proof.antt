@@ -7,19 +7,19 @@ use native.Mathlib.Omega.{arith}
 use lib.ListN.{length}
 use borrow.Author.Rules.{rules}
 use borrow.Author.Tests.{not-true, not-false}
-use Rattle.plan.specs.Laws.CountLimits.{CountLimits, count-limits}
+use Rattle.plan.proofs.Laws.CountLimits.{CountLimits, count-limits}
 use Rattle.plan.specs.declared.Plan.{Plan}
 use Rattle.plan.specs.Lent.{plan_lent}
 use Rattle.machine.specs.Status.{is_paused}
 use Rattle.machine.specs.Sound.{RunningWidths}
-use Rattle.machine.specs.Laws.SoundClauses.{SoundRunning}
-use Rattle.machine.specs.Laws.SoundTest.{words_clauses}
+use Rattle.machine.proofs.Laws.SoundClauses.{SoundRunning}
+use Rattle.machine.proofs.Laws.SoundTest.{words_clauses}
 use Rattle.machine.specs.declared.Running.{Running}
 use Rattle.reach.specs.Table.{reach_table}
-use Rattle.reach.specs.Laws.Reached.{table_wired, table_linked}
+use Rattle.reach.proofs.Laws.Reached.{table_wired, table_linked}
 use Rattle.instant.specs.Lent.{Unread, running_of, InstantReady}
-use Rattle.engine.specs.Laws.Aheads.{ahead-ready}
-use Rattle.engine.specs.Laws.RunLoop as law
+use Rattle.engine.proofs.Laws.Aheads.{ahead-ready}
+use Rattle.engine.proofs.Laws.RunLoop as law
 use Rattle.engine.proofs.runs.run.Statement.{statement}
 use Rattle.engine.proofs.runs.run.Tie as tie
 

@@ -1,6 +1,6 @@
 -- The comparisons are the tests of the definition, in their order; the answer is the last.
 use borrow.Author.Rules.{rules}
-use Rattle.entryrules.specs.Laws.Comparing.{comparing, answered}
+use Rattle.entryrules.proofs.Laws.Comparing.{comparing, answered}
 use Rattle.entryrules.proofs.entries.command_limits_test.Statement.{statement}
 use Rattle.entryrules.proofs.entries.command_limits_test.Tie as tie
 

@@ -1,7 +1,7 @@
 -- The two comparisons are the two ends of the range.
 use borrow.Author.Rules.{rules}
 use Rattle.plan.specs.Tests.{horizon_kept}
-use Rattle.entryrules.specs.Laws.Comparing.{comparing}
+use Rattle.entryrules.proofs.Laws.Comparing.{comparing}
 use Rattle.entryrules.proofs.entries.horizon_kept.Statement.{statement}
 use Rattle.entryrules.proofs.entries.horizon_kept.Tie as tie
 

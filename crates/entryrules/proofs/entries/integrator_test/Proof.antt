@@ -1,6 +1,6 @@
 -- The call and the comparisons are the tests of the definition, in their order.
 use borrow.Author.Rules.{rules}
-use Rattle.entryrules.specs.Laws.Comparing.{comparing, tested}
+use Rattle.entryrules.proofs.Laws.Comparing.{comparing, tested}
 use Rattle.entryrules.proofs.entries.integrator_test.Statement.{statement}
 use Rattle.entryrules.proofs.entries.integrator_test.Tie as tie
 

@@ -1,6 +1,6 @@
 -- The first entry passes; any other stands above its predecessor if its pair does.
 use borrow.Author.Rules.{rules}
-use Rattle.entryrules.specs.Laws.Comparing.{comparing}
+use Rattle.entryrules.proofs.Laws.Comparing.{comparing}
 use Rattle.entryrules.proofs.entries.link_ascends.Statement.{statement}
 use Rattle.entryrules.proofs.entries.link_ascends.Tie as tie
 

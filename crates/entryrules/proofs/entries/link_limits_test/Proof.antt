@@ -1,6 +1,6 @@
 -- The comparisons are the tests of the definition, in their order. The lower end of the range is 0 - LARGEST_COEFFICIENT in the code.
 use borrow.Author.Rules.{rules}
-use Rattle.entryrules.specs.Laws.Comparing.{comparing}
+use Rattle.entryrules.proofs.Laws.Comparing.{comparing}
 use Rattle.entryrules.proofs.entries.link_limits_test.Statement.{statement}
 use Rattle.entryrules.proofs.entries.link_limits_test.Tie as tie
 

@@ -6,7 +6,7 @@ use borrow.Author.Rules.{rules}
 use Rattle.integers.specs.Range.{within}
 use Rattle.plan.specs.Numbers.{M}
 use Rattle.plan.specs.Tests.{node_test}
-use Rattle.entryrules.specs.Laws.Comparing.{comparing, tested}
+use Rattle.entryrules.proofs.Laws.Comparing.{comparing, tested}
 use Rattle.entryrules.proofs.entries.node_test.Statement.{statement}
 use Rattle.entryrules.proofs.entries.node_test.Tie as tie
 

@@ -1,7 +1,7 @@
 -- The comparisons are the tests of the definition, in their order.
 use borrow.Author.Rules.{rules}
 use Rattle.plan.specs.Tests.{pair_ascends}
-use Rattle.entryrules.specs.Laws.Comparing.{comparing}
+use Rattle.entryrules.proofs.Laws.Comparing.{comparing}
 use Rattle.entryrules.proofs.entries.pair_ascends.Statement.{statement}
 use Rattle.entryrules.proofs.entries.pair_ascends.Tie as tie
 

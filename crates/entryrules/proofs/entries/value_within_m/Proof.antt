@@ -1,6 +1,6 @@
 -- The two comparisons are the two ends of the range. The lower end is 0 - M in the code.
 use borrow.Author.Rules.{rules}
-use Rattle.entryrules.specs.Laws.Comparing.{comparing}
+use Rattle.entryrules.proofs.Laws.Comparing.{comparing}
 use Rattle.entryrules.proofs.entries.value_within_m.Statement.{statement}
 use Rattle.entryrules.proofs.entries.value_within_m.Tie as tie
 

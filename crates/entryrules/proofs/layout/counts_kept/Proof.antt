@@ -7,7 +7,7 @@ use mathlib.Core.Bool.{true}
 use Rattle.plan.specs.Numbers.{sections}
 use Rattle.plan.specs.Lists.{nat_at, every}
 use Rattle.plan.specs.Tests.{count_kept}
-use Rattle.entryrules.specs.Laws.Testing.{every-none, every_more, every_fails, held, failed}
+use Rattle.entryrules.proofs.Laws.Testing.{every-none, every_more, every_fails, held, failed}
 use Rattle.entryrules.proofs.layout.counts_kept.Statement.{statement}
 use Rattle.entryrules.proofs.layout.counts_kept.Tie as tie
 

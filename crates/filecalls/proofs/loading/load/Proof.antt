@@ -1,9 +1,9 @@
 -- Where the directory is clean the sections are loaded; else what it finds is what the file is refused for.
 use mathlib.Core.Path.{sym, ◌∙◌}
 use borrow.Author.Rules.{rules}
-use Rattle.directory.specs.Laws.Directory.{directory_kept, finding_directory}
-use Rattle.entryrules.specs.Laws.ChecksInOrder.{refused, not_clean}
-use Rattle.filecalls.specs.Laws.Answers.{load_refused}
+use Rattle.directory.proofs.Laws.Directory.{directory_kept, finding_directory}
+use Rattle.entryrules.proofs.Laws.ChecksInOrder.{refused, not_clean}
+use Rattle.filecalls.proofs.Laws.Answers.{load_refused}
 use Rattle.filecalls.proofs.loading.load.Statement.{statement}
 use Rattle.filecalls.proofs.loading.load.Tie as tie
 

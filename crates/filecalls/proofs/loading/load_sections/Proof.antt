@@ -5,13 +5,13 @@ use borrow.Author.Rules.{rules}
 use Rattle.plan.specs.Format.{plan_in}
 use Rattle.plan.specs.Rules.{CountsRule, PlanRules}
 use Rattle.plan.specs.Refusals.{plan_finding, finding_of}
-use Rattle.plan.specs.Laws.FileRefusals.{counts_in, accepted-rules}
+use Rattle.plan.proofs.Laws.FileRefusals.{counts_in, accepted-rules}
 use Rattle.plan.specs.declared.Plan.{Plan}
-use Rattle.directory.specs.Laws.Directory.{finding_plan}
-use Rattle.entryrules.specs.Laws.ChecksInOrder.{not_clean}
-use Rattle.planfile.specs.Laws.Reading.{finding_accepts}
-use Rattle.planfile.specs.Laws.Sections.{section_room, n_in, m_in, k_in, links_in, commands_in, plan_read, plan-read}
-use Rattle.filecalls.specs.Laws.Answers.{load_refused, load_accepted}
+use Rattle.directory.proofs.Laws.Directory.{finding_plan}
+use Rattle.entryrules.proofs.Laws.ChecksInOrder.{not_clean}
+use Rattle.planfile.proofs.Laws.Reading.{finding_accepts}
+use Rattle.planfile.proofs.Laws.Sections.{section_room, n_in, m_in, k_in, links_in, commands_in, plan_read, plan-read}
+use Rattle.filecalls.proofs.Laws.Answers.{load_refused, load_accepted}
 use Rattle.filecalls.proofs.loading.load_sections.Statement.{statement}
 use Rattle.filecalls.proofs.loading.load_sections.Tie as tie
 

@@ -5,7 +5,7 @@ use borrow.Author.Rules.{rules}
 use Rattle.plan.specs.declared.Plan.{Plan}
 use Rattle.machine.specs.declared.Running.{Running}
 use Rattle.instant.specs.Lent.{Unread, plan_of, running_of}
-use Rattle.instant.specs.Laws.Instants as law
+use Rattle.instant.proofs.Laws.Instants as law
 use Rattle.instant.proofs.instants.take_instant.Statement.{statement}
 use Rattle.instant.proofs.instants.take_instant.Tie as tie
 

@@ -4,9 +4,9 @@ use native.Mathlib.Omega.{arith}
 use Rattle.plan.specs.Format.{plan_in}
 use Rattle.plan.specs.Rules.{CountsRule}
 use Rattle.plan.specs.Refusals.{plan_finding}
-use Rattle.plan.specs.Laws.FileRefusals.{counts_in}
+use Rattle.plan.proofs.Laws.FileRefusals.{counts_in}
 use Rattle.plan.specs.declared.Plan.{Plan}
-use Rattle.planfile.specs.Laws.Sections.{section_room, n_in, m_in, k_in, links_in, commands_in, plan_read, plan-read}
+use Rattle.planfile.proofs.Laws.Sections.{section_room, n_in, m_in, k_in, links_in, commands_in, plan_read, plan-read}
 use borrow.Author.Rules.{rules}
 use Rattle.planfile.proofs.checking.check_sections.Statement.{statement}
 use Rattle.planfile.proofs.checking.check_sections.Tie as tie

@@ -1,7 +1,7 @@
 -- Where the directory is clean the finding is that of the plan that the file holds.
 use mathlib.Core.Path.{sym, ◌∙◌}
-use Rattle.directory.specs.Laws.Directory.{directory_kept, finding_directory}
-use Rattle.entryrules.specs.Laws.ChecksInOrder.{tried, refused, not_clean}
+use Rattle.directory.proofs.Laws.Directory.{directory_kept, finding_directory}
+use Rattle.entryrules.proofs.Laws.ChecksInOrder.{tried, refused, not_clean}
 use borrow.Author.Rules.{rules}
 use Rattle.planfile.proofs.checking.finding_of.Statement.{statement}
 use Rattle.planfile.proofs.checking.finding_of.Tie as tie

@@ -1,6 +1,6 @@
 -- Each reader is handed a section and its count, so what they hand back makes up the plan.
 use native.Mathlib.Omega.{arith}
-use Rattle.planfile.specs.Laws.Sections.{section_room, n_in, m_in, k_in, links_in, commands_in, plan-read}
+use Rattle.planfile.proofs.Laws.Sections.{section_room, n_in, m_in, k_in, links_in, commands_in, plan-read}
 use borrow.Author.Rules.{rules}
 use Rattle.planfile.proofs.decoding.decode.Statement.{statement}
 use Rattle.planfile.proofs.decoding.decode.Tie as tie

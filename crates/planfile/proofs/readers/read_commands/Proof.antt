@@ -4,7 +4,7 @@ use Prim.Native.Nat.{◌-◌, ◌≤◌}
 use native.Mathlib.Omega.{arith}
 use borrow.Author.Rules.{rules}
 use Rattle.planfile.specs.Columns.{words_of, signeds_of}
-use Rattle.planfile.specs.Laws.ColumnLoops.{column_none, column_turn, column_end, signeds_turn}
+use Rattle.planfile.proofs.Laws.ColumnLoops.{column_none, column_turn, column_end, signeds_turn}
 use Rattle.planfile.proofs.readers.read_commands.Statement.{statement}
 use Rattle.planfile.proofs.readers.read_commands.Tie as tie
 

@@ -4,7 +4,7 @@ use Prim.Native.Nat.{◌-◌, ◌≤◌}
 use native.Mathlib.Omega.{arith}
 use borrow.Author.Rules.{rules}
 use Rattle.planfile.specs.Columns.{signeds_of, unsigneds_of}
-use Rattle.planfile.specs.Laws.ColumnLoops.{column_none, column_end, signeds_turn, unsigneds_turn}
+use Rattle.planfile.proofs.Laws.ColumnLoops.{column_none, column_end, signeds_turn, unsigneds_turn}
 use Rattle.planfile.proofs.readers.read_integrators.Statement.{statement}
 use Rattle.planfile.proofs.readers.read_integrators.Tie as tie
 

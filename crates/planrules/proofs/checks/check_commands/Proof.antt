@@ -6,8 +6,8 @@ use native.Mathlib.Omega.{arith}
 use Rattle.plan.specs.Refusals.{number_of, is_clean}
 use Rattle.plan.specs.declared.Finding.TheVariants.{Command}
 use Rattle.planrules.specs.Checks.{command_limits_at, command_at}
-use Rattle.entryrules.specs.Laws.Testing.{element, held, failed}
-use Rattle.planrules.specs.Laws.Findings.{CleanTo, begin, passed, found, none}
+use Rattle.entryrules.proofs.Laws.Testing.{element, held, failed}
+use Rattle.planrules.proofs.Laws.Findings.{CleanTo, begin, passed, found, none}
 use Rattle.planrules.proofs.checks.check_commands.Statement.{statement}
 use Rattle.planrules.proofs.checks.check_commands.Tie as tie
 

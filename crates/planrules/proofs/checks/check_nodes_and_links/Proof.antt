@@ -1,6 +1,6 @@
 -- The proofs of what it returns name no call, so that an exchange of the two is refused for what it answers.
 use mathlib.Core.Path.{refl, sym, ◌∙◌}
-use Rattle.entryrules.specs.Laws.ChecksInOrder.{tried, refused, not_clean}
+use Rattle.entryrules.proofs.Laws.ChecksInOrder.{tried, refused, not_clean}
 use borrow.Author.Rules.{rules}
 use Rattle.planrules.proofs.checks.check_nodes_and_links.Statement.{statement}
 use Rattle.planrules.proofs.checks.check_nodes_and_links.Tie as tie

@@ -5,11 +5,11 @@ use native.Mathlib.Omega.{arith}
 use Rattle.plan.specs.Tests.{integrator_kept, input_kept, node_kept, link_limits_kept, link_ordered, command_limits_kept, command_ordered}
 use Rattle.plan.specs.Refusals.{horizon_finding, integrators_finding, inputs_finding, nodes_finding, links_finding, commands_finding, plan_finding}
 use Rattle.plan.specs.Refusals.{or_else}
-use Rattle.plan.specs.Laws.CountLimits.{CountLimits, count-limits}
+use Rattle.plan.proofs.Laws.CountLimits.{CountLimits, count-limits}
 use Rattle.plan.specs.declared.Plan.{Plan}
-use Rattle.entryrules.specs.Laws.ChecksInOrder.{tried, refused, not_clean, or_else_join}
+use Rattle.entryrules.proofs.Laws.ChecksInOrder.{tried, refused, not_clean, or_else_join}
 use Rattle.plan.specs.Lent.{plan_lent}
-use Rattle.planrules.specs.Laws.Findings.{from5, from6}
+use Rattle.planrules.proofs.Laws.Findings.{from5, from6}
 use Rattle.planrules.proofs.checks.check_plan.Statement.{statement}
 use Rattle.planrules.proofs.checks.check_plan.Tie as tie
 

@@ -3,7 +3,7 @@
 use mathlib.Core.Path.{refl}
 use mir.Facts.{to_z-of_z}
 use borrow.Author.Rules.{rules}
-use Rattle.simulator.specs.Laws.Answers.{position_told}
+use Rattle.simulator.proofs.Laws.Answers.{position_told}
 use Rattle.simulator.proofs.positions.position.Statement.{statement}
 use Rattle.simulator.proofs.positions.position.Tie as tie
 

@@ -6,16 +6,16 @@ use native.Mathlib.Omega.{arith}
 use borrow.Author.Rules.{rules, sfits_of}
 use borrow.Author.Tests.{not-true, not-false}
 use mir.Facts.{to_z-of_z}
-use Rattle.plan.specs.Laws.CountLimits.{count-limits}
+use Rattle.plan.proofs.Laws.CountLimits.{count-limits}
 use Rattle.plan.specs.declared.Plan.{Plan}
 use Rattle.plan.specs.Lent.{plan_lent}
 use Rattle.machine.specs.Lent.{running_lent}
 use Rattle.machine.specs.SoundTest.{is_sound}
-use Rattle.machine.specs.Laws.SoundTest.{test_clauses}
+use Rattle.machine.proofs.Laws.SoundTest.{test_clauses}
 use Rattle.machine.specs.declared.Running.{Running}
-use Rattle.soundness.specs.Laws.Answers.{sound_told}
+use Rattle.soundness.proofs.Laws.Answers.{sound_told}
 use Rattle.runcalls.specs.Answers.{state_by}
-use Rattle.simulator.specs.Laws.Answers.{position-unsound, position-above, position-ready, position-known}
+use Rattle.simulator.proofs.Laws.Answers.{position-unsound, position-above, position-ready, position-known}
 use Rattle.simulator.proofs.positions.position_tested.Statement.{statement}
 use Rattle.simulator.proofs.positions.position_tested.Tie as tie
 

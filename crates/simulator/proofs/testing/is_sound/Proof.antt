@@ -1,6 +1,6 @@
 -- What the test of the state says. The place behind the test is searched for and not counted: with a negation it is another one before the return.
 use borrow.Author.Rules.{rules}
-use Rattle.soundness.specs.Laws.Answers.{sound_told}
+use Rattle.soundness.proofs.Laws.Answers.{sound_told}
 use Rattle.simulator.proofs.testing.is_sound.Statement.{statement}
 use Rattle.simulator.proofs.testing.is_sound.Tie as tie
 

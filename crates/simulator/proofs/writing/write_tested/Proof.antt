@@ -7,11 +7,11 @@ use Rattle.plan.specs.declared.Plan.{Plan}
 use Rattle.plan.specs.Lent.{plan_lent}
 use Rattle.machine.specs.Lent.{running_lent}
 use Rattle.machine.specs.SoundTest.{is_sound}
-use Rattle.machine.specs.Laws.SoundTest.{test_clauses}
+use Rattle.machine.proofs.Laws.SoundTest.{test_clauses}
 use Rattle.machine.specs.declared.Running.{Running}
-use Rattle.soundness.specs.Laws.Answers.{sound_told}
+use Rattle.soundness.proofs.Laws.Answers.{sound_told}
 use Rattle.runcalls.specs.Answers.{state_by}
-use Rattle.simulator.specs.Laws.Answers.{write-unsound, write-short, write-whole}
+use Rattle.simulator.proofs.Laws.Answers.{write-unsound, write-short, write-whole}
 use Rattle.simulator.proofs.writing.write_tested.Statement.{statement}
 use Rattle.simulator.proofs.writing.write_tested.Tie as tie
 

@@ -8,7 +8,7 @@ use mathlib.Core.Path.{◌≡◌, ap, sym, ◌∙◌}
 use native.Mathlib.Omega.{arith}
 use Prim.Native.Nat.{ℕ, ◌<◌}
 use Rattle.plan.specs.Lists.{every}
-use Rattle.plan.specs.Laws.CountLimits.{count-limits}
+use Rattle.plan.proofs.Laws.CountLimits.{count-limits}
 use Rattle.plan.specs.declared.Plan.{Plan}
 use Rattle.machine.specs.Next.{next_command}
 use Rattle.machine.specs.Held.{held_of}
@@ -17,14 +17,14 @@ use Rattle.machine.specs.Lent.{running_lent}
 use Rattle.machine.specs.SoundTest.{running_sound}
 use Rattle.machine.specs.declared.Running.{Running}
 use Rattle.tables.specs.Columns.{plan_tables}
-use Rattle.tables.specs.Laws.OfPlan.{tables_ready, tables_are}
-use Rattle.entryrules.specs.Laws.Testing.{held, failed}
-use Rattle.unusedentries.specs.Laws.EarlyReturns.{passes, Passed, begin, next, passed_at, fails}
+use Rattle.tables.proofs.Laws.OfPlan.{tables_ready, tables_are}
+use Rattle.entryrules.proofs.Laws.Testing.{held, failed}
+use Rattle.unusedentries.proofs.Laws.EarlyReturns.{passes, Passed, begin, next, passed_at, fails}
 use Rattle.soundness.specs.Testing.{unsound, running_tested_of}
 use Rattle.soundness.specs.declared.Tested.{Tested}
-use Rattle.soundness.specs.Laws.Answers.{figures-unsound, figures_sound_lem}
-use Rattle.soundness.specs.Laws.RunningTests.{clauses, running_tests, figures_at, output-size, input-size, figures-ready, figures_tested}
-use Rattle.soundness.specs.Laws.RunningTests.{clock_fits, updates_fit}
+use Rattle.soundness.proofs.Laws.Answers.{figures-unsound, figures_sound_lem}
+use Rattle.soundness.proofs.Laws.RunningTests.{clauses, running_tests, figures_at, output-size, input-size, figures-ready, figures_tested}
+use Rattle.soundness.proofs.Laws.RunningTests.{clock_fits, updates_fit}
 use Rattle.soundness.proofs.running.running_tested.Statement.{statement}
 use Rattle.soundness.proofs.running.running_tested.Tie as tie
 

@@ -7,7 +7,7 @@ use Prim.Native.Nat.{◌-◌, ◌≤◌}
 use Rattle.integers.specs.Range.{within}
 use Rattle.plan.specs.Numbers.{M}
 use Rattle.plan.specs.Lists.{int_at, every}
-use Rattle.entryrules.specs.Laws.Testing.{every-none, every_more, every_fails, element, held, failed}
+use Rattle.entryrules.proofs.Laws.Testing.{every-none, every_more, every_fails, element, held, failed}
 use Rattle.soundness.proofs.running.values_within_m.Statement.{statement}
 use Rattle.soundness.proofs.running.values_within_m.Tie as tie
 

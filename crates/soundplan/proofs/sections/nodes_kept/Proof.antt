@@ -8,12 +8,12 @@ use mathlib.Core.Path.{◌≡◌, refl}
 use Rattle.plan.specs.Lists.{every}
 use Rattle.plan.specs.Refusals.{is_clean}
 use Rattle.plan.specs.Unused.{nats_zero_from, ints_zero_from}
-use Rattle.entryrules.specs.Laws.ChecksInOrder.{not_clean}
-use Rattle.entryrules.specs.Laws.Testing.{held, failed}
+use Rattle.entryrules.proofs.Laws.ChecksInOrder.{not_clean}
+use Rattle.entryrules.proofs.Laws.Testing.{held, failed}
 use Rattle.planrules.specs.Checks.{nodes_check}
-use Rattle.unusedentries.specs.Laws.EarlyReturns.{passes, Passed, begin, next, fails, last}
+use Rattle.unusedentries.proofs.Laws.EarlyReturns.{passes, Passed, begin, next, fails, last}
 use Rattle.soundplan.specs.Sections.{nodes_kept}
-use Rattle.soundplan.specs.Laws.SectionTests.{clean, faulty}
+use Rattle.soundplan.proofs.Laws.SectionTests.{clean, faulty}
 use Rattle.soundplan.proofs.sections.nodes_kept.Statement.{statement}
 use Rattle.soundplan.proofs.sections.nodes_kept.Tie as tie
 

@@ -8,7 +8,7 @@ use mir.Val.{SFits}
 use mir.Facts.{to_z-of_z}
 use Rattle.plan.specs.Lists.{nat_at, int_at}
 use Rattle.steps.specs.Entries.{after_entries, after_entry, after_entries_from}
-use Rattle.steps.specs.Laws.EntryTurns.{one_more, other_tick, none_left}
+use Rattle.steps.proofs.Laws.EntryTurns.{one_more, other_tick, none_left}
 use Rattle.steps.proofs.entries.obey_entries.Statement.{statement}
 use Rattle.steps.proofs.entries.obey_entries.Tie as tie
 

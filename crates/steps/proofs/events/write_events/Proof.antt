@@ -4,13 +4,13 @@ use mathlib.Core.List.{[], ◌∷◌}
 use Prim.Native.Nat.{◌<◌}
 use native.Mathlib.Omega.{arith}
 use borrow.Author.Rules.{rules}
-use Rattle.bitset.specs.Laws.Visiting.{rest_lt}
+use Rattle.bitset.proofs.Laws.Visiting.{rest_lt}
 use Rattle.words.specs.Word.{word_of}
-use Rattle.words.specs.Laws.Putting.{rd32, length_behind}
+use Rattle.words.proofs.Laws.Putting.{rd32, length_behind}
 use Rattle.plan.specs.Lists.{int_at}
 use Rattle.machine.specs.Instant.{bytes_of_event}
-use Rattle.steps.specs.Laws.Buffers.{put_back}
-use Rattle.steps.specs.Laws.EventTurns.{Writing, begun, finished, room, source_lt, value-small, turn}
+use Rattle.steps.proofs.Laws.Buffers.{put_back}
+use Rattle.steps.proofs.Laws.EventTurns.{Writing, begun, finished, room, source_lt, value-small, turn}
 use Rattle.steps.proofs.events.write_events.Statement.{statement}
 use Rattle.steps.proofs.events.write_events.Tie as tie
 

@@ -6,12 +6,12 @@ use borrow.Author.Rules.{sfits_of}
 use mir.Syntax.{w64}
 use mir.Val.{SFits}
 use mir.Facts.{to_z-of_z}
-use Rattle.integers.specs.Laws.Signed64.{rd}
+use Rattle.integers.proofs.Laws.Signed64.{rd}
 use Rattle.bitset.specs.Mask.{has, each}
-use Rattle.bitset.specs.Laws.Visiting.{rest_lt, lowest_lt, each_turn, each_done}
+use Rattle.bitset.proofs.Laws.Visiting.{rest_lt, lowest_lt, each_turn, each_done}
 use Rattle.plan.specs.Lists.{int_at}
 use Rattle.timing.specs.Status.{DuePositionsReady}
-use Rattle.timing.specs.Laws.Barring.{value_at, ready-lowest, ready_rest}
+use Rattle.timing.proofs.Laws.Barring.{value_at, ready-lowest, ready_rest}
 use Rattle.steps.specs.Outputs.{after_output}
 use Rattle.steps.proofs.outputs.set_outputs.Statement.{statement}
 use Rattle.steps.proofs.outputs.set_outputs.Tie as tie

@@ -8,7 +8,7 @@ use Prim.Native.Nat.{ℕ, ◌-◌, ◌≤◌, ◌<◌}
 use native.Mathlib.Omega.{arith}
 use Rattle.plan.specs.Lists.{nat_at}
 use Rattle.machine.specs.Entries.{next_entry}
-use Rattle.machine.specs.Laws.Entries.{next_is}
+use Rattle.machine.proofs.Laws.Entries.{next_is}
 use Rattle.timing.proofs.entries.next_entry.Statement.{statement}
 use Rattle.timing.proofs.entries.next_entry.Tie as tie
 

@@ -5,7 +5,7 @@ use Prim.Native.Nat.{◌-◌, ◌≤◌, min}
 use native.Mathlib.Omega.{arith}
 use Rattle.machine.specs.Next.{least_due}
 use Rattle.timing.specs.Soonest.{soonest_at}
-use Rattle.timing.specs.Laws.OnePass.{none_passed, one_more}
+use Rattle.timing.proofs.Laws.OnePass.{none_passed, one_more}
 use Rattle.timing.proofs.soonest.soonest_of_few.Statement.{statement}
 use Rattle.timing.proofs.soonest.soonest_of_few.Tie as tie
 

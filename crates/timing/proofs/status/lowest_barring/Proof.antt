@@ -13,14 +13,14 @@ use mir.Syntax.{w64}
 use mir.Val.{hbits}
 use mir.Facts.{to_z-of_z}
 use Rattle.integers.specs.Range.{within}
-use Rattle.integers.specs.Laws.Signed64.{rd}
+use Rattle.integers.proofs.Laws.Signed64.{rd}
 use Rattle.bitset.specs.Mask.{lowest_of}
-use Rattle.bitset.specs.Laws.Visiting.{rest_lt}
+use Rattle.bitset.proofs.Laws.Visiting.{rest_lt}
 use Rattle.plan.specs.Numbers.{M}
 use Rattle.plan.specs.Lists.{int_at, first_from}
 use Rattle.timing.specs.Status.{bars_in, DuePositionsReady}
-use Rattle.timing.specs.Laws.Barring.{value_at, lowest-below, bars-none, bars-lowest, bars_rest, ready-lowest, ready_rest}
-use Rattle.timing.specs.Laws.Barring.{above_most, below-least, inside}
+use Rattle.timing.proofs.Laws.Barring.{value_at, lowest-below, bars-none, bars-lowest, bars_rest, ready-lowest, ready_rest}
+use Rattle.timing.proofs.Laws.Barring.{above_most, below-least, inside}
 use Rattle.timing.proofs.status.lowest_barring.Statement.{statement}
 use Rattle.timing.proofs.status.lowest_barring.Tie as tie
 

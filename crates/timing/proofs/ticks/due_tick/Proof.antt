@@ -9,9 +9,9 @@ use mir.Syntax.{w64}
 use mir.Val.{SFits}
 use mir.Facts.{to_z-of_z}
 use Rattle.integers.specs.Division.{ceil_div}
-use Rattle.integers.specs.Laws.Signed64.{rd}
-use Rattle.timing.specs.Laws.Arithmetic.{rise_fits, fall_fits, speed_fits, TicksReady, rise_ready, fall_ready}
-use Rattle.timing.specs.Laws.Arithmetic.{distance_cast, speed_cast, distance-positive, speed_positive, tick-most, due_rise, due_fall, due-never}
+use Rattle.integers.proofs.Laws.Signed64.{rd}
+use Rattle.timing.proofs.Laws.Arithmetic.{rise_fits, fall_fits, speed_fits, TicksReady, rise_ready, fall_ready}
+use Rattle.timing.proofs.Laws.Arithmetic.{distance_cast, speed_cast, distance-positive, speed_positive, tick-most, due_rise, due_fall, due-never}
 use Rattle.timing.proofs.ticks.due_tick.Statement.{statement}
 use Rattle.timing.proofs.ticks.due_tick.Tie as tie
 

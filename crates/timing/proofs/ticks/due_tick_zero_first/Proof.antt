@@ -4,7 +4,7 @@ use lib.IntN.{pos}
 use mir.Syntax.{w64}
 use mir.Val.{to_z}
 use mir.Facts.{to_z-of_z}
-use Rattle.timing.specs.Laws.Arithmetic.{due-never}
+use Rattle.timing.proofs.Laws.Arithmetic.{due-never}
 use Rattle.timing.proofs.ticks.due_tick_zero_first.Statement.{statement}
 use Rattle.timing.proofs.ticks.due_tick_zero_first.Tie as tie
 

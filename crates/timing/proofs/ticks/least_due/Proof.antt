@@ -4,8 +4,8 @@ use mathlib.Core.Path.{◌≡◌, refl, sym, ap, ◌∙◌}
 use Prim.Native.Nat.{◌-◌, ◌≤◌}
 use native.Mathlib.Omega.{arith}
 use Rattle.machine.specs.Next.{least_due}
-use Rattle.machine.specs.Laws.Next.{least-most}
-use Rattle.timing.specs.Laws.LeastDue.{one-due_more, four_dues_more}
+use Rattle.machine.proofs.Laws.Next.{least-most}
+use Rattle.timing.proofs.Laws.LeastDue.{one-due_more, four_dues_more}
 use Rattle.timing.proofs.ticks.least_due.Statement.{statement}
 use Rattle.timing.proofs.ticks.least_due.Tie as tie
 

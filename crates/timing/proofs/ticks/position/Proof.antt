@@ -7,8 +7,8 @@ use lib.IntN.{pos, ◌+ℤ◌, ◌*ℤ◌}
 use mir.Syntax.{w64}
 use mir.Val.{SFits, to_z}
 use mir.Facts.{to_z-of_z, to_z_pos}
-use Rattle.integers.specs.Laws.Signed64.{rd}
-use Rattle.timing.specs.Laws.Arithmetic.{move_fits, position_fits}
+use Rattle.integers.proofs.Laws.Signed64.{rd}
+use Rattle.timing.proofs.Laws.Arithmetic.{move_fits, position_fits}
 use Rattle.timing.proofs.ticks.position.Statement.{statement}
 use Rattle.timing.proofs.ticks.position.Tie as tie
 use Rattle.timing.proofs.ticks.position.Reads as reads
