@@ -2,7 +2,7 @@
 -- nothing.
 use Rattle.std.specs.Prelude.{◌≡◌, true, ◌↔◌, ℕ, ◌*◌, ◌<◌}
 use Rattle.std.proofs.Common.{sym, ◌∙◌}
-use Rattle.std.proofs.Math.Logic.{Iff·rfl, Iff·trans}
+use Rattle.std.proofs.Math.Logic.Iff
 use Rattle.integers.proofs.Laws.Order.{lt_z_true}
 use Rattle.integers.proofs.Laws.Range.{within_true}
 use Rattle.plan.specs.Numbers.{M}
@@ -27,7 +27,7 @@ use Rattle.machine.specs.declared.State.{State}
 -- ---- the plan
 pub plan_means : (p : Plan) → Means (plan_sound p) (PlanRules p × PlanUnusedZero p)
 unfolding plan_sound
-plan_means p = both (Iff·trans (both Iff·rfl Iff·rfl) (plan-rules p)) (plan-unused p)
+plan_means p = both (Iff.trans (both Iff.rfl Iff.rfl) (plan-rules p)) (plan-unused p)
 
 -- ---- what is held
 held_means : (p : Plan) (clock : ℕ) (h : Held) → Means (held_sound p clock h) (SoundHeld p clock h)

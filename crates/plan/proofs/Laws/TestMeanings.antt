@@ -2,7 +2,7 @@
 use Rattle.std.specs.Prelude.{◌≡◌, refl, Bool, true, false, not, ◌&&◌, ◌||◌, ◌↔◌, ◌⊎◌, List, ℕ, zero, suc, ◌-◌, ◌≤◌, ◌<◌, ℤ, pos, ◌-ℤ◌, leb, ltb, eqb}
 use Rattle.std.proofs.Math.Bool.{not-eq-not}
 use Rattle.std.proofs.lemmas.Bool.{false≢true}
-use Rattle.std.proofs.Math.Logic.{Iff·symm, Iff·trans}
+use Rattle.std.proofs.Math.Logic.Iff
 use Rattle.std.proofs.Common.{inl, inr, arith, leb-true, le-leb, ltb-true, lt-ltb, eqb-true, eq-eqb}
 use Rattle.std.proofs.Math.Dec.{eqb-suc-zero}
 use Rattle.integers.specs.Parts.{∣◌∣}
@@ -37,7 +37,7 @@ pub zero_means : (z : ℤ) → Means (eqb ∣ z ∣ 0) (z ≡ pos 0)
 zero_means z = (λ e. let h = eqb-true ∣ z ∣ 0 e in omega (arith, zs), λ h. eq-eqb ∣ z ∣ 0 (omega (arith, zs, tight z)))
 
 pub same_means : (x y : ℤ) → Means (eqb ∣ x -ℤ y ∣ 0) (x ≡ y)
-same_means x y = Iff·trans (zero_means (x -ℤ y)) (λ e. omega (arith, zs, dif x y), λ e. omega (arith, zs, dif x y))
+same_means x y = Iff.trans (zero_means (x -ℤ y)) (λ e. omega (arith, zs, dif x y), λ e. omega (arith, zs, dif x y))
 
 -- ---- connectives
 pub both : {a b : Bool} {P Q : Type 0} → Means a P → Means b Q → Means (a && b) (P × Q)
@@ -63,7 +63,7 @@ within_means b z = both (le_z_true _ z) (le_z_true z _)
 
 -- within ±b by the size
 pub within-size : (b : ℕ) (z : ℤ) → Within b z ↔ (∣ z ∣ ≤ b)
-within-size b z = Iff·trans (Iff·symm (within_means b z)) (within_true b z)
+within-size b z = Iff.trans (Iff.symm (within_means b z)) (within_true b z)
 
 -- ---- the order of entries: entry e stands above its predecessor, or has none
 pub ascends_means : (xs ys : List ℕ) (e : ℕ)

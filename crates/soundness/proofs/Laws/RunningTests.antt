@@ -1,7 +1,7 @@
 -- Laws: the clauses of a sound state's running figures in the order in which the code tests them, and what its tests ask. Assumes nothing.
 use Rattle.std.specs.Prelude.{◌≡◌, refl, Bool, true, false, ◌&&◌, List, [], ◌∷◌, ℕ, zero, suc, ◌*◌, ◌≤◌, ◌<◌, ℤ, pos, leb, eqb}
 use Rattle.std.proofs.Common.{sym, ◌∙◌, mul-le-mul_right, arith, Fits}
-use Rattle.std.proofs.Math.Logic.{Iff·rfl}
+use Rattle.std.proofs.Math.Logic.Iff
 use Rattle.std.specs.Int.{w64}
 use borrow.Author.Tests.{leb-true}
 use Rattle.integers.specs.Parts.{∣◌∣}
@@ -35,7 +35,7 @@ every_same f g zero e = refl
 every_same f g (suc n) e = rw (every_same f g n (λ i h. e i (omega arith)), e n (omega arith))
 
 itself : (b : Bool) → Means b (b ≡ true)
-itself b = Iff·rfl
+itself b = Iff.rfl
 
 module _ (p : Plan) (r : Running) where
   abbrev pub output_at : ℕ → Bool

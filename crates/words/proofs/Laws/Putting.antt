@@ -1,15 +1,16 @@
 -- Laws: words that are put one behind the other from a list's start, and the part of a list that is lent from a place on. Assumes nothing.
 use Rattle.std.specs.Prelude.{◌≡◌, refl, List, [], ◌∷◌, ◌++◌, ℕ, ◌-◌, ◌*◌, ◌^◌, ◌<◌, ℤ, length, take, drop}
-use Rattle.std.proofs.Common.{sym, ◌∙◌, arith, length-take, length-drop, to_z, of_z, to_z-of_z}
+use Rattle.std.proofs.Common.{sym, ◌∙◌, arith, length-take, length-drop, to_z, of_z}
 use Rattle.std.specs.Int.Signed.{mag}
 use Rattle.std.specs.Int.{w64}
+use mir.ValLaws.{to_z-of_z}
 use Rattle.words.specs.Putting.{put, written}
 use Rattle.words.specs.Word.{word_of}
 use Rattle.words.proofs.Laws.Flat.{written_none, written_more}
 
 -- a signed number of 32 bits is what its 64 bits stand for
 pub rd32 : (z : ℤ) → mag z < 2 ^ 31 → to_z w64 (of_z w64 z) ≡ z
-rd32 z h = to_z-of_z (record { sfits = omega arith })
+rd32 z h = to_z-of_z w64 z (record { sfits = omega arith })
 
 -- the buffer s is `old` with the words ws in front; the empty list to begin with
 pub record Put (ws old s : List ℕ) : Type 0 where
