@@ -2,7 +2,7 @@
 #![tactic(auto)]
 
 ghost use Rattle.std.specs.Prelude.{◌≡◌, pos};
-ghost use Rattle.plan.specs.Numbers.{M, never};
+ghost use Rattle.plan.specs.Numbers.{never};
 ghost use Rattle.machine.specs.Start.{idle_state};
 ghost use Rattle.machine.specs.Status.{status_number, status_integrator, is_paused};
 
@@ -94,7 +94,7 @@ impl State {
     pub const NEVER: u32 = NEVER;
 
     pub fn largest() -> i64
-        ensures { result ≡ pos M }
+        ensures { result ≡ pos Rattle.plan.specs.Numbers.M }
     {
         State::M
     }
