@@ -11,7 +11,7 @@ ghost use Rattle.plan.specs.declared.Finding.TheVariants.{Offsets, Sizes};
 ghost use Rattle.directory.specs.Directory.{directory_finding, Directory};
 ghost use Rattle.directory.specs.Pointers.{further};
 
-use entryrules::{count_kept_lem, entry_size};
+use entryrules::{count_kept, entry_size};
 use plan::{Finding, HEADER_BYTES, SECTIONS};
 use words::read_u32;
 
@@ -65,7 +65,7 @@ fn size_kept(section: usize, bytes: u64) -> bool
     if bytes % size != 0 {
         return false;
     }
-    count_kept_lem(section, bytes / size)
+    count_kept(section, bytes / size)
 }
 
 // Every section is of the right size.

@@ -2,7 +2,7 @@
 ghost use Rattle.std.specs.Prelude.{◌≡◌, ◌&&◌, ◌<◌, eqb, ltb};
 ghost use Rattle.integers.specs.Parts.{∣◌∣};
 ghost use Rattle.integers.specs.Range.{within};
-ghost use Rattle.plan.specs.Numbers.{M, most_links, most_commands};
+ghost use Rattle.plan.specs.Numbers.{most_links, most_commands};
 ghost use Rattle.plan.specs.Tests.{horizon_kept, integrator_test, node_test, link_limits_test, command_limits_test, pair_ascends, ascends_at};
 
 use plan::{
@@ -12,7 +12,7 @@ use plan::{
 
 // A value within ±M.
 pub fn value_within_m(value: i64) -> bool
-    ensures { result ≡ within M value }
+    ensures { result ≡ within Rattle.plan.specs.Numbers.M value }
 {
     if value < -M {
         return false;

@@ -52,7 +52,7 @@ fn largest_count(section: usize) -> u64
 }
 
 // Whether a count is inside its section's limits.
-pub fn count_kept_lem(section: usize, count: u64) -> bool
+pub fn count_kept(section: usize, count: u64) -> bool
     requires { section < sections }
     ensures { result ≡ count_kept section count }
 {

@@ -9,4 +9,4 @@ pub use entries::{
     command_ascends, command_limits_test, horizon_kept, integrator_test, link_ascends,
     link_limits_test, node_test, value_within_m,
 };
-pub use layout::{count_kept_lem, counts_kept, entry_size};
+pub use layout::{count_kept, counts_kept, entry_size};

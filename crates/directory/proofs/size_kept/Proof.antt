@@ -25,7 +25,7 @@ count-kept-requires c κs = search rules
 returns-2 : tie.Need-returns-2
 returns-2 c =
     let size = c.before.before.entry-size.ensures.0 in
-    c.count_kept_lem.ensures ∙ sym (rw (← size, eq-eqb _ _ c.before.if1.false))
+    c.count_kept.ensures ∙ sym (rw (← size, eq-eqb _ _ c.before.if1.false))
 
 pub size_kept_spec : {M : Type 1} → statement M
 size_kept_spec =

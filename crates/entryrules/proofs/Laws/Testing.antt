@@ -1,5 +1,5 @@
 -- Laws: a loop that tests one index after the other by a function. Assumes nothing.
-use Rattle.std.specs.Prelude.{◌≡◌, Bool, true, not, ℤ}
+use Rattle.std.specs.Prelude.{◌≡◌, Bool, true, ℤ}
 use Rattle.std.proofs.Math.Path.{refl}
 use Rattle.std.proofs.Common.{sym, ◌∙◌, add-one, arith, to_z-of_z}
 use Rattle.std.proofs.Math.Bool.{false, and-false}
@@ -8,21 +8,20 @@ use Rattle.std.specs.Int.Signed.{mag}
 use Rattle.std.specs.Int.{w64}
 use mir.Val.{hbits}
 use borrow.Author.Rules.{sfits_of}
-use Rattle.std.proofs.lemmas.Bool.{not-true, not-false}
 use Rattle.integers.proofs.Laws.Signed64.{rd}
 use Rattle.plan.specs.Lists.{every}
 use Rattle.plan.proofs.Laws.Searches.{below_suc}
 
 -- An element of an array of signed numbers goes to a function as its bits, and is read back from them there.
 pub element : {z : ℤ} → mag z < 2 ^ hbits w64 → rd z ≡ z
-element h = to_z-of_z (sfits_of h)
+element {z} h = to_z-of_z {w = w64} (sfits_of h)
 
 -- What a test says once the code has looked at the function's answer by `if !answer`.
-pub held : {answer test : Bool} → answer ≡ test → not answer ≡ false → test ≡ true
-held e t = sym e ∙ not-false _ t
+pub held : {answer test : Bool} → answer ≡ test → answer ≡ true → test ≡ true
+held e t = sym e ∙ t
 
-pub failed : {answer test : Bool} → answer ≡ test → not answer ≡ true → test ≡ false
-failed e t = sym e ∙ not-true _ t
+pub failed : {answer test : Bool} → answer ≡ test → answer ≡ false → test ≡ false
+failed e t = sym e ∙ t
 
 module _ (test : ℕ → Bool) where
   pub every-none : every test 0 ≡ true
