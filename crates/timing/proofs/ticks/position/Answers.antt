@@ -1,5 +1,4 @@
--- `timing::position` meets its contract: the move and the sum fit, so the bits of the locals read as the integers. Assumes nothing.
-use borrow.Author.Rules.{rules}
+-- The move and the sum fit, so the bits of the locals read as the integers.
 use mathlib.Core.Path.{◌≡◌, ◌∙◌}
 use Prim.Native.Nat.{◌-◌}
 use native.Mathlib.Omega.{arith}
@@ -9,10 +8,9 @@ use mir.Val.{SFits, to_z}
 use mir.Facts.{to_z-of_z, to_z_pos}
 use Rattle.integers.proofs.Laws.Signed64.{rd}
 use Rattle.timing.proofs.Laws.Arithmetic.{move_fits, position_fits}
-use Rattle.timing.proofs.ticks.position.Statement.{statement}
-use Rattle.timing.proofs.ticks.position.Tie as tie
 use Rattle.timing.proofs.ticks.position.Reads as reads
 use Rattle.timing.proofs.ticks.position.Lts as lts
+use Rattle.timing.proofs.ticks.position.Goals as goal
 
 abbrev Start : Type 0
 Start = lts.Start reads.Pre reads.Post
@@ -27,20 +25,11 @@ moved c = rw (to_z-of_z c.ranges.s, elapsed c) (move_fits _ _ _ _ c.requires)
 placed : (c : Start) → let a = c.args in SFits w64 (rd a.x +ℤ rd (rd a.s *ℤ to_z w64 (a.t - a.l)))
 placed c = rw (to_z-of_z c.ranges.x, to_z-of_z (moved c), to_z-of_z c.ranges.s, elapsed c) (position_fits _ _ _ _ c.requires)
 
-sub-result : tie.Need-overflow-sub-result
-sub-result c = search rules
+pub overflow_mul-result : goal.overflow_mul-result
+overflow_mul-result c = moved c
 
-cast-result : tie.Need-overflow-cast-result
-cast-result c = search rules
+pub overflow_add-result : goal.overflow_add-result
+overflow_add-result c = placed c
 
-mul-result : tie.Need-overflow-mul-result
-mul-result c = moved c
-
-add-result : tie.Need-overflow-add-result
-add-result c = placed c
-
-returns : tie.Need-returns
+pub returns : goal.returns
 returns c = to_z-of_z (placed c) ∙ rw (to_z-of_z c.ranges.x, to_z-of_z (moved c), to_z-of_z c.ranges.s, elapsed c)
-
-pub position_spec : {M : Type 1} → statement M
-position_spec = tie.close (tie.spec sub-result cast-result mul-result add-result returns)
