@@ -1,0 +1,10 @@
+-- Each call works out its part. The slopes are asked and answered by the ranges and values that the calls before have given.
+use Rattle.tables.proofs.tables_by.Goals as goal
+
+pub rates-slopes-requires : goal.rates-slopes-requires
+rates-slopes-requires c =
+    (c.requires.n, rw (c.link_ranges-ranges.ensures, c.source_values-values.ensures) c.requires.rates)
+
+pub returns : goal.returns
+returns c =
+    rw (c.rates-slopes.ensures, c.link_ranges-ranges.ensures, c.source_values-values.ensures)
