@@ -19,7 +19,7 @@ pub use numbers::{
 
 // How many entries each section has: n integrators, m inputs, k nodes, links, commands.
 #[repr(C)]
-#[derive(Drop)]
+#[derive(Clone, Copy)]
 pub struct Counts {
     pub n: usize,
     pub m: usize,
