@@ -1,13 +1,10 @@
 -- Laws: checks that are tried one after the other, each taken apart by `let Finding::Clean = found else` before the next. Assumes nothing.
-use Rattle.std.specs.Prelude.{◌≡◌, refl, List, [], ◌∷◌, map, Bool, true, false, ℕ, suc}
-use Rattle.std.proofs.Common.{sym, ap, ◌∙◌, inl, inr, arith}
-use types.Run.{OneOf}
-use denote.Enum.Declared.{tag_of}
+use Rattle.std.specs.Prelude.{◌≡◌, refl, Bool, true, false}
+use Rattle.std.proofs.Common.{sym, ap, ◌∙◌}
 use Rattle.plan.specs.Refusals.{number_of, is_clean, or_else}
 use Rattle.plan.proofs.Laws.Findings.{first_clean}
 use Rattle.plan.specs.declared.Finding.{Finding}
 use Rattle.plan.specs.declared.Finding.TheVariants.{Clean, Short, Offsets, Sizes, Horizon, Integrator, Input, Node, Link, Command}
-use Rattle.plan.specs.contracts.Finding.{the_type}
 
 -- The code has tried the checks before f, and found nothing: what is left, f or else `next`, has the finding of the whole.
 module _ {whole f found : Finding} (next : Finding) (left : whole ≡ or_else f next) (result : found ≡ f) where
@@ -21,15 +18,10 @@ module _ {whole f found : Finding} (next : Finding) (left : whole ≡ or_else f 
   unfolding or_else
   refused k = rw (left, ← result, k)
 
--- Behind `let Finding::Clean = found else` the variant's number is one of 1 to 9, and that of `Clean` is 0.
-no_key : (k : ℕ) (ks : List ℕ) → OneOf (map suc (k ∷ ks)) 0 → ⊥
-no_key k [] e = omega arith
-no_key k (j ∷ ks) (inl e) = omega arith
-no_key k (j ∷ ks) (inr o) = no_key j ks o
-
-pub not_clean : (f : Finding) → OneOf (1 ∷ 2 ∷ 3 ∷ 4 ∷ 5 ∷ 6 ∷ 7 ∷ 8 ∷ 9 ∷ []) (tag_of the_type f) → is_clean f ≡ false
+-- behind `let Finding::Clean = found else`
+pub not_clean : (f : Finding) → (f ≡ Clean → ⊥) → is_clean f ≡ false
 unfolding is_clean number_of
-not_clean Clean k = absurd (no_key 0 (1 ∷ 2 ∷ 3 ∷ 4 ∷ 5 ∷ 6 ∷ 7 ∷ 8 ∷ []) k)
+not_clean Clean k = absurd (k refl)
 not_clean Short k = refl
 not_clean Offsets k = refl
 not_clean Sizes k = refl

@@ -1,5 +1,5 @@
 -- Laws: what a comparison in the code says, as the value of the test that a definition makes. A signed local z is seen as `rd z`, the
--- number read back from its bits, which is z since z fits. `search (needs, comparing)` proves a return: it rewrites each test of the
+-- number read back from its bits, which is z since z fits. `search (rules, comparing)` proves a return: it rewrites each test of the
 -- contract's definition by the comparison that was made before the return.
 use Rattle.std.specs.Prelude.{ℤ, pos, negsuc, neg_ℤ, eqb, Bool, true, false, ◌≡◌, ℕ, suc, ◌+◌}
 use Rattle.std.specs.Int.Signed.{lt_z, le_z}

@@ -14,7 +14,7 @@ use Rattle.plan.proofs.Laws.Searches.{below_suc}
 
 -- An element of an array of signed numbers goes to a function as its bits, and is read back from them there.
 pub element : {z : ℤ} → mag z < 2 ^ hbits w64 → rd z ≡ z
-element {z} h = to_z-of_z {w = w64} (sfits_of h)
+element h = to_z-of_z {w = w64} (sfits_of h)
 
 -- What a test says once the code has looked at the function's answer by `if !answer`.
 pub held : {answer test : Bool} → answer ≡ test → answer ≡ true → test ≡ true
