@@ -1,5 +1,5 @@
-// What the public calls answer, as structs. What each answers, lists of run calls, the promises and their proofs stand in specs; the calls themselves in the
-// crates `filecalls`, `runcalls` and `simulator`.
+// What the public calls answer, as structs. What each answers, lists of run calls, the promises and their proofs stand in specs; the calls themselves in the crate
+// `simulator`.
 #![tactic(auto)]
 
 use machine::State;

@@ -14,7 +14,7 @@ ghost use Rattle.cup.specs.Rewriting.{rewrite_number, rewrite_length, rewrite_bu
 use directory::{offset_in, section_in};
 use machine::State;
 use plan::{ACCEPTED, Finding, REFUSED_WRITE_BUFFER, SECTION_INTEGRATORS, SECTIONS, SOURCES};
-use planfile::{decode, finding_of};
+use planfile::{finding_of, read_plan};
 use planrules::{entry_of, number_of};
 use planwriter::{PlanWritten, write_plan};
 use rates::RANGES;
@@ -61,12 +61,13 @@ pub extern "C" fn cup_rewrite(file: &[u8], buffer: &mut [u8], written: &mut usiz
     ensures written { written.new ≡ rewrite_length file.now (length buffer.old) }
     ensures buffer { buffer.new ≡ rewrite_buffer file.now buffer.old }
 {
-    let found = finding_of(file);
+    let reading = read_plan(file);
+    let found = reading.finding;
     let Finding::Clean = found else {
         *written = 0;
         return number_of(found);
     };
-    let plan = decode(file);
+    let plan = reading.plan;
     let answer = write_plan(
         plan.horizon,
         plan.counts,

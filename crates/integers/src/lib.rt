@@ -12,12 +12,12 @@ pub fn floor_65536(v: i64) -> i64
     v >> 16
 }
 
-// a / b rounded up. One is taken from a first, since a + (b - 1) can be too large for 64 bits; a is not 0, so that there is no branch.
+// a / b rounded up. One is taken from a first, since a + (b - 1) can be too large for 64 bits.
 pub fn divide_up(a: u64, b: u64) -> u64
-    requires { (0 < a) × (0 < b) }
+    requires { 0 < b }
     ensures { result ≡ ceil_div a b }
 {
-    (a - 1) / b + 1
+    if a == 0 { 0 } else { (a - 1) / b + 1 }
 }
 
 // v limited to lo..hi. Where lo is above hi the lower end is tried first, as in the definition.

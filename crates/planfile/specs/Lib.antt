@@ -1,2 +1,3 @@
--- Columns of a section, and what is proved of them and of reading a file.
+-- Columns of a section, what reading a file answers, and what is proved of these.
 pub mod Columns
+pub mod Reading

@@ -1,10 +1,10 @@
-// Reading plan files: the section readers; what a file holds; and the refusal of any bytes.
+// Reading plan files: the section readers; the plan that a file holds; the refusal of any bytes, without a plan; and the plan or the refusal of any bytes.
 #![tactic(auto)]
 
 mod checking;
 mod decoding;
 mod readers;
+mod reading;
 
 pub use checking::finding_of;
-pub use decoding::{counts_in, decode, horizon_in};
-pub use readers::{read_commands, read_inputs, read_integrators, read_links, read_nodes};
+pub use reading::{FilePlan, read_plan};

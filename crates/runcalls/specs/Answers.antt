@@ -19,6 +19,6 @@ abbrev pub ran_with : Plan → Outcome → Ran
 ran_with p w = record { number = w.number; status = w.status; integrator = w.integrator; written = w.written; state = state_by p w.run }
 
 -- the answer of the call, and the buffer that it leaves
-pub record RunAnswered (engine : Engine) (p : Plan) (r : Running) (budget : ℕ) (buffer : List ℕ) (w : Outcome) (after : List ℕ) : Type 0 where
-  pub answer : ran_with p w ≡ run_of engine (state_by p r) budget buffer
-  pub left : after ≡ buffer_of_run engine (state_by p r) budget buffer
+abbrev pub RunAnswered : (engine : Engine) (p : Plan) (r : Running) (budget : ℕ) (buffer : List ℕ) (w : Outcome) (after : List ℕ) → Type 0
+RunAnswered engine p r budget buffer w after =
+    (ran_with p w ≡ run_of engine (state_by p r) budget buffer) × (after ≡ buffer_of_run engine (state_by p r) budget buffer)

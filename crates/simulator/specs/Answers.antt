@@ -17,5 +17,6 @@ WriteAnswered p r buffer w after =
     × (after ≡ buffer_of_write (state_by p r) buffer)
 
 -- ---- position call
-pub record PositionAnswered (p : Plan) (r : Running) (i : ℕ) (w : Found) : Type 0 where
-  pub answer : ◌≡◌ {A = Positioned} (record { number = w.number; value = w.value; state = state_by p r }) (positioned_of (state_by p r) i)
+abbrev pub PositionAnswered : (p : Plan) (r : Running) (i : ℕ) (w : Found) → Type 0
+PositionAnswered p r i w =
+    ◌≡◌ {A = Positioned} (record { number = w.number; value = w.value; state = state_by p r }) (positioned_of (state_by p r) i)

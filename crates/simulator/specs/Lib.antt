@@ -1,2 +1,2 @@
--- The answers of the plan writer and the position call by the cases that their code tells apart.
+-- The answers of the calls by the cases that their code tells apart.
 pub mod Answers

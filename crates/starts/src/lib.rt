@@ -5,14 +5,13 @@ ghost use Rattle.std.specs.Prelude.{◌≡◌, ◌≤◌};
 ghost use Rattle.plan.specs.Numbers.{most_integrators};
 ghost use Rattle.plan.specs.Rules.{PlanRules};
 ghost use Rattle.plan.specs.Lists.{int_at, row};
-ghost use Rattle.plan.specs.Lent.{plan_lent};
 ghost use Rattle.machine.specs.Due.{due_tick};
 ghost use Rattle.machine.specs.Start.{start_of};
 ghost use Rattle.timing.specs.Ticks.{upper_in, lower_in};
 ghost use Rattle.starts.specs.Starting.{StartsReady};
 
 use machine::{Clocks, Running};
-use plan::{COMMANDS, Counts, INPUTS, INTEGRATORS, LINKS, NODES};
+use plan::{INTEGRATORS, Plan};
 use tables::tables_by;
 use timing::{due_tick, next_entry};
 
@@ -40,50 +39,31 @@ fn start_dues<'a>(
     dues
 }
 
-// The running figures that a plan starts with. Its columns are lent one by one, so that none is copied but those that the start holds itself; `numbers`
-// has the input that each command sets, `settings` the value. No code reads these two and `horizon`, which are there for the contract to name the plan.
-pub fn start<'a>(
-    horizon: u32,
-    counts: Counts,
-    starts: &'a [i64; INTEGRATORS],
-    quanta: &'a [i64; INTEGRATORS],
-    firsts: &'a [i64; INPUTS],
-    kinds: &'a [usize; NODES],
-    a: &'a [usize; NODES],
-    b: &'a [usize; NODES],
-    lows: &'a [i64; NODES],
-    highs: &'a [i64; NODES],
-    targets: &'a [usize; LINKS],
-    sources: &'a [usize; LINKS],
-    coefficients: &'a [i64; LINKS],
-    ticks: &'a [u32; COMMANDS],
-    numbers: &'a [usize; COMMANDS],
-    settings: &'a [i64; COMMANDS],
-) -> Running
-    requires { PlanRules (plan_lent horizon counts starts.now quanta.now firsts.now kinds.now a.now b.now lows.now highs.now
-        targets.now sources.now coefficients.now ticks.now numbers.now settings.now) }
-    ensures { result ≡ start_of (plan_lent horizon counts starts.now quanta.now firsts.now kinds.now
-        a.now b.now lows.now highs.now targets.now sources.now
-        coefficients.now ticks.now numbers.now settings.now) }
+// The running figures that a plan starts with.
+pub fn start(plan: Plan) -> Running
+    requires { PlanRules plan }
+    ensures { result ≡ start_of plan }
 {
+    let counts = plan.counts;
     let tables = tables_by(
         counts,
-        kinds,
-        a,
-        b,
-        lows,
-        highs,
-        targets,
-        sources,
-        coefficients,
-        starts,
-        firsts,
+        &plan.nodes.kinds,
+        &plan.nodes.a,
+        &plan.nodes.b,
+        &plan.nodes.lows,
+        &plan.nodes.highs,
+        &plan.links.targets,
+        &plan.links.sources,
+        &plan.links.coefficients,
+        &plan.integrators.starts,
+        &plan.inputs.firsts,
     );
     let s = tables.slopes;
-    let d = start_dues(counts.n, starts, quanta, &s);
-    let next = next_entry(counts.commands, ticks, 0);
-    let x = *starts;
-    let inputs = *firsts;
+    let n = counts.n;
+    let d = start_dues(n, &plan.integrators.starts, &plan.integrators.quanta, &s);
+    let next = next_entry(counts.commands, &plan.commands.ticks, 0);
+    let x = plan.integrators.starts;
+    let inputs = plan.inputs.firsts;
     Running {
         x,
         q: x,

@@ -1,5 +1,5 @@
-// "unused entries are 0": of an array those from its count on. A scan joins the bits of all entries that are left and tests them once, at the end:
-// they are 0 just where every entry is. With no test of an entry the compiler can take several at a time.
+// "unused entries are 0": of an array those from its count on. The scans look at every entry that is left, with no early return, so that the
+// compiler can test several at a time.
 #![tactic(auto)]
 
 ghost use Rattle.std.specs.Prelude.{◌≡◌};
@@ -12,39 +12,45 @@ use plan::{INPUTS, INTEGRATORS};
 pub fn signed_zero_from(values: &[i64], count: usize) -> bool
     ensures { result ≡ ints_zero_from count values.now }
 {
-    let mut seen: i64 = 0;
+    let mut zero = true;
     let mut i = count;
     while i < values.len() {
-        seen = seen | values[i];
+        if values[i] != 0 {
+            zero = false;
+        }
         i += 1;
     }
-    seen == 0
+    zero
 }
 
 // Ticks.
 pub fn ticks_zero_from(ticks: &[u32], count: usize) -> bool
     ensures { result ≡ nats_zero_from count ticks.now }
 {
-    let mut seen: u32 = 0;
+    let mut zero = true;
     let mut i = count;
     while i < ticks.len() {
-        seen = seen | ticks[i];
+        if ticks[i] != 0 {
+            zero = false;
+        }
         i += 1;
     }
-    seen == 0
+    zero
 }
 
 // Kinds, and numbers of sources, integrators and inputs.
 pub fn numbers_zero_from(numbers: &[usize], count: usize) -> bool
     ensures { result ≡ nats_zero_from count numbers.now }
 {
-    let mut seen: usize = 0;
+    let mut zero = true;
     let mut i = count;
     while i < numbers.len() {
-        seen = seen | numbers[i];
+        if numbers[i] != 0 {
+            zero = false;
+        }
         i += 1;
     }
-    seen == 0
+    zero
 }
 
 // The running figures of n integrators and m inputs.

@@ -145,7 +145,7 @@ fn the_page_declares_every_call_of_the_package_for_rust() {
 #[test]
 fn the_page_declares_every_public_call_of_the_proved_code() {
     let page = declared_on(&text_of("docs/API.md"));
-    let crates = ["simulator", "filecalls", "runcalls"];
+    let crates = ["simulator", "runcalls"];
     let files = crates.map(files_of_crate).concat();
     assert_eq!(of_language(&page, "Rattle"), public_functions_of(&files));
 }

@@ -7,8 +7,7 @@ use Prim.Native.Nat.{ℕ, ◌<◌}
 use native.Mathlib.Omega.{arith}
 use lib.ListN.{length}
 use Rattle.plan.specs.Numbers.{sections}
-use Rattle.plan.specs.Format.{offset_in, section_in}
-use Rattle.plan.specs.Refusals.{accepted, section_of}
+use Rattle.plan.specs.Refusals.{accepted}
 use Rattle.plan.proofs.Laws.View.{view-shown, start-shown}
 use Rattle.directory.proofs.Laws.Directory.{directory_accepted}
 use Rattle.cup.proofs.Laws.Viewing.{first-refused, first-accepted, none-refused, none_above, view-part}
@@ -20,23 +19,10 @@ use Rattle.cup.proofs.cup_section.Tie as tie
 section-requires : tie.Need-section-requires
 section-requires c κs = search rules
 
--- ---- what is read of the file, each by itself
-first_read : (c : tie.After-section) → length c.section.result.now ≡ length (section_of c.before.before.args.file.now 0)
-first_read c = ap length c.section.ensures.0
-
-offset_read : (c : tie.After-offset-in)
-    → let a = c.before.before.before.before.before.args in c.offset_in_lem.result ≡ offset_in a.file.now a.number
-offset_read c = c.offset_in_lem.ensures.0
-
-part-read : (c : tie.After-section-in)
-    → let a = c.before.before.before.before.before.before.args in c.section-in.result.now ≡ section_in a.file.now a.number
-part-read c = c.section-in.ensures.0
-
--- ---- where there is no such part
 returns : tie.Need-returns
 returns c =
     let a = c.before.before.before.args in
-    let first = first_read c.before in
+    let first = ap length c.before.section.ensures.0 in
     let none =
     ⊎_elim
     (λ w. none-refused a.file.now a.number (first-refused a.file.now (sym first ∙ w.taken)))
@@ -54,7 +40,7 @@ module _ (c : tie.Else2) where
   number = c.before.before.before.before.args.number
 
   is_accepted : accepted file ≡ true
-  is_accepted = first-accepted file (λ e. c.before.if1.false (first_read c.before.before ∙ e))
+  is_accepted = first-accepted file (λ e. c.before.if1.false (ap length c.before.before.section.ensures.0 ∙ e))
 
   is_known : number < sections
   is_known = leb-false sections number c.if2.false
@@ -68,8 +54,8 @@ section-in-requires c κs = (directory_accepted _ (is_accepted c.before), omega 
 returns-2 : tie.Need-returns-2
 returns-2 c =
     let e = c.before.before in
-    let size = ap length (part-read c ∙ sym (view-shown (file e) (number e) (is_accepted e) (is_known e))) in
-    let at = offset_read c.before ∙ sym (start-shown (file e) (number e) (is_accepted e) (is_known e)) in
+    let size = ap length (c.section-in.ensures.0 ∙ sym (view-shown (file e) (number e) (is_accepted e) (is_known e))) in
+    let at = c.before.offset_in_lem.ensures.0 ∙ sym (start-shown (file e) (number e) (is_accepted e) (is_known e)) in
     (size, (at, rw (at, size) (view-part (file e) (number e))))
 
 pub cup_section_spec : {M : Type 1} → statement M

@@ -45,12 +45,12 @@ use Rattle.reach.proofs.Laws.Reached as reaching
 use Rattle.steps.specs.Entries.{after_entries, after_entries_from, EntriesInRange}
 use Rattle.steps.specs.Outputs.{after_output}
 use Rattle.steps.specs.Events.{events_in, EventsReady}
-use Rattle.moves.specs.Motion.{motion, after_moves, MovesReady}
+use Rattle.moves.specs.Motion.{motion, after_move, AllMovable}
 use Rattle.instant.specs.Lent.{running_of, moved_set, InstantReady}
 use Rattle.steps.proofs.Laws.Commands.{CommandsObeyed, commands_obeyed, commands_in_range}
 use Rattle.steps.proofs.Laws.Outputs.{outputs_are, values_full, values_kept}
 use Rattle.steps.proofs.Laws.EventBytes.{events_are, events-ready}
-use Rattle.moves.proofs.Laws.Moves.{Stored, own-stored, walks_ready, moved-figures}
+use Rattle.moves.proofs.Laws.Moves.{Stored, own-stored, all_movable, moved-figures}
 
 -- below n an integrator, from n on an input: what holds of both kinds of source holds of all
 source_cases : (n m i : ℕ) (P : ℕ → Type 0) → i < n + m → ((k : ℕ) → k < n → P k) → ((j : ℕ) → j < m → P (n + j)) → P i
@@ -276,13 +276,13 @@ module _ (p : Plan) (r : Running) {t due : ℕ} {ranges reach : List ℕ} {value
           stored : Stored p r t o (moves p engine r.d t) (motion r.x r.s r.l r.d)
           stored = own-stored p r sound shaped t (omega (arith, takes.after)) takes.least o at_position (moves p engine r.d t)
 
-          pub moves-ready : MovesReady p.integrators.quanta p.links.sources p.links.coefficients ranges t v3 moved (motion r.x r.s r.l r.d)
+          pub moves-ready : AllMovable p.integrators.quanta p.links.sources p.links.coefficients ranges t v3 moved (motion r.x r.s r.l r.d)
           moves-ready =
               rw (ready.ranges_are, moved_then)
-              (walks_ready p r sound t o lawful v3 value_then_lem (moves p engine r.d t) (motion r.x r.s r.l r.d) stored sized_then)
+              (all_movable p r sound t o lawful v3 value_then_lem (moves p engine r.d t) (motion r.x r.s r.l r.d) stored sized_then)
 
           module _ {x s : List ℤ} {l d : List ℕ}
-              (move : motion x s l d ≡ after_moves p.integrators.quanta p.links.sources p.links.coefficients ranges t v3 moved (motion r.x r.s r.l r.d))
+              (move : motion x s l d ≡ each (after_move p.integrators.quanta p.links.sources p.links.coefficients ranges t v3) (has moved) 32 (motion r.x r.s r.l r.d))
               {grown : ℕ} (counted : grown ≡ count_of (has moved) 32) where
             count_then : grown ≡ count_of (moves p engine r.d t) p.counts.n
             count_then = counted ∙ rw moved_then (count_of_mask (moves p engine r.d t) p.counts.n 32 limits.n)

@@ -68,6 +68,9 @@ ceil_least {a} {b} {t} u c h = let e : b * t < b * (u + 1) = omega arith in omeg
 pub ceil_unique : {a b t : ℕ} → 0 < b → Ceil a b t → t ≡ ceil_div a b
 ceil_unique {a} {b} {t} p c = let d = ceil a b p in le_antisymm (ceil_least (ceil_div a b) c d.enough) (ceil_least t d c.enough)
 
+pub ceil_zero : (b : ℕ) → 0 < b → ceil_div 0 b ≡ 0
+ceil_zero b p = omega (arith, ceil_least 0 (ceil 0 b p) (omega arith))
+
 pub ceil_one : (a b : ℕ) → 0 < b → 1 ≤ a → 1 ≤ ceil_div a b
 ceil_one a b p h = let e : b * 0 < b * ceil_div a b = omega (arith, ceil a b p) in lt_of_mul-lt-mul_left b e
 

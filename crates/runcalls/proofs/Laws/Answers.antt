@@ -1,5 +1,5 @@
 -- Laws: the answers of the runs by the cases that their code tells apart. Assumes nothing.
-use Rattle.std.specs.Prelude.{◌≡◌, true, false, List, ℕ, ◌≤◌, ◌<◌, length}
+use Rattle.std.specs.Prelude.{◌≡◌, true, false, List, ℕ, ◌-◌, ◌≤◌, ◌<◌, length}
 use Rattle.std.proofs.Common.{ap, ◌∙◌, zero-add}
 use borrow.Author.Tests.{le-leb, lt-leb}
 use Rattle.plan.specs.declared.Plan.{Plan}
@@ -17,8 +17,7 @@ use Rattle.engine.specs.RunAnswer.{ended_of, RunReady}
 use Rattle.engine.specs.declared.runs.Ended.{Ended}
 use Rattle.calls.specs.Calls.{run_number_if_sound, run_number, ran_state, ran_events}
 use Rattle.calls.specs.Calls.{run_of, buffer_of_run}
-use Rattle.calls.specs.declared.Ran.{Ran}
-use Rattle.runcalls.specs.Answers.{state_by, declined_with, ran_with, RunAnswered}
+use Rattle.runcalls.specs.Answers.{state_by, declined_with, RunAnswered}
 use Rattle.runcalls.specs.declared.Outcome.{Outcome}
 
 module _ (engine : Engine) (p : Plan) (r : Running) (budget : ℕ) (buffer : List ℕ) where
@@ -27,19 +26,19 @@ module _ (engine : Engine) (p : Plan) (r : Running) (budget : ℕ) (buffer : Lis
 
   pub run-unsound : is_sound (state_by p r) ≡ false → RanAs (declined_with 10 r) buffer
   unfolding run_of buffer_of_run run_number
-  run-unsound e = record { answer = rw e; left = rw e }
+  run-unsound e = (rw e, rw e)
 
   module _ (yes : is_sound (state_by p r) ≡ true) where
     pub run-above : 1024 < budget → RanAs (declined_with 11 r) buffer
     unfolding run_of buffer_of_run run_number run_number_if_sound
-    run-above h = let above = lt-leb budget 1024 h in record { answer = rw (yes, above); left = rw (yes, above) }
+    run-above h = let above = lt-leb budget 1024 h in (rw (yes, above), rw (yes, above))
 
     module _ (few : budget ≤ 1024) where
       pub run_short : length buffer < room_of p budget → RanAs (declined_with 12 r) buffer
       unfolding run_of buffer_of_run run_number run_number_if_sound
       run_short h =
           let within = le-leb budget 1024 few in let short = lt-leb (room_of p budget) (length buffer) h in
-          record { answer = rw (yes, within, short); left = rw (yes, within, short) }
+          (rw (yes, within, short), rw (yes, within, short))
 
       module _ (room : room_of p budget ≤ length buffer) where
         -- with the tables that the test of the state hands on
@@ -54,23 +53,18 @@ module _ (engine : Engine) (p : Plan) (r : Running) (budget : ℕ) (buffer : Lis
             }
 
         -- from what the engine's run answers, the numbers of its status, and the buffer that it leaves
-        pub run-accepted : {ended : Ended} {w : Outcome} {after : List ℕ} → ended ≡ ended_of p engine budget r
-            → w.number ≡ 0 → w.status ≡ status_number ended.status → w.integrator ≡ status_integrator ended.status
-            → w.written ≡ ended.written → w.run ≡ ended.run
-            → after ≡ put_at buffer 0 (events_of_run p engine budget r) → RanAs w after
+        pub run-accepted : {ended : Ended} {status integrator : ℕ} {after : List ℕ} → ended ≡ ended_of p engine budget r
+            → status ≡ status_number ended.status → integrator ≡ status_integrator ended.status
+            → after ≡ put_at buffer 0 (events_of_run p engine budget r)
+            → RanAs (record {
+              number = 0;
+              status = status;
+              integrator = integrator;
+              written = ended.written;
+              run = ended.run;
+            }) after
         unfolding run_of buffer_of_run run_number run_number_if_sound ran_state ran_events ended_of put_at
-        run-accepted e n s i b f a =
+        run-accepted e s i a =
             let within = le-leb budget 1024 few in
             let enough = le-leb (room_of p budget) (length buffer) room in
-            record { answer = rw (n, s, i, b, f, e, yes, within, enough); left = a ∙ rw (yes, within, enough, zero-add) }
-
--- the outcome that a return tells, read off what its need asks, so that each figure of it can be a declaration of its own
-module _ {A : Type 0} {engine : A → Engine} {p : A → Plan} {r : A → Running} {budget : A → ℕ} {buffer : A → List ℕ} {w : A → Outcome} {after : A → List ℕ} where
-  abbrev pub told_by : (need : Type 0) → need ≡ ((c : A) → RunAnswered (engine c) (p c) (r c) (budget c) (buffer c) (w c) (after c)) → A → Outcome
-  told_by need same = w
-
--- the call's answer is the outcome's, with the plan that was handed in
-pub put_together : {engine : Engine} {p : Plan} {r : Running} {budget : ℕ} {buffer : List ℕ} {w : Outcome} {after : List ℕ} {answer : Ran}
-    → RunAnswered engine p r budget buffer w after → answer ≡ ran_with p w
-    → (answer ≡ run_of engine (state_by p r) budget buffer) × (after ≡ buffer_of_run engine (state_by p r) budget buffer)
-put_together answered same = (same ∙ answered.answer, answered.left)
+            (rw (s, i, e, yes, within, enough), a ∙ rw (yes, within, enough, zero-add))

@@ -1,5 +1,5 @@
 -- 10 where the state is not sound, 11 where the budget is above its limit, 12 where the buffer is short, else the engine's answer.
-use mathlib.Core.Path.{◌≡◌, refl, sym, ◌∙◌}
+use mathlib.Core.Path.{◌≡◌, sym, ◌∙◌}
 use mathlib.Core.Bool.{true}
 use native.Mathlib.Omega.{arith}
 use Prim.Native.Nat.{◌≤◌}
@@ -15,8 +15,7 @@ use Rattle.machine.specs.declared.Running.{Running}
 use Rattle.soundness.proofs.Laws.Answers.{sound_told}
 use Rattle.calls.proofs.Proofs.StateLimits.{room_most}
 use Rattle.runcalls.specs.Answers.{state_by}
-use Rattle.runcalls.specs.declared.Outcome.{Outcome}
-use Rattle.runcalls.proofs.Laws.Answers.{run-unsound, run-above, run_short, run-ready, run-accepted, told_by}
+use Rattle.runcalls.proofs.Laws.Answers.{run-unsound, run-above, run_short, run-ready, run-accepted}
 use Rattle.runcalls.proofs.run_tested.Statement.{statement}
 use Rattle.runcalls.proofs.run_tested.Tie as tie
 
@@ -104,35 +103,16 @@ integrator-requires c κs = search rules
 same_length : tie.Need-same-length
 same_length c = search rules
 
--- ---- what is told of the run, figure by figure
-abbrev told : tie.After-after → Outcome
-told = told_by tie.Need-returns-4 refl
-
-abbrev ran : tie.After-after → tie.After-run
-ran c = c.before.before.before.before.before
-
-status_told : (c : tie.After-after) → (told c).status ≡ c.before.before.number.result
-status_told c = refl
-
-integrator_told : (c : tie.After-after) → (told c).integrator ≡ c.before.integrator.result
-integrator_told c = refl
-
-bytes_told : (c : tie.After-after) → (told c).written ≡ (ran c).run.result.written
-bytes_told c = refl
-
-figures_told : (c : tie.After-after) → (told c).run ≡ (ran c).run.result.run
-figures_told c = refl
-
 returns-4 : tie.Need-returns-4
 unfolding room_of events_most
 returns-4 c =
     let integrator = c.before in
     let number = integrator.before in
-    let room = (ran c).before.before.before.before.before in
+    let ran = number.before.before.before in
+    let room = ran.before.before.before.before.before in
     let b = room.before.before in let e = b.before in let s = entry e in
-    run-accepted s.args.engine (plan s) (run s) s.args.budget s.args.buffer.now (sound e) b.if2.left room.if3.left
-    (ran c).run.ensures.0 refl (status_told c ∙ number.number.ensures) (integrator_told c ∙ integrator.integrator.ensures) (bytes_told c) (figures_told c)
-    (ran c).run.ensures.1
+    run-accepted s.args.engine (plan s) (run s) s.args.budget s.args.buffer.now (sound e) b.if2.false room.if3.false
+    ran.run.ensures.0 number.number.ensures integrator.integrator.ensures ran.run.ensures.1
 
 pub run_tested_spec : {M : Type 1} → statement M
 run_tested_spec =

@@ -34,23 +34,26 @@ module _ (d : List ℕ) (first i : ℕ) where
   abbrev after : ℕ
   after = min (least_due d (i + 1)) first
 
+  least_then : least_due d (i + 1) ≡ min (least_due d i) here
+  least_then = one-due_more d i
+
   sooner_alone : here < before → sooner_of (soonest_at d i before) i here ≡ soonest_at d (i + 1) after
   unfolding is_due sooner_of
   sooner_alone h =
-      let now : after ≡ here = omega (arith, one-due_more d i, h) in
+      let now : after ≡ here = omega (arith, least_then, h) in
       let one = rw (none_sooner d here i (omega (arith, h))) at (mask_of_in (is_due d here) i (eq-eqb here here refl)) in
       rw (now, lt-ltb here before h, eq-eqb here here refl, one)
 
   beside_others : here ≡ before → sooner_of (soonest_at d i before) i here ≡ soonest_at d (i + 1) after
   unfolding is_due sooner_of
   beside_others h =
-      let now : after ≡ before = omega (arith, one-due_more d i, h) in
+      let now : after ≡ before = omega (arith, least_then, h) in
       rw (now, le-ltb here before (omega (arith, h)), eq-eqb here before h, mask_of_in (is_due d before) i (eq-eqb here before h))
 
   later_than_others : before < here → sooner_of (soonest_at d i before) i here ≡ soonest_at d (i + 1) after
   unfolding is_due sooner_of
   later_than_others h =
-      let now : after ≡ before = omega (arith, one-due_more d i, h) in let other = ne_eqb here before (λ e. omega (arith, h, e)) in
+      let now : after ≡ before = omega (arith, least_then, h) in let other = ne_eqb here before (λ e. omega (arith, h, e)) in
       rw (now, le-ltb here before (omega (arith, h)), other, mask_of_out (is_due d before) i other)
 
   pub one_more : sooner_of (soonest_at d i before) i here ≡ soonest_at d (i + 1) after

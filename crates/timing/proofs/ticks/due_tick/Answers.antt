@@ -10,7 +10,7 @@ use mir.Facts.{to_z-of_z}
 use Rattle.integers.specs.Division.{ceil_div}
 use Rattle.integers.proofs.Laws.Signed64.{rd}
 use Rattle.timing.proofs.Laws.Arithmetic.{rise_fits, fall_fits, speed_fits, TicksReady, rise_ready, fall_ready}
-use Rattle.timing.proofs.Laws.Arithmetic.{distance_cast, speed_cast, distance-positive, speed_positive, tick-most, due_rise, due_fall, due-never}
+use Rattle.timing.proofs.Laws.Arithmetic.{distance_cast, speed_cast, speed_positive, tick-most, due_rise, due_fall, due-never}
 use Rattle.timing.proofs.ticks.due_tick.Goals.{Start, Then-s-gt0, After-divide_up-ticks, Then-s-lt0, After-divide_up-ticks-then-s-lt0}
 use Rattle.timing.proofs.ticks.due_tick.Goals as goal
 
@@ -57,8 +57,7 @@ pub overflow_cast-s : goal.overflow_cast-s
 overflow_cast-s c = rw (to_z-of_z c.ranges.s) (speed_cast _ _ _ (rise c))
 
 pub divide_up-ticks-requires : goal.divide_up-ticks-requires
-divide_up-ticks-requires c =
-    (rw (rise_distance c.before) (distance-positive _ _ _ (rise c)), rw (to_z-of_z c.ranges.s) (speed_positive _ _ _ (rise c)))
+divide_up-ticks-requires c = rw (to_z-of_z c.ranges.s) (speed_positive _ _ _ (rise c))
 
 pub overflow_add-result : goal.overflow_add-result
 overflow_add-result c = omega (arith, tick-most _ _ _ (rise c.before) (rise_quotient c))
@@ -99,8 +98,7 @@ pub overflow_cast-s-then-s-lt0 : goal.overflow_cast-s-then-s-lt0
 overflow_cast-s-then-s-lt0 c = rw (fall_speed c.before.before) (speed_cast _ _ _ (fall c))
 
 pub divide_up-ticks-requires-then-s-lt0 : goal.divide_up-ticks-requires-then-s-lt0
-divide_up-ticks-requires-then-s-lt0 c =
-    let s = c.before.before in (rw (fall_distance s) (distance-positive _ _ _ (fall c)), rw (fall_speed s) (speed_positive _ _ _ (fall c)))
+divide_up-ticks-requires-then-s-lt0 c = rw (fall_speed c.before.before) (speed_positive _ _ _ (fall c))
 
 pub overflow_add-result-then-s-lt0 : goal.overflow_add-result-then-s-lt0
 overflow_add-result-then-s-lt0 c = omega (arith, tick-most _ _ _ (fall c.before) (fall_quotient c))

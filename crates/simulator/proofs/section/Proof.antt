@@ -7,8 +7,8 @@ use Rattle.entryrules.proofs.Laws.ChecksInOrder.{not_clean}
 use Rattle.directory.proofs.Laws.Pointers.{further-none}
 use Rattle.planfile.proofs.Laws.Reading.{finding_accepts, finding_refuses}
 use borrow.Author.Rules.{rules}
-use Rattle.filecalls.proofs.section.Statement.{statement}
-use Rattle.filecalls.proofs.section.Tie as tie
+use Rattle.simulator.proofs.section.Statement.{statement}
+use Rattle.simulator.proofs.section.Tie as tie
 
 slice-aggregate-result : tie.Need-slice-aggregate-result
 slice-aggregate-result c = search rules

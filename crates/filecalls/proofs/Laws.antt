@@ -1,2 +1,0 @@
--- What is proved of these definitions.
-pub mod Answers

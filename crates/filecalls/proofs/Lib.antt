@@ -1,2 +1,0 @@
--- What is proved of the definitions in specs/.
-pub mod Laws
