@@ -1,0 +1,35 @@
+-- What the call says of the entry decides the turn.
+use borrow.Author.Rules.{rules}
+use mathlib.Core.Path.{◌≡◌, refl}
+use native.Mathlib.Omega.{arith}
+use Rattle.plan.specs.Lists.{int_at}
+use Rattle.plan.specs.Refusals.{number_of, is_clean}
+use Rattle.planrules.specs.Checks.{input_at}
+use Rattle.entryrules.proofs.Laws.Testing.{element, held, failed}
+use Rattle.planrules.proofs.Laws.Findings.{begin, passed, found, none}
+use Rattle.planrules.proofs.checks.check_inputs.Goals.{After-value_within_m}
+use Rattle.planrules.proofs.checks.check_inputs.Goals as goal
+
+pub loop-j-init : goal.loop-j-init
+loop-j-init c = begin _
+
+-- what the call has said of the entry
+answer : (c : After-value_within_m) → let a = c.args in
+    c.value_within_m.result ≡ input_at a.firsts.now c.loop-j.j
+answer c =
+    let firsts = element {z = int_at c.args.firsts.now c.loop-j.j} (search rules) in
+    rw firsts at c.value_within_m.ensures
+
+pub returns-then-not-value_within_m : goal.returns-then-not-value_within_m
+unfolding number_of is_clean
+returns-then-not-value_within_m c =
+    let told = answer (goal.at.returns-then-not-value_within_m c).After-value_within_m in
+    found c.loop-j.invariant (omega arith) (λ e. refl) (failed told c.if-not-value_within_m.true)
+
+pub loop-j-preserved : goal.loop-j-preserved
+loop-j-preserved c =
+    let told = answer (goal.at.loop-j-preserved c).After-value_within_m in
+    passed c.loop-j.invariant (omega arith) (held told c.if-not-value_within_m.false)
+
+pub returns : goal.returns
+returns c = none c.loop-j.invariant c.loop-j-test.false
