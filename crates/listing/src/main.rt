@@ -1,13 +1,14 @@
 // "The listing program reads at most 4,493 bytes of standard input": what is read goes to `listingturns`, and the text of each turn to standard output.
 #![tactic(auto)]
 
-ghost use Rattle.std.specs.Prelude.{◌≡◌, length};
+ghost use Rattle.std.specs.Prelude.{◌≡◌, ◌≤◌, IfOk, length};
 ghost use Rattle.plan.specs.Numbers.{listing_input};
 ghost use Rattle.listingturns.specs.Turns.{event_space, text_space};
 
-use libc::{STDIN_FILENO, STDOUT_FILENO};
 use listingturns::{EVENT_SPACE, TEXT_SPACE, begin, take_turn};
 use plan::LISTING_INPUT;
+use std::io;
+use std::io::Read;
 
 // The bytes that are read: one more than the longest file that is accepted.
 fn file_space() -> [u8; LISTING_INPUT]
@@ -30,10 +31,25 @@ fn text_space() -> [u8; TEXT_SPACE]
     [0; TEXT_SPACE]
 }
 
-// A write that fails ends the program.
-fn main() {
+// Reads until the buffer is full or the input ends, and answers how many bytes stand at the buffer's start.
+fn read_full(input: &mut impl Read, buffer: &mut [u8]) -> io::Result<usize>
+    ensures { IfOk result (λ got. got ≤ length buffer.new) }
+{
+    let mut done = 0;
+    while done < buffer.len() {
+        let got = input.read(&mut buffer[done..])?;
+        if got == 0 {
+            break;
+        }
+        done += got;
+    }
+    Ok(done)
+}
+
+// A read or a write that fails ends the program with its error.
+fn main(rt: HostRuntime) -> io::Result<()> {
     let mut file = file_space();
-    let got = io::read_full(STDIN_FILENO, &mut file);
+    let got = read_full(&mut rt.stdin(), &mut file)?;
     let mut records = event_space();
     let events: &mut [u8] = &mut records;
     let mut lines = text_space();
@@ -41,11 +57,9 @@ fn main() {
     let mut turn = begin(&file[..got], text);
     loop {
         let length = turn.length;
-        if !io::write_all(STDOUT_FILENO, &text[..length]) {
-            return;
-        }
+        rt.write_all(&text[..length])?;
         if !turn.more {
-            return;
+            return Ok(());
         }
         let state = turn.state;
         turn = take_turn(state, events, text);
