@@ -10,7 +10,7 @@ use plan::{FINISHED, INPUTS, INTEGRATORS, M, NEVER, PAUSED, Plan, RANGE};
 
 // The clock, the number of the next command, instants and updates.
 #[repr(C)]
-#[derive(Drop)]
+#[derive(Clone, Copy)]
 pub struct Clocks {
     pub clock: u32,
     pub next: usize,
@@ -39,14 +39,14 @@ pub struct State {
 }
 
 // The lazy engine moves the integrators that are due or reached, the eager engine all.
-#[derive(Drop)]
+#[derive(Clone, Copy)]
 pub enum Engine {
     Lazy,
     Eager,
 }
 
 // "Status is read from the state": paused, finished, or range with the lowest integrator that bars the next instant.
-#[derive(Drop)]
+#[derive(Clone, Copy)]
 pub enum Status {
     Paused,
     Finished,

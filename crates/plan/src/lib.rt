@@ -29,7 +29,7 @@ pub struct Counts {
 }
 
 #[repr(C)]
-#[derive(Drop)]
+#[derive(Clone, Copy)]
 pub struct Integrators {
     pub starts: [i64; INTEGRATORS],
     pub quanta: [i64; INTEGRATORS],
@@ -37,14 +37,14 @@ pub struct Integrators {
 
 // The first value of each input.
 #[repr(C)]
-#[derive(Drop)]
+#[derive(Clone, Copy)]
 pub struct Inputs {
     pub firsts: [i64; INPUTS],
 }
 
 // "kind, A, B, signed lo, signed hi": A and B are source numbers.
 #[repr(C)]
-#[derive(Drop)]
+#[derive(Clone, Copy)]
 pub struct Nodes {
     pub kinds: [usize; NODES],
     pub a: [usize; NODES],
@@ -55,7 +55,7 @@ pub struct Nodes {
 
 // "target integrator, source, signed coefficient"
 #[repr(C)]
-#[derive(Drop)]
+#[derive(Clone, Copy)]
 pub struct Links {
     pub targets: [usize; LINKS],
     pub sources: [usize; LINKS],
@@ -64,7 +64,7 @@ pub struct Links {
 
 // "tick .., input number .., signed value"
 #[repr(C)]
-#[derive(Drop)]
+#[derive(Clone, Copy)]
 pub struct Commands {
     pub ticks: [u32; COMMANDS],
     pub inputs: [usize; COMMANDS],
@@ -72,7 +72,7 @@ pub struct Commands {
 }
 
 #[repr(C)]
-#[derive(Drop)]
+#[derive(Clone, Copy)]
 pub struct Plan {
     pub horizon: u32,
     pub counts: Counts,
@@ -85,7 +85,7 @@ pub struct Plan {
 
 // What a check of a plan file, or of a part of it, finds: nothing, or the first of document 01's refusals 1 to 9. Those of an
 // entry hold the entry's number, counted from 0.
-#[derive(Drop)]
+#[derive(Clone, Copy)]
 pub enum Finding {
     Clean,
     Short,
