@@ -32,7 +32,7 @@ module _ (wide size : ℕ) (part : List ℕ) (column i : ℕ) {at : ℕ} {xs : L
   pub signeds_turn : {x : ℤ} → xs ≡ signeds_of wide size i part column → mag x < 2 ^ 63 → x ≡ signed_word part at → at ≡ size * i + 4 * column
       → set xs i (to_z w64 (of_z w64 x)) ≡ signeds_of wide size (i + 1) part column
   signeds_turn e f r p =
-      column_turn (pos 0) signed_word wide size part column i e (to_z-of_z (record { sfits = f }) ∙ r) p
+      column_turn (pos 0) signed_word wide size part column i e (to_z-of_z {w = w64} (record { sfits = f }) ∙ r) p
 
   pub unsigneds_turn : {x : ℕ} → xs ≡ unsigneds_of wide size i part column → (x ≡ word part at) × (x < 2 ^ 32) → at ≡ size * i + 4 * column
       → set xs i (to_z w64 x) ≡ unsigneds_of wide size (i + 1) part column
