@@ -95,6 +95,6 @@ due_tick-requires c =
 
 pub returns : goal.returns
 returns c =
-    let s = entry5 c.before in let f = s.ranges in
+    let e = (goal.at.returns c).Else-s-slope in let s = entry5 e in let f = s.ranges in
     let due = rw (to_z-of_z f.x, to_z-of_z f.upper, to_z-of_z f.lower, to_z-of_z f.s) at c.due_tick.ensures in
-    last (passed5 c.before) (all_of s) (ap (eqb s.args.d) due)
+    last (passed5 e) (all_of s) (ap (eqb s.args.d) due)
