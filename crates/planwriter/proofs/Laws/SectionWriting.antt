@@ -4,7 +4,6 @@ use Rattle.std.proofs.Common.{◌∙◌}
 use mathlib.Core.List.{List, ◌∷◌, ◌++◌, append-nil}
 use native.Mathlib.Omega.{arith}
 use borrow.Author.Tests.{le-leb, lt-leb}
-use Rattle.integers.proofs.Laws.Parts.{zs}
 use Rattle.words.specs.Putting.{written}
 use Rattle.words.proofs.Laws.Flat.{length-flat}
 use Rattle.plan.specs.Numbers.{M, sections, header_bytes}
