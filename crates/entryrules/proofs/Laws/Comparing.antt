@@ -1,10 +1,11 @@
 -- Laws: what a comparison in the code says, as the value of the test that a definition makes. A signed local z is seen as `rd z`, the
 -- number read back from its bits, which is z since z fits. `search (rules, comparing)` proves a return: it rewrites each test of the
 -- contract's definition by the comparison that was made before the return.
-use Rattle.std.specs.Prelude.{ℤ, pos, negsuc, neg_ℤ, eqb, Bool, true, false, ◌≡◌, ℕ, suc, ◌+◌}
+use Rattle.std.specs.Prelude.{ℤ, pos, negsuc, neg_ℤ, eqb, Bool, true, false, not, ◌≡◌, ℕ, suc, ◌+◌}
 use Rattle.std.specs.Int.Signed.{lt_z, le_z}
 use Rattle.std.proofs.Common.{lt-ltb, le-ltb, le-leb, eq-eqb, ne_eqb, sym, ap, ◌∙◌, add-zero, arith, SFits, of_z, to_z-of_z}
 use Rattle.std.proofs.lemmas.Bool.{lt-leb}
+use Rattle.std.proofs.Math.Bool.{not-not}
 use Rattle.std.specs.Int.{w64}
 use Rattle.integers.specs.Parts.{∣◌∣}
 use Rattle.integers.proofs.Laws.Parts.{zs}
@@ -40,6 +41,9 @@ pub ruleset comparing = (less, not_less, within-less, within_not_less, zero_bits
 pub answered : {z : ℤ} {r : Bool} → SFits w64 z → r ≡ within M (rd z) → r ≡ within M z
 answered f e = e ∙ ap (within M) (to_z-of_z f)
 
--- and `!r` was tested
+-- and r, or `!r`, was tested
 pub tested : {z : ℤ} {r t : Bool} → SFits w64 z → r ≡ within M (rd z) → r ≡ t → within M z ≡ t
 tested f e t = sym (answered f e) ∙ t
+
+pub tested_not : {z : ℤ} {r t : Bool} → SFits w64 z → r ≡ within M (rd z) → not r ≡ t → within M z ≡ not t
+tested_not {r = r} f e t = sym (answered f e) ∙ sym (not-not r) ∙ ap not t

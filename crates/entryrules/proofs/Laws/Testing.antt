@@ -1,5 +1,5 @@
 -- Laws: a loop that tests one index after the other by a function. Assumes nothing.
-use Rattle.std.specs.Prelude.{◌≡◌, Bool, true, ℤ}
+use Rattle.std.specs.Prelude.{◌≡◌, Bool, true, not, ℤ}
 use Rattle.std.proofs.Math.Path.{refl}
 use Rattle.std.proofs.Common.{sym, ◌∙◌, add-one, arith, to_z-of_z}
 use Rattle.std.proofs.Math.Bool.{false, and-false}
@@ -8,6 +8,7 @@ use Rattle.std.specs.Int.Signed.{mag}
 use Rattle.std.specs.Int.{w64}
 use mir.Val.{hbits}
 use borrow.Author.Rules.{sfits_of}
+use Rattle.std.proofs.lemmas.Bool.{not-true, not-false}
 use Rattle.integers.proofs.Laws.Signed64.{rd}
 use Rattle.plan.specs.Lists.{every}
 use Rattle.plan.proofs.Laws.Searches.{below_suc}
@@ -22,6 +23,13 @@ held e t = sym e ∙ t
 
 pub failed : {answer test : Bool} → answer ≡ test → answer ≡ false → test ≡ false
 failed e t = sym e ∙ t
+
+-- The same by the value of `!answer` itself.
+pub held_not : {answer test : Bool} → answer ≡ test → not answer ≡ false → test ≡ true
+held_not e t = held e (not-false _ t)
+
+pub failed_not : {answer test : Bool} → answer ≡ test → not answer ≡ true → test ≡ false
+failed_not e t = failed e (not-true _ t)
 
 module _ (test : ℕ → Bool) where
   pub every-none : every test 0 ≡ true
