@@ -12,13 +12,8 @@ const ENDINGS: [&str; 12] = [
 /// Words of a name that stand for any.
 const PLACEHOLDERS: [&str; 5] = ["CRATE", "FILE", "NAME", "TITLE", "K"];
 
-/// What `rt` makes, as far as pages name it.
-const BUILT: [&str; 4] = [
-    "target/bin/listing",
-    "target/staticlib/libcup.a",
-    "target/rlib",
-    "target/stamp",
-];
+/// What `tools/build` makes.
+const BUILT: [&str; 2] = ["target/bin/listing", "target/staticlib/libcup.a"];
 
 /// What a name leads to.
 pub enum Found<'r> {
@@ -64,6 +59,11 @@ pub fn found<'r>(page: &Page, name: &str, repository: &'r Repository) -> Option<
         vec![
             joined("crates", &format!("{first}/specs/{rest}.antt")),
             joined("crates", &format!("{first}/specs/{rest}")),
+        ],
+        // Laws and tables of examples.
+        vec![
+            joined("crates", &format!("{first}/proofs/{rest}.antt")),
+            joined("crates", &format!("{first}/proofs/{rest}")),
         ],
         vec![
             joined("rust/tests", &name),

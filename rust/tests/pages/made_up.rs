@@ -5,7 +5,7 @@ use crate::repository::Repository;
 use crate::{file_names, layout, links, names, whole_lists};
 
 /// Files that the pages can speak of.
-const FILES: [(&str, &str); 10] = [
+const FILES: [(&str, &str); 11] = [
     ("crates.txt", "machine:\nrates: machine\n"),
     (
         "crates/machine/specs/Due.antt",
@@ -25,6 +25,10 @@ const FILES: [(&str, &str); 10] = [
         "pub fn rate() {\n    sum_of(links)\n",
     ),
     ("crates/rates/proofs/+fold/Proof.antt", ""),
+    (
+        "crates/rates/proofs/Laws/Folds.antt",
+        "pub fold-kept : Kept\n",
+    ),
     ("rust/bridge/tests/calls.rs", "fn a_call_is_declined() {\n"),
     ("include/cup.h", "CupRan cup_run(void);\n"),
     (
@@ -126,6 +130,7 @@ fn a_page_that_nothing_links_to_is_found() {
 fn file_names_are_looked_up_where_pages_leave_the_beginning_out() {
     let text = "`OTHER.md`, `crates/machine/specs`, `rates/src/lib.rt`, `rates/proofs/fold`,\n\
                 `machine/Due`, `machine/Laws`, `calls.rs`, `target/bin/listing`,\n\
+                `rates/Laws`, `rates/Laws/Folds`,\n\
                 `machine/nearer_level`, `machine/m_one_less`, `a / b`, `cargo test`, `nodes.a`\n";
     assert_file_names(text, &[]);
 }
@@ -174,6 +179,7 @@ fn what_the_checks_could_not_read_is_found() {
 fn names_that_follow_their_place_are_right() {
     let text = "`machine/Due` `distance`,\n`ticksTo`; `machine/Laws` `Between` and `upper-size`.\n\
                 `rates` `rate`, `rates::rate`, `include/cup.h` `cup_run`; `Between` `upper-size`;\n\
+                `rates/Laws` `fold-kept`;\n\
                 `machine/nearer_level`, `m_one_less`; `calls.rs` `a_call_is_declined`\n";
     assert_places(text, &[]);
 }

@@ -80,7 +80,7 @@ impl Repository {
             "cup_bridge" => Some("rust/bridge/src".to_string()),
             name => {
                 let listed = self.files.get("crates.txt").map_or("", |file| &file.text);
-                let mut names = listed.lines().filter_map(|line| line.split(':').next());
+                let mut names = listed.lines().filter_map(crate_on);
                 let folder = names.find(|own| *own == name);
                 folder.map(|name| format!("crates/{name}/src"))
             }
@@ -103,6 +103,12 @@ impl Repository {
         let mut files = self.files.iter().filter(|(path, _)| !only_speaks(path));
         files.any(|(_, file)| file.words.contains(word)) || self.has_edit(&format!("*/{word}"))
     }
+}
+
+/// The crate on a line of crates.txt, behind which can stand that it is a static library.
+pub fn crate_on(line: &str) -> Option<&str> {
+    let (named, _) = line.split_once(':')?;
+    named.split_whitespace().next()
 }
 
 impl File {
@@ -154,15 +160,16 @@ fn is_page(path: &str) -> bool {
     path.ends_with(".md") && !path.starts_with('.')
 }
 
-/// Adds the files below a folder. What a build made is left out, and so is all whose name begins with a
-/// dot, but for the folder of the gate, which pages name.
+/// Adds the files below a folder. What a build or a check made is left out, and so is all whose name begins
+/// with a dot, but for the folder of the gate, which pages name.
 fn walk(folder: &Path, before: &str, files: &mut Vec<(String, String)>) {
     for entry in fs::read_dir(folder).expect("a folder of the repository") {
         let entry = entry.expect("an entry of a folder");
         let own = entry.file_name().to_string_lossy().to_string();
         let whole = format!("{before}{own}");
         let kind = entry.file_type().expect("a file or a folder");
-        if own == "target" || (own.starts_with('.') && own != ".ci") {
+        let is_made = own == "target" || own == "out";
+        if is_made || (own.starts_with('.') && own != ".ci") {
             continue;
         } else if kind.is_dir() {
             walk(&entry.path(), &(whole + "/"), files);

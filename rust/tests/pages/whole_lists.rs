@@ -1,7 +1,7 @@
 //! Lists that a page has to keep whole: what is in the repository stands on it.
 
 use crate::markdown::Page;
-use crate::repository::Repository;
+use crate::repository::{crate_on, Repository};
 
 /// How the first line of a file begins that has to be believed.
 const BELIEVED: [&str; 3] = [
@@ -24,7 +24,7 @@ const INDEXES: [&str; 3] = ["Lib.antt", "Laws.antt", "Proofs.antt"];
 pub fn unnamed_crates(repository: &Repository) -> Vec<String> {
     let listed = repository.text("crates.txt").lines();
     let names = listed.filter(|line| !line.starts_with('#'));
-    let names = names.filter_map(|line| line.split(':').next());
+    let names = names.filter_map(crate_on);
     missing(repository, "docs/CRATES.md", names)
 }
 
