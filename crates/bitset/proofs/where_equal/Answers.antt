@@ -1,8 +1,6 @@
 use borrow.Author.Tests.{eq-eqb, ne_eqb}
 use mathlib.Core.Path.{◌≡◌, refl, ap, ◌∙◌}
-use Prim.Native.Nat.{◌-◌}
 use native.Mathlib.Omega.{arith}
-use lib.Dec.{eqb}
 use Rattle.bitset.specs.Mask.{mask_of, with_bit}
 use Rattle.bitset.proofs.Laws.Bits.{mask_of_in, mask_of_out}
 use Rattle.bitset.proofs.where_equal.Goals.{then-ticks-i, else-ticks-i}
