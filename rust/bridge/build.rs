@@ -1,4 +1,4 @@
-//! Finds the library of the proved calls, or has the toolchain make it, and links it.
+//! Finds the library of the proved calls, or has it made, and links it.
 //!
 //! The variable CUP_ARCHIVE names another library with the same functions in its place.
 
@@ -6,7 +6,7 @@ use std::path::{Path, PathBuf};
 use std::process::{exit, Command};
 use std::{env, fs};
 
-/// Where the toolchain puts the library, from the repository's root.
+/// Where `tools/build` puts the library, from the repository's root.
 const ARCHIVE: &str = "target/staticlib/libcup.a";
 
 fn main() {
@@ -40,20 +40,17 @@ fn made_archive() -> PathBuf {
 }
 
 fn make_archive(root: &Path) {
-    let status = Command::new("rt")
-        .args(["staticlib", "cup"])
-        .current_dir(root)
-        .status();
+    let status = Command::new(root.join("tools/build")).arg("cup").status();
     match status {
         Ok(status) if status.success() => (),
-        Ok(status) => fail(&format!("'rt staticlib cup' ended with {status}")),
-        Err(error) => fail(&format!("'rt staticlib cup' does not start: {error}")),
+        Ok(status) => fail(&format!("'tools/build cup' ended with {status}")),
+        Err(error) => fail(&format!("'tools/build cup' does not start: {error}")),
     }
 }
 
 fn fail(reason: &str) -> ! {
     eprintln!("cup-bridge needs the library of the proved calls, {ARCHIVE} in the repository.");
-    eprintln!("It is made by 'rt staticlib cup', with the Rattle toolchain's rt on the PATH.");
+    eprintln!("It is made by 'tools/build cup', with the Rattle toolchain's rt on the PATH.");
     eprintln!("{reason}");
     exit(1);
 }

@@ -1,5 +1,4 @@
-// The calls for C and Rust, as a static library; `include/cup.h` declares them. A `&[u8]` is a pointer and a length, and a state goes in and out by value.
-// No call keeps anything, and none asks anything of the bytes or of the state.
+// The calls for C and Rust, which the crate `cup_c` exports. No call keeps anything, and none asks anything of the bytes or of the state.
 #![tactic(auto)]
 
 ghost use Rattle.std.specs.Prelude.{◌≡◌, length};
@@ -25,8 +24,7 @@ use simulator::{
 use soundness::test_state;
 
 // Reads a plan file: the number, 0 where it is accepted, and the lowest faulty entry.
-#[unsafe(no_mangle)]
-pub extern "C" fn cup_read(file: &[u8], entry: &mut usize) -> usize
+pub fn cup_read(file: &[u8], entry: &mut usize) -> usize
     ensures answer { result ≡ number_of (finding_of file.now) }
     ensures entry { entry.new ≡ entry_of (finding_of file.now) }
 {
@@ -37,8 +35,7 @@ pub extern "C" fn cup_read(file: &[u8], entry: &mut usize) -> usize
 
 // The section view: the length of the part, and where in the file it starts, an empty section too. Both are 0 if the file would be refused or the number
 // is above 4.
-#[unsafe(no_mangle)]
-pub extern "C" fn cup_section(file: &[u8], number: usize, offset: &mut usize) -> usize
+pub fn cup_section(file: &[u8], number: usize, offset: &mut usize) -> usize
     ensures answer { result ≡ length (section_of file.now number) }
     ensures offset { offset.new ≡ section_start file.now number }
     ensures part { part file.now offset.new result ≡ section_of file.now number }
@@ -55,8 +52,7 @@ pub extern "C" fn cup_section(file: &[u8], number: usize, offset: &mut usize) ->
 
 // Reads a plan file and writes its plan into the buffer: the number, and the length of what is written. Where the number is not 0 the length is 0,
 // and the buffer keeps every byte.
-#[unsafe(no_mangle)]
-pub extern "C" fn cup_rewrite(file: &[u8], buffer: &mut [u8], written: &mut usize) -> usize
+pub fn cup_rewrite(file: &[u8], buffer: &mut [u8], written: &mut usize) -> usize
     ensures answer { result ≡ rewrite_number file.now (length buffer.old) }
     ensures written { written.new ≡ rewrite_length file.now (length buffer.old) }
     ensures buffer { buffer.new ≡ rewrite_buffer file.now buffer.old }
@@ -100,16 +96,14 @@ pub extern "C" fn cup_rewrite(file: &[u8], buffer: &mut [u8], written: &mut usiz
 }
 
 // The public call `load`.
-#[unsafe(no_mangle)]
-pub extern "C" fn cup_load(file: &[u8]) -> Loaded
+pub fn cup_load(file: &[u8]) -> Loaded
     ensures { result ≡ load_of file.now }
 {
     load(file)
 }
 
 // The public call `write`.
-#[unsafe(no_mangle)]
-pub extern "C" fn cup_write(state: State, buffer: &mut [u8]) -> Written
+pub fn cup_write(state: State, buffer: &mut [u8]) -> Written
     ensures answer { result ≡ write_of state buffer.old }
     ensures buffer { buffer.new ≡ buffer_of_write state buffer.old }
 {
@@ -117,16 +111,14 @@ pub extern "C" fn cup_write(state: State, buffer: &mut [u8]) -> Written
 }
 
 // "A sound state": whether the state is one, so that no call declines it by 10.
-#[unsafe(no_mangle)]
-pub extern "C" fn cup_sound(state: State) -> bool
+pub fn cup_sound(state: State) -> bool
     ensures { result ≡ is_sound state }
 {
     is_sound(state)
 }
 
 // The state that was handed in, so that a caller can see that both sides lay out its fields alike.
-#[unsafe(no_mangle)]
-pub extern "C" fn cup_echo(state: State) -> State
+pub fn cup_echo(state: State) -> State
     ensures { result ≡ state }
 {
     state
@@ -142,8 +134,7 @@ pub struct Tables {
 }
 
 // The tables of a sound state, else all 0. For tests.
-#[unsafe(no_mangle)]
-pub extern "C" fn cup_tables(state: State) -> Tables
+pub fn cup_tables(state: State) -> Tables
     ensures { result ≡ tables_of state }
 {
     let test = test_state(
@@ -199,8 +190,7 @@ pub extern "C" fn cup_tables(state: State) -> Tables
 }
 
 // The public call `run_lazy`.
-#[unsafe(no_mangle)]
-pub extern "C" fn cup_run_lazy(state: State, budget: u64, buffer: &mut [u8]) -> Ran
+pub fn cup_run_lazy(state: State, budget: u64, buffer: &mut [u8]) -> Ran
     ensures answer { result ≡ run_of Lazy state budget buffer.old }
     ensures buffer { buffer.new ≡ buffer_of_run Lazy state budget buffer.old }
 {
@@ -208,8 +198,7 @@ pub extern "C" fn cup_run_lazy(state: State, budget: u64, buffer: &mut [u8]) -> 
 }
 
 // The public call `run_eager`.
-#[unsafe(no_mangle)]
-pub extern "C" fn cup_run_eager(state: State, budget: u64, buffer: &mut [u8]) -> Ran
+pub fn cup_run_eager(state: State, budget: u64, buffer: &mut [u8]) -> Ran
     ensures answer { result ≡ run_of Eager state budget buffer.old }
     ensures buffer { buffer.new ≡ buffer_of_run Eager state budget buffer.old }
 {
@@ -217,8 +206,7 @@ pub extern "C" fn cup_run_eager(state: State, budget: u64, buffer: &mut [u8]) ->
 }
 
 // The public call `position`.
-#[unsafe(no_mangle)]
-pub extern "C" fn cup_position(state: State, integrator: usize) -> Positioned
+pub fn cup_position(state: State, integrator: usize) -> Positioned
     ensures { result ≡ positioned_of state integrator }
 {
     position(state, integrator)

@@ -1,7 +1,7 @@
 //! The proved calls for Rust: the reader of plan files, the section view and the plan writer; in
 //! [`machine`] the calls on a [`state`].
 //!
-//! The functions come from the library that `rt staticlib cup` makes of the proved crates. The
+//! The functions come from the library that `tools/build cup` makes of the proved crates. The
 //! module `header` declares them, and only this file and [`machine`] call them and so have unsafe
 //! code: what the C functions ask of their pointers is what references and slices give. [`campaign`]
 //! compares the calls with the second simulator.

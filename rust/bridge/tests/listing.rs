@@ -1,8 +1,8 @@
 //! The listing program against the second simulator's listing, on the kept plans and on at least
 //! [`INPUTS_COMPARED`] inputs.
 //!
-//! The program is the repository's `target/bin/listing`, which `rt check` and `rt ci` make; CUP_LISTING
-//! names another. CUP_LISTINGS asks for more inputs, CUP_SEED for other ones.
+//! The program is the repository's `target/bin/listing`, which `tools/build` makes; CUP_LISTING names
+//! another. CUP_LISTINGS asks for more inputs, CUP_SEED for other ones.
 
 mod common;
 
@@ -22,7 +22,7 @@ fn program() -> Program {
     let path = named.unwrap_or_else(|| root().join("target/bin/listing"));
     assert!(
         path.is_file(),
-        "no listing program at {}: 'rt check' and 'rt ci' make it, and CUP_LISTING names another",
+        "no listing program at {}: 'tools/build listing' makes it, and CUP_LISTING names another",
         path.display()
     );
     Program { path }

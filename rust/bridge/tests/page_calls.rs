@@ -127,7 +127,7 @@ fn the_page_declares_every_function_of_the_header() {
 /// That the two agree in their arguments is for echo.rs and the tests of the calls.
 #[test]
 fn the_header_declares_every_function_of_the_library() {
-    let exports = public_functions_of(&files_of_crate("cup"));
+    let exports = public_functions_of(&files_of_crate("cup_c"));
     assert!(exports
         .iter()
         .all(|text| text.starts_with("pub extern \"C\" fn cup_")));
