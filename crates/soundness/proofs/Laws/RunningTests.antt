@@ -1,6 +1,6 @@
 -- Laws: the clauses of a sound state's running figures in the order in which the code tests them, and what its tests ask. Assumes nothing.
-use Rattle.std.specs.Prelude.{◌≡◌, refl, Bool, true, false, ◌&&◌, List, [], ◌∷◌, ℕ, zero, suc, ◌*◌, ◌≤◌, ◌<◌, ℤ, pos, leb, eqb}
-use Rattle.std.proofs.Common.{sym, ◌∙◌, mul-le-mul_right, arith, Fits}
+use Rattle.std.specs.Prelude.{◌≡◌, refl, Bool, true, ◌&&◌, List, [], ◌∷◌, ℕ, zero, suc, ◌*◌, ◌≤◌, ◌<◌, ℤ, pos, leb, eqb}
+use Rattle.std.proofs.Common.{◌∙◌, mul-le-mul_right, arith, Fits}
 use Rattle.std.proofs.Math.Logic.Iff
 use Rattle.std.specs.Int.{w64}
 use borrow.Author.Tests.{leb-true}
