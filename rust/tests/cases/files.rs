@@ -2,7 +2,7 @@
 
 use super::{times, SEEDS, SMALL};
 use crate::common::{every_section, refusal, rng_of, SIMULATOR};
-use crate::prover::antt::{bytes, case, nat_case, state, STATE};
+use crate::prover::antt::{bytes, case, field, nat_case, state, STATE};
 use crate::prover::Declaration;
 use cup_check::calls::Simulator;
 use cup_check::file::{encode, read, Cause};
@@ -66,14 +66,14 @@ fn damaged(rng: &mut Rng, mut file: Vec<u8>) -> Vec<u8> {
 fn theorem(name: String, file: &[u8], met: &mut Met) -> Declaration {
     count(met, file);
     let answer = SIMULATOR.load(file);
-    let load = format!("loadOf {}", bytes(file));
+    let load = format!("load_of {}", bytes(file));
     let mut cases = vec![
-        nat_case(&format!("{load} .number"), answer.number as u64),
-        nat_case(&format!("{load} .entry"), answer.entry as u64),
+        nat_case(&field(&load, "number"), answer.number as u64),
+        nat_case(&field(&load, "entry"), answer.entry as u64),
     ];
     if answer.number != ACCEPTED {
         let state = state(&answer.state);
-        cases.push(case(STATE, &format!("{load} .state"), &state));
+        cases.push(case(STATE, &field(&load, "state"), &state));
     }
     Declaration::Theorem { name, cases }
 }
@@ -84,7 +84,7 @@ pub fn wrong(name: &str) -> Declaration {
     Declaration::Theorem {
         name: name.to_string(),
         cases: vec![nat_case(
-            &format!("loadOf {file} .number"),
+            &field(&format!("load_of {file}"), "number"),
             REFUSED_SHORT as u64,
         )],
     }

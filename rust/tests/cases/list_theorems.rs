@@ -3,8 +3,8 @@
 use super::called_list::CalledList;
 use crate::common::{MARK, SIMULATOR};
 use crate::prover::antt::{
-    buffer, bytes, bytes_case, call, calls, case, int_case, nat_case, plain, state, BYTES, CALLS,
-    PLAIN, PLAN, RUNNING, STATE,
+    buffer, bytes, bytes_case, call, calls, case, field, int_case, nat_case, plain, state, BYTES,
+    CALLS, PLAIN, PLAN, RUNNING, STATE,
 };
 use crate::prover::Declaration;
 use cup_check::calls::Simulator;
@@ -86,20 +86,17 @@ impl<'a> ListTheorems<'a> {
     /// The plan decoded, started and encoded, and its sections.
     fn file_cases(&self) -> Vec<String> {
         let (file, start) = (self.named("file"), self.named("start"));
+        let load = format!("load_of {file}");
         let mut cases = vec![
-            nat_case(&format!("loadOf {file} .number"), ACCEPTED as u64),
-            case(PLAN, &format!("planIn {file}"), &format!("({start} .plan)")),
-            case(
-                RUNNING,
-                &format!("loadOf {file} .state .run"),
-                &format!("({start} .run)"),
-            ),
-            case(BYTES, &format!("encode ({start} .plan)"), &file),
+            nat_case(&field(&load, "number"), ACCEPTED as u64),
+            case(PLAN, &format!("plan_in {file}"), &format!("{start}.plan")),
+            case(RUNNING, &field(&load, "state.run"), &format!("{start}.run")),
+            case(BYTES, &format!("encode {start}.plan"), &file),
         ];
         let whole = encode(self.plan);
         for number in 0..=SECTIONS {
             let section = SIMULATOR.section(&whole, number);
-            cases.push(bytes_case(&format!("sectionOf {file} {number}"), section));
+            cases.push(bytes_case(&format!("section_of {file} {number}"), section));
         }
         cases
     }
@@ -107,12 +104,13 @@ impl<'a> ListTheorems<'a> {
     /// The list from the start, whole and cut in two.
     fn run_cases(&self) -> Vec<String> {
         let (start, list) = (self.named("start"), self.named("calls"));
-        let end = format!("({} .run)", self.named("end"));
+        let end = format!("{}.run", self.named("end"));
         let (sum, joined) = (self.called.sum(), self.called.joined());
+        let after = format!("after_calls {start} {list}");
         let mut cases = vec![
-            nat_case(&format!("budgetSum {start} {list}"), sum),
-            case(RUNNING, &format!("afterCalls {start} {list} .run"), &end),
-            bytes_case(&format!("joinedBytes {start} {list}"), &joined),
+            nat_case(&format!("budget_sum {start} {list}"), sum),
+            case(RUNNING, &field(&after, "run"), &end),
+            bytes_case(&format!("joined_bytes {start} {list}"), &joined),
         ];
         for instant in [1, sum / 2] {
             cases.extend(self.cut_cases(instant));
@@ -127,8 +125,8 @@ impl<'a> ListTheorems<'a> {
         let front = CalledList::of(self.called.start(), front);
         assert_eq!(CalledList::of(front.end(), back).end(), self.called.end());
         let middle = state(front.end());
-        let cut = format!("afterCalls {start} (cutAt {start} {list} {instant})");
-        let rest = format!("afterCalls {middle} (restAt {start} {list} {instant})");
+        let cut = format!("after_calls {start} (cut_at {start} {list} {instant})");
+        let rest = format!("after_calls {middle} (rest_at {start} {list} {instant})");
         [
             case(STATE, &cut, &middle),
             case(STATE, &rest, &self.named("end")),
@@ -138,27 +136,27 @@ impl<'a> ListTheorems<'a> {
     /// The plain machine fed the sum, the status by it and by the end state, and the updates that the
     /// engines of the list make.
     fn plain_cases(&self) -> Vec<String> {
-        let (last, end) = (self.named("last"), format!("({} .run)", self.named("end")));
-        let p = format!("({} .plan)", self.named("start"));
+        let (last, end) = (self.named("last"), format!("{}.run", self.named("end")));
+        let p = format!("{}.plan", self.named("start"));
         let sum = self.called.sum();
         let (plain, read) = (
-            format!("plainStatus {p} {last}"),
-            format!("statusOf {p} {end}"),
+            format!("plain_status {p} {last}"),
+            format!("status_of {p} {end}"),
         );
         let status = self.machine.status();
         let (number, integrator) = (status.number() as u64, status.integrator() as u64);
         vec![
-            case(PLAIN, &format!("plainAfter {p} {sum}"), &last),
+            case(PLAIN, &format!("plain_after {p} {sum}"), &last),
             bytes_case(
-                &format!("plainEvents {p} {sum}"),
+                &format!("plain_events {p} {sum}"),
                 &self.machine.event_bytes(),
             ),
-            nat_case(&format!("statusNumber ({plain})"), number),
-            nat_case(&format!("statusIntegrator ({plain})"), integrator),
-            nat_case(&format!("statusNumber ({read})"), number),
-            nat_case(&format!("statusIntegrator ({read})"), integrator),
+            nat_case(&format!("status_number ({plain})"), number),
+            nat_case(&format!("status_integrator ({plain})"), integrator),
+            nat_case(&format!("status_number ({read})"), number),
+            nat_case(&format!("status_integrator ({read})"), integrator),
             self.growth_case(self.called.end().run.clocks.updates),
-            nat_case(&format!("movedNow {p} {end}"), self.moved_last()),
+            nat_case(&format!("moved_now {p} {end}"), self.moved_last()),
         ]
     }
 
@@ -166,8 +164,8 @@ impl<'a> ListTheorems<'a> {
     fn growth_case(&self, updates: u64) -> String {
         let (start, list) = (self.named("start"), self.named("calls"));
         let instants = self.machine.instants;
-        let engines = format!("(engineAt {start} {list})");
-        let computed = format!("growthUpTo ({start} .plan) {engines} {instants}");
+        let engines = format!("(engine_at {start} {list})");
+        let computed = format!("growth_up_to {start}.plan {engines} {instants}");
         nat_case(&computed, updates)
     }
 
@@ -191,13 +189,14 @@ impl<'a> ListTheorems<'a> {
         let answered = |number: usize| {
             let (ran, buffer) = &answers[number];
             let made = format!("{} {}", self.named("before"), call(&list[number]));
-            let figure = |name, value| nat_case(&format!("answerOf {made} .{name}"), value);
+            let answer = format!("answer_of {made}");
+            let figure = |name, value| nat_case(&field(&answer, name), value);
             [
                 figure("number", ran.number as u64),
                 figure("status", ran.status as u64),
                 figure("integrator", ran.integrator as u64),
                 figure("written", ran.written as u64),
-                bytes_case(&format!("bufferOf {made}"), buffer),
+                bytes_case(&format!("buffer_of {made}"), buffer),
             ]
         };
         numbers.flat_map(answered).collect()
@@ -208,10 +207,10 @@ impl<'a> ListTheorems<'a> {
         let end = self.called.end();
         let positioned = |i| {
             let answer = SIMULATOR.position(end, i);
-            let computed = format!("positionedOf {} {i}", self.named("end"));
+            let computed = format!("positioned_of {} {i}", self.named("end"));
             [
-                nat_case(&format!("{computed} .number"), answer.number as u64),
-                int_case(&format!("{computed} .value"), answer.value),
+                nat_case(&field(&computed, "number"), answer.number as u64),
+                int_case(&field(&computed, "value"), answer.value),
             ]
         };
         (0..=end.plan.counts.n).flat_map(positioned).collect()
@@ -224,10 +223,11 @@ impl<'a> ListTheorems<'a> {
             let mut bytes = vec![MARK; length];
             let answer = SIMULATOR.write(self.called.end(), &mut bytes);
             let made = format!("{} {}", self.named("end"), buffer(length));
+            let writes = format!("write_of {made}");
             [
-                nat_case(&format!("writeOf {made} .number"), answer.number as u64),
-                nat_case(&format!("writeOf {made} .length"), answer.length as u64),
-                bytes_case(&format!("bufferOfWrite {made}"), &bytes),
+                nat_case(&field(&writes, "number"), answer.number as u64),
+                nat_case(&field(&writes, "length"), answer.length as u64),
+                bytes_case(&format!("buffer_of_write {made}"), &bytes),
             ]
         };
         [length, length - 1].into_iter().flat_map(written).collect()

@@ -2,7 +2,7 @@
 
 use super::{times, SEEDS, SMALL};
 use crate::common::{cups_with_an_unused_entry_set, loaded, rng_of, SIMULATOR};
-use crate::prover::antt::{nat_case, state, truth_case};
+use crate::prover::antt::{field, nat_case, state, truth_case};
 use crate::prover::Declaration;
 use cup_check::calls::Simulator;
 use cup_check::engine::Engine;
@@ -62,15 +62,15 @@ fn cases(raw: &RawState) -> [String; 4] {
     let ran = SIMULATOR.run(Engine::Eager, raw, budget, &mut []);
     let positioned = SIMULATOR.position(raw, INTEGRATORS);
     let written = SIMULATOR.write(raw, &mut []);
-    let number = |call: String, number: usize| nat_case(&format!("{call} .number"), number as u64);
+    let number = |call: String, number: usize| nat_case(&field(&call, "number"), number as u64);
     [
-        truth_case(&format!("isSound {term}"), is_sound(raw)),
-        number(format!("answerOf {term} ({call})"), ran.number),
+        truth_case(&format!("is_sound {term}"), is_sound(raw)),
+        number(format!("answer_of {term} ({call})"), ran.number),
         number(
-            format!("positionedOf {term} {INTEGRATORS}"),
+            format!("positioned_of {term} {INTEGRATORS}"),
             positioned.number,
         ),
-        number(format!("writeOf {term} []"), written.number),
+        number(format!("write_of {term} []"), written.number),
     ]
 }
 
@@ -79,7 +79,7 @@ pub fn wrong(name: &str) -> Declaration {
     let cup = state(&loaded(&document_cup()));
     Declaration::Theorem {
         name: name.to_string(),
-        cases: vec![truth_case(&format!("isSound {cup}"), false)],
+        cases: vec![truth_case(&format!("is_sound {cup}"), false)],
     }
 }
 

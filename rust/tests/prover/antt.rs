@@ -11,9 +11,9 @@ use cup_check::raw::{RawCommands, RawCounts, RawLinks, RawNodes, RawPlan, RawRun
 pub const BYTES: &str = "(List ℕ)";
 pub const CALLS: &str = "(List Call)";
 pub const STATE: &str = "State";
-pub const PLAN: &str = "Rattle·plan.specs.declared.Plan.Plan";
-pub const RUNNING: &str = "Rattle·machine.specs.declared.Running.Running";
-pub const PLAIN: &str = "Rattle·machine.specs.Plain.Plain";
+pub const PLAN: &str = "Rattle.plan.specs.declared.Plan.Plan";
+pub const RUNNING: &str = "Rattle.machine.specs.declared.Running.Running";
+pub const PLAIN: &str = "Rattle.machine.specs.Plain.Plain";
 
 /// A case: a type, what the definitions say, what it is to be.
 pub fn case(kind: &str, computed: &str, expected: &str) -> String {
@@ -34,6 +34,11 @@ pub fn truth_case(computed: &str, expected: bool) -> String {
 
 pub fn bytes_case(computed: &str, expected: &[u8]) -> String {
     case(BYTES, computed, &bytes(expected))
+}
+
+/// A field of what is computed.
+pub fn field(computed: &str, name: &str) -> String {
+    format!("({computed}).{name}")
 }
 
 fn nat(value: u64) -> String {

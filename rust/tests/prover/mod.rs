@@ -74,7 +74,7 @@ pub struct Repository {
 
 impl Repository {
     /// Copies of the crate with the definitions and of those that it sees, with their definitions, sources
-    /// and proofs. The cases need no other, and one that is not proved as it stands would be proved here.
+    /// and proofs. The cases need no other, and one that is not built as it stands is proved here.
     pub fn beside_the_crates() -> Repository {
         let root = Path::new(env!("CARGO_MANIFEST_DIR")).join("..");
         let table = fs::read_to_string(root.join(EXAMPLES_FILE)).expect(EXAMPLES_FILE);
@@ -103,14 +103,10 @@ impl Repository {
         fs::create_dir(&self.folder).expect("a folder of its own");
     }
 
-    /// What the toolchain has proved already, by the contents of the files, it does not prove again.
+    /// A library that the toolchain has built already of the same files it does not build again.
     fn copy_crate(&self, root: &Path, name: &str) {
-        let places = [
-            format!("crates/{name}"),
-            format!("target/rlib/{name}.rlib"),
-            format!("target/stamp/{name}"),
-        ];
-        for place in places {
+        for part in ["src", "specs", "proofs", "out/rlib"] {
+            let place = format!("crates/{name}/{part}");
             if root.join(&place).exists() {
                 copy(&root.join(&place), &self.folder.join(&place));
             }
@@ -124,7 +120,7 @@ impl Repository {
         let lines = format!("{}\ncases: {}\n", copied.join("\n"), crates.join(" "));
         self.write("crates.txt", &lines);
         self.write("crates/cases/src/lib.rt", "// Cases alone: no code.\n");
-        self.write("crates/cases/specs/Lib.antt", "pub mod Cases\n");
+        self.write("crates/cases/proofs/Lib.antt", "pub mod Cases\n");
     }
 
     /// Has the prover check a module of declarations, among which there must be cases.
@@ -133,16 +129,16 @@ impl Repository {
         assert_ne!(cases.sum::<usize>(), 0, "there is nothing to check");
         let texts = declarations.iter().map(|entry| entry.text(&self.opened));
         let module = self.uses.clone() + &texts.collect::<String>();
-        self.write("crates/cases/specs/Cases.antt", &module);
+        self.write("crates/cases/proofs/Cases.antt", &module);
         let checked = Command::new("rt")
-            .args(["check", "cases"])
-            .current_dir(&self.folder)
+            .arg("check")
+            .current_dir(self.folder.join("crates/cases"))
             .output()
             .expect("rt runs");
         let printed = [checked.stdout, checked.stderr].concat();
         let printed = String::from_utf8_lossy(&printed).into_owned();
         Verdict {
-            proved: checked.status.success() && printed.contains("rt: cases proved"),
+            proved: checked.status.success() && printed.contains("\nlogic=proved "),
             refused: printed.lines().filter_map(refused_by).collect(),
             printed,
         }
@@ -194,7 +190,7 @@ fn opened_by(table: &str) -> String {
     let (_, rest) = table
         .split_once("\nunfolding examples ")
         .expect("an unfolding line");
-    let (names, _) = rest.split_once("\nexamples-right =").expect("the theorem");
+    let (names, _) = rest.split_once("\nexamples_right =").expect("the theorem");
     names.split_whitespace().collect::<Vec<_>>().join(" ")
 }
 
