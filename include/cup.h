@@ -1,6 +1,6 @@
 /* The cup simulator: plan files, states, lazy and eager runs, positions, proved against document 01.
  *
- * The functions are in target/staticlib/libcup.a, made by 'rt staticlib cup', for x86-64.
+ * The functions are in target/staticlib/libcup.a, made by 'tools/build cup', for x86-64.
  *
  * They keep nothing between calls and always return. No pointer may be null, also where a length is
  * 0. The file must be readable, the buffer writable, and so must be the size_t that the last argument of
