@@ -23,17 +23,11 @@ module _ (s : Start) where
   product_fits : SFits w64 (s.args.a *ℤ s.args.b)
   product_fits = fits_mul s.args.a s.args.b M M s.requires.0 s.requires.1 tt
 
-pub overflow_sub-a : goal.overflow_sub-a
-overflow_sub-a c = let f = c.ranges in let a = f.a in let b = f.b in simp to_z-of_z (search (rules, sized))
-
 pub returns-then-kind-eq-KIND_DIFFERENCE : goal.returns-then-kind-eq-KIND_DIFFERENCE
 unfolding node_value
 returns-then-kind-eq-KIND_DIFFERENCE c =
     let s = c.before.before in let a = s.ranges.a in let b = s.ranges.b in let f = difference_fits s in
     to_z-of_z {w = w64} (sfits_of c.clip.type_inv) ∙ c.clip.ensures ∙ simp (to_z-of_z, c.if-kind-eq-KIND_DIFFERENCE.true)
-
-pub overflow_mul-a : goal.overflow_mul-a
-overflow_mul-a c = let f = c.ranges in let a = f.a in let b = f.b in simp to_z-of_z (search (rules, sized))
 
 pub returns-then-kind-eq-KIND_PRODUCT : goal.returns-then-kind-eq-KIND_PRODUCT
 unfolding node_value
@@ -73,3 +67,9 @@ returns-else-a-b c =
       ne_eqb c.args.kind 2 c.if-kind-eq-KIND_LIMIT.false,
       test,
     )
+
+pub overflow_sub-a : goal.overflow_sub-a
+overflow_sub-a c = let f = c.ranges in let a = f.a in let b = f.b in simp to_z-of_z (search (rules, sized))
+
+pub overflow_mul-a : goal.overflow_mul-a
+overflow_mul-a c = let f = c.ranges in let a = f.a in let b = f.b in simp to_z-of_z (search (rules, sized))
