@@ -1,3 +1,4 @@
+-- A link below the target is passed; at the first other one, or behind the last link, the search ends.
 use mathlib.Core.Path.{refl, ◌∙◌}
 use native.Mathlib.Omega.{arith}
 use borrow.Author.Tests.{lt-leb, le-leb}

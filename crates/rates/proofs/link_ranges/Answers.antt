@@ -1,3 +1,4 @@
+-- Each turn goes on from where the search before has ended.
 use mathlib.Core.Path.{◌≡◌, ◌∙◌}
 use Prim.Native.Nat.{◌+◌, ◌-◌}
 use native.Mathlib.Omega.{arith}

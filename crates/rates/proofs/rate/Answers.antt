@@ -1,3 +1,4 @@
+-- Each turn adds the term of one link, and every sum on the way fits.
 use mathlib.Core.Path.{◌≡◌, ap, ◌∙◌}
 use Prim.Native.Nat.{◌+◌, ◌-◌}
 use native.Mathlib.Omega.{arith}

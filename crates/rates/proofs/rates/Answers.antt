@@ -1,3 +1,4 @@
+-- Each turn stores the rate of one integrator more.
 use mathlib.Core.Path.{◌≡◌}
 use native.Mathlib.Omega.{arith}
 use borrow.Author.Rules.{sfits_of}

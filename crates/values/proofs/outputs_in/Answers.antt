@@ -1,3 +1,4 @@
+-- Each turn stores one output more.
 use mathlib.Core.Path.{◌≡◌}
 use mathlib.Core.List.{List}
 use Prim.Native.Nat.{ℕ, ◌+◌}

@@ -1,3 +1,4 @@
+-- The lowest node of the mask is worked out in each turn, and the rest is left.
 use mathlib.Core.Path.{◌≡◌, refl}
 use Prim.Native.Nat.{ℕ, ◌^◌, ◌≤◌, ◌<◌}
 use native.Mathlib.Nat.{lt_of_lt_of_le}

@@ -1,3 +1,4 @@
+-- Each turn tests one entry more.
 use borrow.Author.Rules.{rules}
 use mathlib.Core.Path.{◌≡◌, sym}
 use native.Mathlib.Omega.{arith}

@@ -1,3 +1,4 @@
+-- Each return is its case of the definition.
 use borrow.Author.Tests.{lt-ltb, le-ltb}
 use Rattle.machine.specs.Entries.{entry_tick}
 use Rattle.timing.proofs.entries.entry_tick.Goals as goal

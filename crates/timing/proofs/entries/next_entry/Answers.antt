@@ -1,3 +1,4 @@
+-- The loop ends at the first entry above the clock, or behind the last entry.
 use borrow.Author.Count.{below_more}
 use borrow.Author.Rules.{rules}
 use mathlib.Core.Path.{◌≡◌, refl}

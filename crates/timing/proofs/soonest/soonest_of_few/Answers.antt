@@ -1,3 +1,4 @@
+-- Each turn takes in one integrator more.
 use mathlib.Core.Path.{◌≡◌, ◌∙◌}
 use native.Mathlib.Omega.{arith}
 use Rattle.timing.proofs.Laws.OnePass.{none_passed, one_more}

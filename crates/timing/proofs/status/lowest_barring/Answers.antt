@@ -1,3 +1,4 @@
+-- The lowest that is left bars the instant, or is taken off.
 use borrow.Author.Rules.{rules, sfits_of}
 use mathlib.Core.Path.{◌≡◌, refl, ◌∙◌}
 use mathlib.Core.Bool.{true, false}

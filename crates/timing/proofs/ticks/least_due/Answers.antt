@@ -1,3 +1,4 @@
+-- Each turn takes in four due ticks more, or one.
 use mathlib.Core.Path.{◌≡◌, refl, sym, ap, ◌∙◌}
 use native.Mathlib.Omega.{arith}
 use Rattle.machine.specs.Next.{least_due}
