@@ -1,6 +1,6 @@
 -- Laws: what is printed fits the program's buffer: 64 instants have at most 2,560 events of 26 characters, and the end line has 40. Assumes
 -- nothing.
-use Rattle.std.specs.Prelude.{refl, Bool, true, false, cond, List, [], ◌++◌, ℕ, ◌+◌, ◌/◌, ◌≤◌, eqb}
+use Rattle.std.specs.Prelude.{refl, Bool, true, false, cond, List, [], ◌++◌, ℕ, ◌/◌, ◌≤◌, eqb}
 use Rattle.std.proofs.Common.{arith, length-append, length-take}
 use Rattle.std.proofs.Math.ListN.{length}
 use Rattle.words.specs.Word.{Bytes}

@@ -1,0 +1,38 @@
+-- The run is accepted, its lines are written, and behind the last of them the end line.
+use Rattle.listingturns.proofs.Laws.Answers.{lines_ready, turn_paused, end-ready, turn_stopped}
+use Rattle.listingturns.proofs.take_turn.Goals as goal
+
+pub write_lines-lines-requires : goal.write_lines-lines-requires
+write_lines-lines-requires c =
+    let a = c.args in
+    let r = c.requires in
+    let ran = c.run_lazy-ran.ensures in
+    lines_ready a.state r.sound a.events.now r.room.0 ran.answer ran.buffer r.room.1
+
+pub returns-then-ran-eq-PAUSED : goal.returns-then-ran-eq-PAUSED
+returns-then-ran-eq-PAUSED c =
+    let a = c.args in
+    let r = c.requires in
+    let ran = c.run_lazy-ran.ensures in
+    let turn =
+    turn_paused a.state r.sound a.events.now r.room.0 ran.answer ran.buffer r.room.1 c.write_lines-lines.ensures c.if-ran-eq-PAUSED.true
+    in
+    record { answer = turn.0; events = turn.1.0; text = turn.1.1 }
+
+pub write_end-end-requires : goal.write_end-end-requires
+write_end-end-requires c =
+    let a = c.args in
+    let r = c.requires in
+    let ran = c.run_lazy-ran.ensures in
+    end-ready a.state r.sound a.events.now r.room.0 ran.answer ran.buffer r.room.1 c.write_lines-lines.ensures
+
+pub returns : goal.returns
+returns c =
+    let a = c.args in
+    let r = c.requires in
+    let ran = c.run_lazy-ran.ensures in
+    let turn =
+    turn_stopped a.state r.sound a.events.now r.room.0 ran.answer ran.buffer r.room.1 c.write_lines-lines.ensures c.write_end-end.ensures
+    c.if-ran-eq-PAUSED.false
+    in
+    record { answer = turn.0; events = turn.1.0; text = turn.1.1 }
