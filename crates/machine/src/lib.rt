@@ -20,7 +20,7 @@ pub struct Clocks {
 
 // Per integrator position x, output q, slope s, last-moved tick l and due tick d, 0 in the unused entries; the input values; the clock and the counts.
 #[repr(C)]
-#[derive(Drop)]
+#[derive(Clone, Copy)]
 pub struct Running {
     pub x: [i64; INTEGRATORS],
     pub q: [i64; INTEGRATORS],
@@ -32,7 +32,7 @@ pub struct Running {
 }
 
 #[repr(C)]
-#[derive(Drop)]
+#[derive(Clone, Copy)]
 pub struct State {
     pub plan: Plan,
     pub run: Running,
