@@ -2,7 +2,7 @@
 use Rattle.std.proofs.Common.{ap, ◌∙◌}
 use Rattle.plan.specs.Refusals.{number_of}
 use Rattle.plan.proofs.Laws.FileRefusals.{accepted-rules}
-use Rattle.entryrules.proofs.Laws.ChecksInOrder.{not_clean}
+use Rattle.entryrules.proofs.Laws.ChecksInOrder.{not_clean_else}
 use Rattle.planfile.proofs.Laws.Reading.{reading_finding, reading_plan, reading_accepts, reading_refuses}
 use Rattle.cup.proofs.Laws.Rewriting.{rewrite_refused, rewrite_short, rewrite_done}
 use Rattle.cup.proofs.cup_rewrite.Goals as goal
@@ -12,7 +12,7 @@ returns-in_default c =
     let a = c.args in
     let reading = c.read_plan-reading.ensures in
     let number = c.number_of.ensures ∙ ap number_of (reading_finding a.file.now reading) in
-    let refused = rewrite_refused a.file.now a.buffer.now (reading_refuses a.file.now reading (not_clean _ c.in_default.not-Clean)) in
+    let refused = rewrite_refused a.file.now a.buffer.now (reading_refuses a.file.now reading (not_clean_else _ c.in_default.not-Clean)) in
     record { answer = number ∙ refused.0; written = refused.1.0; buffer = refused.1.1 }
 
 pub write_plan-answer-requires : goal.write_plan-answer-requires

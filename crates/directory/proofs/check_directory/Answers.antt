@@ -7,7 +7,7 @@ use Rattle.plan.specs.Numbers.{header_bytes}
 use Rattle.plan.specs.Tests.{long_enough, offsets_kept, sizes_kept}
 use Rattle.plan.specs.Refusals.{number_of, is_clean, unless, or_else}
 use Rattle.plan.specs.declared.Finding.TheVariants.{Offsets, Sizes}
-use Rattle.entryrules.proofs.Laws.ChecksInOrder.{tried, refused, not_clean}
+use Rattle.entryrules.proofs.Laws.ChecksInOrder.{tried, refused, not_clean_else}
 use Rattle.directory.specs.Directory.{directory_finding}
 use Rattle.directory.proofs.check_directory.Goals.{Else-file-lt-HEADER_BYTES}
 use Rattle.directory.proofs.check_directory.Goals as goal
@@ -25,7 +25,7 @@ returns-then-file-lt-HEADER_BYTES c =
     sym (rw (lt-leb header_bytes (length file) (omega arith)))
 
 pub returns-in_default : goal.returns-in_default
-returns-in_default c = refused _ (left (goal.at.returns-in_default c).Else-file-lt-HEADER_BYTES) c.check_offsets-found.ensures (not_clean _ c.in_default.not-Clean)
+returns-in_default c = refused _ (left (goal.at.returns-in_default c).Else-file-lt-HEADER_BYTES) c.check_offsets-found.ensures (not_clean_else _ c.in_default.not-Clean)
 
 pub returns : goal.returns
 returns c =

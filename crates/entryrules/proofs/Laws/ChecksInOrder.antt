@@ -22,18 +22,18 @@ module _ {whole f found : Finding} (next : Finding) (left : whole ≡ or_else f 
   refused k = rw (left, ← result, k)
 
 -- behind `let Finding::Clean = found else`
-pub not_clean : (f : Finding) → (f ≡ Clean → ⊥) → is_clean f ≡ false
+pub not_clean_else : (f : Finding) → (f ≡ Clean → ⊥) → is_clean f ≡ false
 unfolding is_clean number_of
-not_clean Clean k = absurd (k refl)
-not_clean Short k = refl
-not_clean Offsets k = refl
-not_clean Sizes k = refl
-not_clean Horizon k = refl
-not_clean (Integrator i) k = refl
-not_clean (Input j) k = refl
-not_clean (Node j) k = refl
-not_clean (Link e) k = refl
-not_clean (Command e) k = refl
+not_clean_else Clean k = absurd (k refl)
+not_clean_else Short k = refl
+not_clean_else Offsets k = refl
+not_clean_else Sizes k = refl
+not_clean_else Horizon k = refl
+not_clean_else (Integrator i) k = refl
+not_clean_else (Input j) k = refl
+not_clean_else (Node j) k = refl
+not_clean_else (Link e) k = refl
+not_clean_else (Command e) k = refl
 
 -- two checks that are tried as one
 pub or_else_join : (a b c : Finding) → or_else a (or_else b c) ≡ or_else (or_else a b) c
@@ -50,5 +50,5 @@ no_key k [] e = omega arith
 no_key k (j ∷ ks) (inl e) = omega arith
 no_key k (j ∷ ks) (inr o) = no_key j ks o
 
-pub not_clean_by_number : (f : Finding) → OneOf (1 ∷ 2 ∷ 3 ∷ 4 ∷ 5 ∷ 6 ∷ 7 ∷ 8 ∷ 9 ∷ []) (tag_of the_type f) → is_clean f ≡ false
-not_clean_by_number f k = not_clean f (λ e. no_key 0 (1 ∷ 2 ∷ 3 ∷ 4 ∷ 5 ∷ 6 ∷ 7 ∷ 8 ∷ []) (rw e at k))
+pub not_clean : (f : Finding) → OneOf (1 ∷ 2 ∷ 3 ∷ 4 ∷ 5 ∷ 6 ∷ 7 ∷ 8 ∷ 9 ∷ []) (tag_of the_type f) → is_clean f ≡ false
+not_clean f k = not_clean_else f (λ e. no_key 0 (1 ∷ 2 ∷ 3 ∷ 4 ∷ 5 ∷ 6 ∷ 7 ∷ 8 ∷ []) (rw e at k))

@@ -42,8 +42,8 @@ pub answered : {z : ℤ} {r : Bool} → SFits w64 z → r ≡ within M (rd z) �
 answered f e = e ∙ ap (within M) (to_z-of_z f)
 
 -- and r, or `!r`, was tested
-pub tested : {z : ℤ} {r t : Bool} → SFits w64 z → r ≡ within M (rd z) → r ≡ t → within M z ≡ t
-tested f e t = sym (answered f e) ∙ t
+pub within_by_answer : {z : ℤ} {r t : Bool} → SFits w64 z → r ≡ within M (rd z) → r ≡ t → within M z ≡ t
+within_by_answer f e t = sym (answered f e) ∙ t
 
-pub tested_not : {z : ℤ} {r t : Bool} → SFits w64 z → r ≡ within M (rd z) → not r ≡ t → within M z ≡ not t
-tested_not {r = r} f e t = sym (answered f e) ∙ sym (not-not r) ∙ ap not t
+pub tested : {z : ℤ} {r t : Bool} → SFits w64 z → r ≡ within M (rd z) → not r ≡ t → within M z ≡ not t
+tested {r = r} f e t = sym (answered f e) ∙ sym (not-not r) ∙ ap not t

@@ -18,18 +18,18 @@ pub element : {z : ℤ} → mag z < 2 ^ hbits w64 → rd z ≡ z
 element h = to_z-of_z {w = w64} (sfits_of h)
 
 -- What a test says once the code has looked at the function's answer by `if !answer`.
-pub held : {answer test : Bool} → answer ≡ test → answer ≡ true → test ≡ true
-held e t = sym e ∙ t
+pub true_by_answer : {answer test : Bool} → answer ≡ test → answer ≡ true → test ≡ true
+true_by_answer e t = sym e ∙ t
 
-pub failed : {answer test : Bool} → answer ≡ test → answer ≡ false → test ≡ false
-failed e t = sym e ∙ t
+pub false_by_answer : {answer test : Bool} → answer ≡ test → answer ≡ false → test ≡ false
+false_by_answer e t = sym e ∙ t
 
 -- The same by the value of `!answer` itself.
-pub held_not : {answer test : Bool} → answer ≡ test → not answer ≡ false → test ≡ true
-held_not e t = held e (not-false _ t)
+pub held : {answer test : Bool} → answer ≡ test → not answer ≡ false → test ≡ true
+held e t = true_by_answer e (not-false _ t)
 
-pub failed_not : {answer test : Bool} → answer ≡ test → not answer ≡ true → test ≡ false
-failed_not e t = failed e (not-true _ t)
+pub failed : {answer test : Bool} → answer ≡ test → not answer ≡ true → test ≡ false
+failed e t = false_by_answer e (not-true _ t)
 
 module _ (test : ℕ → Bool) where
   pub every-none : every test 0 ≡ true

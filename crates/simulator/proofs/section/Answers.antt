@@ -3,7 +3,7 @@ use native.Mathlib.Omega.{arith}
 use mathlib.Core.Path.{sym, ◌∙◌}
 use Rattle.plan.proofs.Laws.View.{view-shown, view-refused, view-above, start-shown, start-refused, start-above}
 use Rattle.directory.proofs.Laws.Directory.{directory_accepted}
-use Rattle.entryrules.proofs.Laws.ChecksInOrder.{not_clean}
+use Rattle.entryrules.proofs.Laws.ChecksInOrder.{not_clean_else}
 use Rattle.directory.proofs.Laws.Pointers.{further-none}
 use Rattle.planfile.proofs.Laws.Reading.{finding_accepts, finding_refuses}
 use Rattle.simulator.proofs.section.Goals as goal
@@ -19,7 +19,7 @@ returns-then-number-ge-SECTIONS c =
 pub returns-in_default : goal.returns-in_default
 returns-in_default c =
     let a = c.args in
-    let refuses = finding_refuses a.file.now c.finding_of-found.ensures (not_clean _ c.in_default.not-Clean) in
+    let refuses = finding_refuses a.file.now c.finding_of-found.ensures (not_clean_else _ c.in_default.not-Clean) in
     record {
       answer = sym (view-refused a.file.now a.number refuses);
       place = rw (start-refused a.file.now a.number refuses) (further-none a.file.ref_ptr);

@@ -6,7 +6,7 @@ use mir.Facts.{to_z-of_z}
 use mir.Syntax.{w64}
 use mir.Val.{SFits}
 use Rattle.plan.specs.Lists.{int_at}
-use Rattle.entryrules.proofs.Laws.Testing.{every-none, every_more, every_fails, held, failed}
+use Rattle.entryrules.proofs.Laws.Testing.{every-none, every_more, every_fails, true_by_answer, false_by_answer}
 use Rattle.timing.proofs.Laws.Arithmetic.{upper_made, lower_made, upper-read, lower-read}
 use Rattle.soundintegrators.proofs.Laws.OneIntegrator.{figures_in}
 use Rattle.soundintegrators.proofs.integrators_sound.Goals.{After-figures_sound}
@@ -41,12 +41,12 @@ answer c =
 pub returns-then-not-figures_sound : goal.returns-then-not-figures_sound
 returns-then-not-figures_sound c =
     let called = (goal.at.returns-then-not-figures_sound c).After-figures_sound in
-    sym (every_fails _ _ _ c.loop-i-test.true (failed (answer called) c.if-not-figures_sound.true))
+    sym (every_fails _ _ _ c.loop-i-test.true (false_by_answer (answer called) c.if-not-figures_sound.true))
 
 pub loop-i-preserved : goal.loop-i-preserved
 loop-i-preserved c =
     let called = (goal.at.loop-i-preserved c).After-figures_sound in
-    (omega arith, every_more _ c.loop-i.invariant.1 (held (answer called) c.if-not-figures_sound.false))
+    (omega arith, every_more _ c.loop-i.invariant.1 (true_by_answer (answer called) c.if-not-figures_sound.false))
 
 pub returns : goal.returns
 returns c = let all : c.loop-i.i ≡ c.args.n = omega arith in sym (rw (← all) c.loop-i.invariant.1)

@@ -6,7 +6,7 @@ use Rattle.plan.specs.Lent.{plan_lent}
 use Rattle.machine.specs.Lent.{running_lent}
 use Rattle.machine.specs.SoundTest.{plan_sound}
 use Rattle.machine.specs.declared.Running.{Running}
-use Rattle.entryrules.proofs.Laws.Testing.{held, failed}
+use Rattle.entryrules.proofs.Laws.Testing.{true_by_answer, false_by_answer}
 use Rattle.soundness.proofs.Laws.Answers.{sound-rules, plan-unsound, plan_passed}
 use Rattle.soundness.proofs.test_state.Goals.{Start, Else-not-plan_sound}
 use Rattle.soundness.proofs.test_state.Goals as goal
@@ -24,11 +24,11 @@ run c =
 pub returns-then-not-plan_sound : goal.returns-then-not-plan_sound
 returns-then-not-plan_sound c =
     let s = (goal.at.returns-then-not-plan_sound c).Start in
-    plan-unsound (plan s) (run s) (failed {test = plan_sound (plan s)} c.plan_sound.ensures c.if-not-plan_sound.true) c.unsound.ensures
+    plan-unsound (plan s) (run s) (false_by_answer {test = plan_sound (plan s)} c.plan_sound.ensures c.if-not-plan_sound.true) c.unsound.ensures
 
 -- behind the test
 sound : (c : Else-not-plan_sound) → plan_sound (plan (goal.at.Else-not-plan_sound c).Start) ≡ true
-sound c = held c.plan_sound.ensures c.if-not-plan_sound.false
+sound c = true_by_answer c.plan_sound.ensures c.if-not-plan_sound.false
 
 pub running_tested-requires : goal.running_tested-requires
 running_tested-requires c =

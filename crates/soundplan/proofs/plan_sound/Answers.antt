@@ -11,7 +11,7 @@ use Rattle.plan.proofs.Laws.PlanTests.{counts_kept_lem}
 use Rattle.plan.specs.declared.Plan.{Plan}
 use Rattle.plan.specs.Lent.{plan_lent}
 use Rattle.machine.specs.SoundTest.{plan_sound}
-use Rattle.entryrules.proofs.Laws.Testing.{held, failed}
+use Rattle.entryrules.proofs.Laws.Testing.{true_by_answer, false_by_answer}
 use Rattle.unusedentries.proofs.Laws.EarlyReturns.{passes, Passed, begin, next, fails, last}
 use Rattle.soundplan.proofs.Laws.SectionTests.{plan_clauses, section_tests}
 use Rattle.soundplan.proofs.plan_sound.Goals.{Start, After-counts_kept, Else-not-counts_kept, Else-not-horizon_kept, Else-not-integrators_kept, Else-not-inputs_kept, Else-not-nodes_kept, Else-not-links_kept, After-commands_kept}
@@ -36,11 +36,11 @@ unfolding counts_kept count_list
 counted c = c.counts_kept.ensures
 
 pub returns-then-not-counts_kept : goal.returns-then-not-counts_kept
-returns-then-not-counts_kept c = let s = (goal.at.returns-then-not-counts_kept c).Start in fails (tests s) (all_of s) 0 (lit< tt) (failed (counted (goal.at.returns-then-not-counts_kept c).After-counts_kept) c.if-not-counts_kept.true)
+returns-then-not-counts_kept c = let s = (goal.at.returns-then-not-counts_kept c).Start in fails (tests s) (all_of s) 0 (lit< tt) (false_by_answer (counted (goal.at.returns-then-not-counts_kept c).After-counts_kept) c.if-not-counts_kept.true)
 
 -- behind each test: that this test has passed, and that all up to it have
 test1 : (c : Else-not-counts_kept) → get_or (tests (goal.at.Else-not-counts_kept c).Start) 0 true ≡ true
-test1 c = held (counted (goal.at.Else-not-counts_kept c).After-counts_kept) c.if-not-counts_kept.false
+test1 c = true_by_answer (counted (goal.at.Else-not-counts_kept c).After-counts_kept) c.if-not-counts_kept.false
 
 passed1 : (c : Else-not-counts_kept) → Passed (tests (goal.at.Else-not-counts_kept c).Start) 1
 passed1 c = next (begin (tests (goal.at.Else-not-counts_kept c).Start)) (test1 c)
@@ -56,10 +56,10 @@ overflow_add-all c = let l = limits c in omega (arith, l.n, l.m, l.k)
 
 pub returns-then-not-horizon_kept : goal.returns-then-not-horizon_kept
 returns-then-not-horizon_kept c =
-    let s = (goal.at.returns-then-not-horizon_kept c).Start in fails (tests s) (all_of s) 1 (lit< tt) (failed c.horizon_kept.ensures c.if-not-horizon_kept.true)
+    let s = (goal.at.returns-then-not-horizon_kept c).Start in fails (tests s) (all_of s) 1 (lit< tt) (false_by_answer c.horizon_kept.ensures c.if-not-horizon_kept.true)
 
 test2 : (c : Else-not-horizon_kept) → get_or (tests (goal.at.Else-not-horizon_kept c).Start) 1 true ≡ true
-test2 c = held c.horizon_kept.ensures c.if-not-horizon_kept.false
+test2 c = true_by_answer c.horizon_kept.ensures c.if-not-horizon_kept.false
 
 passed2 : (c : Else-not-horizon_kept) → Passed (tests (goal.at.Else-not-horizon_kept c).Start) 2
 passed2 c = next (passed1 (goal.at.Else-not-horizon_kept c).Else-not-counts_kept) (test2 c)
@@ -69,10 +69,10 @@ integrators_kept-requires c = (limits (goal.at.integrators_kept-requires c).Else
 
 pub returns-then-not-integrators_kept : goal.returns-then-not-integrators_kept
 returns-then-not-integrators_kept c =
-    let s = (goal.at.returns-then-not-integrators_kept c).Start in fails (tests s) (all_of s) 2 (lit< tt) (failed c.integrators_kept.ensures c.if-not-integrators_kept.true)
+    let s = (goal.at.returns-then-not-integrators_kept c).Start in fails (tests s) (all_of s) 2 (lit< tt) (false_by_answer c.integrators_kept.ensures c.if-not-integrators_kept.true)
 
 test3 : (c : Else-not-integrators_kept) → get_or (tests (goal.at.Else-not-integrators_kept c).Start) 2 true ≡ true
-test3 c = held c.integrators_kept.ensures c.if-not-integrators_kept.false
+test3 c = true_by_answer c.integrators_kept.ensures c.if-not-integrators_kept.false
 
 passed3 : (c : Else-not-integrators_kept) → Passed (tests (goal.at.Else-not-integrators_kept c).Start) 3
 passed3 c = next (passed2 (goal.at.Else-not-integrators_kept c).Else-not-horizon_kept) (test3 c)
@@ -82,10 +82,10 @@ inputs_kept-requires c = (limits (goal.at.inputs_kept-requires c).Else-not-count
 
 pub returns-then-not-inputs_kept : goal.returns-then-not-inputs_kept
 returns-then-not-inputs_kept c =
-    let s = (goal.at.returns-then-not-inputs_kept c).Start in fails (tests s) (all_of s) 3 (lit< tt) (failed c.inputs_kept.ensures c.if-not-inputs_kept.true)
+    let s = (goal.at.returns-then-not-inputs_kept c).Start in fails (tests s) (all_of s) 3 (lit< tt) (false_by_answer c.inputs_kept.ensures c.if-not-inputs_kept.true)
 
 test4 : (c : Else-not-inputs_kept) → get_or (tests (goal.at.Else-not-inputs_kept c).Start) 3 true ≡ true
-test4 c = held c.inputs_kept.ensures c.if-not-inputs_kept.false
+test4 c = true_by_answer c.inputs_kept.ensures c.if-not-inputs_kept.false
 
 passed4 : (c : Else-not-inputs_kept) → Passed (tests (goal.at.Else-not-inputs_kept c).Start) 4
 passed4 c = next (passed3 (goal.at.Else-not-inputs_kept c).Else-not-integrators_kept) (test4 c)
@@ -95,10 +95,10 @@ nodes_kept-requires c = let l = limits (goal.at.nodes_kept-requires c).Else-not-
 
 pub returns-then-not-nodes_kept : goal.returns-then-not-nodes_kept
 returns-then-not-nodes_kept c =
-    let s = (goal.at.returns-then-not-nodes_kept c).Start in fails (tests s) (all_of s) 4 (lit< tt) (failed c.nodes_kept.ensures c.if-not-nodes_kept.true)
+    let s = (goal.at.returns-then-not-nodes_kept c).Start in fails (tests s) (all_of s) 4 (lit< tt) (false_by_answer c.nodes_kept.ensures c.if-not-nodes_kept.true)
 
 test5 : (c : Else-not-nodes_kept) → get_or (tests (goal.at.Else-not-nodes_kept c).Start) 4 true ≡ true
-test5 c = held c.nodes_kept.ensures c.if-not-nodes_kept.false
+test5 c = true_by_answer c.nodes_kept.ensures c.if-not-nodes_kept.false
 
 passed5 : (c : Else-not-nodes_kept) → Passed (tests (goal.at.Else-not-nodes_kept c).Start) 5
 passed5 c = next (passed4 (goal.at.Else-not-nodes_kept c).Else-not-inputs_kept) (test5 c)
@@ -108,10 +108,10 @@ links_kept-requires c = (limits (goal.at.links_kept-requires c).Else-not-counts_
 
 pub returns-then-not-links_kept : goal.returns-then-not-links_kept
 returns-then-not-links_kept c =
-    let s = (goal.at.returns-then-not-links_kept c).Start in fails (tests s) (all_of s) 5 (lit< tt) (failed c.links_kept.ensures c.if-not-links_kept.true)
+    let s = (goal.at.returns-then-not-links_kept c).Start in fails (tests s) (all_of s) 5 (lit< tt) (false_by_answer c.links_kept.ensures c.if-not-links_kept.true)
 
 test6 : (c : Else-not-links_kept) → get_or (tests (goal.at.Else-not-links_kept c).Start) 5 true ≡ true
-test6 c = held c.links_kept.ensures c.if-not-links_kept.false
+test6 c = true_by_answer c.links_kept.ensures c.if-not-links_kept.false
 
 passed6 : (c : Else-not-links_kept) → Passed (tests (goal.at.Else-not-links_kept c).Start) 6
 passed6 c = next (passed5 (goal.at.Else-not-links_kept c).Else-not-nodes_kept) (test6 c)

@@ -6,16 +6,16 @@ use borrow.Author.Rules.{rules}
 use Rattle.integers.specs.Range.{within}
 use Rattle.plan.specs.Numbers.{M}
 use Rattle.plan.specs.Tests.{node_test}
-use Rattle.entryrules.proofs.Laws.Comparing.{comparing, tested}
+use Rattle.entryrules.proofs.Laws.Comparing.{comparing, within_by_answer}
 use Rattle.entryrules.proofs.entries.node_test.Goals.{Else-not-value_within_m, Else-not-value_within_m-2}
 use Rattle.entryrules.proofs.entries.node_test.Goals as goal
 
 -- past the calls, lo and hi are within ±M
 low : (c : Else-not-value_within_m) → within M c.args.lo ≡ true
-low c = tested c.ranges.lo c.value_within_m.ensures c.if-not-value_within_m.false
+low c = within_by_answer c.ranges.lo c.value_within_m.ensures c.if-not-value_within_m.false
 
 high : (c : Else-not-value_within_m-2) → within M c.args.hi ≡ true
-high c = tested c.ranges.hi c.value_within_m-2.ensures c.if-not-value_within_m-2.false
+high c = within_by_answer c.ranges.hi c.value_within_m-2.ensures c.if-not-value_within_m-2.false
 
 pub returns-then-own-a : goal.returns-then-own-a
 unfolding node_test
@@ -31,13 +31,13 @@ returns-then-kind-le-KIND_PRODUCT c =
 pub returns-then-not-value_within_m : goal.returns-then-not-value_within_m
 unfolding node_test
 returns-then-not-value_within_m c =
-    search (rules, comparing, tested c.ranges.lo c.value_within_m.ensures c.if-not-value_within_m.true)
+    search (rules, comparing, within_by_answer c.ranges.lo c.value_within_m.ensures c.if-not-value_within_m.true)
 
 pub returns-then-not-value_within_m-2 : goal.returns-then-not-value_within_m-2
 unfolding node_test
 returns-then-not-value_within_m-2 c =
     let hi = c.ranges.hi in
-    search (rules, comparing, low c.before.before, tested hi c.value_within_m-2.ensures c.if-not-value_within_m-2.true)
+    search (rules, comparing, low c.before.before, within_by_answer hi c.value_within_m-2.ensures c.if-not-value_within_m-2.true)
 
 pub returns-then-b-ne0 : goal.returns-then-b-ne0
 unfolding node_test

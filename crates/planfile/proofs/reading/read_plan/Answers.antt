@@ -6,7 +6,7 @@ use Rattle.plan.specs.Refusals.{plan_finding, finding_of}
 use Rattle.plan.proofs.Laws.FileRefusals.{counts_in}
 use Rattle.directory.specs.Directory.{Directory}
 use Rattle.directory.proofs.Laws.Directory.{directory_kept, finding_directory}
-use Rattle.entryrules.proofs.Laws.ChecksInOrder.{tried, refused, not_clean}
+use Rattle.entryrules.proofs.Laws.ChecksInOrder.{tried, refused, not_clean_else}
 use Rattle.planfile.proofs.Laws.Reading.{reading_refused, reading_accepted}
 use Rattle.planfile.proofs.reading.read_plan.Goals.{In-Clean, After-check_plan-found}
 use Rattle.planfile.proofs.reading.read_plan.Goals as goal
@@ -14,7 +14,7 @@ use Rattle.planfile.proofs.reading.read_plan.Goals as goal
 pub returns-in_default : goal.returns-in_default
 returns-in_default c =
     let file = c.args.file.now in
-    let broken = not_clean _ c.in_default.not-Clean in
+    let broken = not_clean_else _ c.in_default.not-Clean in
     c.refused.ensures ∙ reading_refused file (refused _ (finding_directory file) c.check_directory-found.ensures broken) broken
 
 -- what is known where the directory is clean
@@ -40,7 +40,7 @@ found c =
 pub returns-in_default-found : goal.returns-in_default-found
 returns-in_default-found c =
     c.refused-in_default-found.ensures
-    ∙ reading_refused _ (found (goal.at.returns-in_default-found c).After-check_plan-found) (not_clean _ c.in_default-found.not-Clean)
+    ∙ reading_refused _ (found (goal.at.returns-in_default-found c).After-check_plan-found) (not_clean_else _ c.in_default-found.not-Clean)
 
 pub returns : goal.returns
 returns c = reading_accepted _ (found (goal.at.returns c).After-check_plan-found) c.in-Clean-found.is c.decode-plan.ensures

@@ -5,7 +5,7 @@ use native.Mathlib.Omega.{arith}
 use Rattle.plan.specs.Lists.{int_at}
 use Rattle.plan.specs.Refusals.{number_of, is_clean}
 use Rattle.planrules.specs.Checks.{command_limits_at}
-use Rattle.entryrules.proofs.Laws.Testing.{element, held, failed}
+use Rattle.entryrules.proofs.Laws.Testing.{element, true_by_answer, false_by_answer}
 use Rattle.planrules.proofs.Laws.Findings.{begin, passed, found, none}
 use Rattle.planrules.proofs.checks.check_commands.Goals.{After-command_limits_test}
 use Rattle.planrules.proofs.checks.check_commands.Goals as goal
@@ -24,20 +24,20 @@ pub returns-then-not-command_limits_test : goal.returns-then-not-command_limits_
 unfolding number_of is_clean
 returns-then-not-command_limits_test c =
     let told = limits (goal.at.returns-then-not-command_limits_test c).After-command_limits_test in
-    found c.loop-e.invariant (omega arith) (λ e. refl) (rw (failed told c.if-not-command_limits_test.true))
+    found c.loop-e.invariant (omega arith) (λ e. refl) (rw (false_by_answer told c.if-not-command_limits_test.true))
 
 pub returns-then-not-command_ascends : goal.returns-then-not-command_ascends
 unfolding number_of is_clean
 returns-then-not-command_ascends c =
     let told = limits (goal.at.returns-then-not-command_ascends c).After-command_limits_test in
     found c.loop-e.invariant (omega arith) (λ e. refl)
-    (rw (held told c.if-not-command_limits_test.false) (failed c.command_ascends.ensures c.if-not-command_ascends.true))
+    (rw (true_by_answer told c.if-not-command_limits_test.false) (false_by_answer c.command_ascends.ensures c.if-not-command_ascends.true))
 
 pub loop-e-preserved : goal.loop-e-preserved
 loop-e-preserved c =
     let told = limits (goal.at.loop-e-preserved c).After-command_limits_test in
     passed c.loop-e.invariant (omega arith)
-    (rw (held told c.if-not-command_limits_test.false) (held c.command_ascends.ensures c.if-not-command_ascends.false))
+    (rw (true_by_answer told c.if-not-command_limits_test.false) (true_by_answer c.command_ascends.ensures c.if-not-command_ascends.false))
 
 pub returns : goal.returns
 returns c = none c.loop-e.invariant c.loop-e-test.false

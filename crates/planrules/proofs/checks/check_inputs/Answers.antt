@@ -5,7 +5,7 @@ use native.Mathlib.Omega.{arith}
 use Rattle.plan.specs.Lists.{int_at}
 use Rattle.plan.specs.Refusals.{number_of, is_clean}
 use Rattle.planrules.specs.Checks.{input_at}
-use Rattle.entryrules.proofs.Laws.Testing.{element, held, failed}
+use Rattle.entryrules.proofs.Laws.Testing.{element, true_by_answer, false_by_answer}
 use Rattle.planrules.proofs.Laws.Findings.{begin, passed, found, none}
 use Rattle.planrules.proofs.checks.check_inputs.Goals.{After-value_within_m}
 use Rattle.planrules.proofs.checks.check_inputs.Goals as goal
@@ -24,12 +24,12 @@ pub returns-then-not-value_within_m : goal.returns-then-not-value_within_m
 unfolding number_of is_clean
 returns-then-not-value_within_m c =
     let told = answer (goal.at.returns-then-not-value_within_m c).After-value_within_m in
-    found c.loop-j.invariant (omega arith) (λ e. refl) (failed told c.if-not-value_within_m.true)
+    found c.loop-j.invariant (omega arith) (λ e. refl) (false_by_answer told c.if-not-value_within_m.true)
 
 pub loop-j-preserved : goal.loop-j-preserved
 loop-j-preserved c =
     let told = answer (goal.at.loop-j-preserved c).After-value_within_m in
-    passed c.loop-j.invariant (omega arith) (held told c.if-not-value_within_m.false)
+    passed c.loop-j.invariant (omega arith) (true_by_answer told c.if-not-value_within_m.false)
 
 pub returns : goal.returns
 returns c = none c.loop-j.invariant c.loop-j-test.false

@@ -5,7 +5,7 @@ use native.Mathlib.Omega.{arith}
 use Rattle.plan.specs.Lists.{int_at}
 use Rattle.plan.specs.Refusals.{number_of, is_clean}
 use Rattle.planrules.specs.Checks.{integrator_at}
-use Rattle.entryrules.proofs.Laws.Testing.{element, held, failed}
+use Rattle.entryrules.proofs.Laws.Testing.{element, true_by_answer, false_by_answer}
 use Rattle.planrules.proofs.Laws.Findings.{begin, passed, found, none}
 use Rattle.planrules.proofs.checks.check_integrators.Goals.{After-integrator_test}
 use Rattle.planrules.proofs.checks.check_integrators.Goals as goal
@@ -25,12 +25,12 @@ pub returns-then-not-integrator_test : goal.returns-then-not-integrator_test
 unfolding number_of is_clean
 returns-then-not-integrator_test c =
     let told = answer (goal.at.returns-then-not-integrator_test c).After-integrator_test in
-    found c.loop-i.invariant (omega arith) (λ e. refl) (failed told c.if-not-integrator_test.true)
+    found c.loop-i.invariant (omega arith) (λ e. refl) (false_by_answer told c.if-not-integrator_test.true)
 
 pub loop-i-preserved : goal.loop-i-preserved
 loop-i-preserved c =
     let told = answer (goal.at.loop-i-preserved c).After-integrator_test in
-    passed c.loop-i.invariant (omega arith) (held told c.if-not-integrator_test.false)
+    passed c.loop-i.invariant (omega arith) (true_by_answer told c.if-not-integrator_test.false)
 
 pub returns : goal.returns
 returns c = none c.loop-i.invariant c.loop-i-test.false

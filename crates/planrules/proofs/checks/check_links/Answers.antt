@@ -5,7 +5,7 @@ use native.Mathlib.Omega.{arith}
 use Rattle.plan.specs.Lists.{int_at}
 use Rattle.plan.specs.Refusals.{number_of, is_clean}
 use Rattle.planrules.specs.Checks.{link_limits_at}
-use Rattle.entryrules.proofs.Laws.Testing.{element, held, failed}
+use Rattle.entryrules.proofs.Laws.Testing.{element, true_by_answer, false_by_answer}
 use Rattle.planrules.proofs.Laws.Findings.{begin, passed, found, none}
 use Rattle.planrules.proofs.checks.check_links.Goals.{After-link_limits_test}
 use Rattle.planrules.proofs.checks.check_links.Goals as goal
@@ -24,20 +24,20 @@ pub returns-then-not-link_limits_test : goal.returns-then-not-link_limits_test
 unfolding number_of is_clean
 returns-then-not-link_limits_test c =
     let told = limits (goal.at.returns-then-not-link_limits_test c).After-link_limits_test in
-    found c.loop-e.invariant (omega arith) (λ e. refl) (rw (failed told c.if-not-link_limits_test.true))
+    found c.loop-e.invariant (omega arith) (λ e. refl) (rw (false_by_answer told c.if-not-link_limits_test.true))
 
 pub returns-then-not-link_ascends : goal.returns-then-not-link_ascends
 unfolding number_of is_clean
 returns-then-not-link_ascends c =
     let told = limits (goal.at.returns-then-not-link_ascends c).After-link_limits_test in
     found c.loop-e.invariant (omega arith) (λ e. refl)
-    (rw (held told c.if-not-link_limits_test.false) (failed c.link_ascends.ensures c.if-not-link_ascends.true))
+    (rw (true_by_answer told c.if-not-link_limits_test.false) (false_by_answer c.link_ascends.ensures c.if-not-link_ascends.true))
 
 pub loop-e-preserved : goal.loop-e-preserved
 loop-e-preserved c =
     let told = limits (goal.at.loop-e-preserved c).After-link_limits_test in
     passed c.loop-e.invariant (omega arith)
-    (rw (held told c.if-not-link_limits_test.false) (held c.link_ascends.ensures c.if-not-link_ascends.false))
+    (rw (true_by_answer told c.if-not-link_limits_test.false) (true_by_answer c.link_ascends.ensures c.if-not-link_ascends.false))
 
 pub returns : goal.returns
 returns c = none c.loop-e.invariant c.loop-e-test.false

@@ -5,7 +5,7 @@ use native.Mathlib.Omega.{arith}
 use Rattle.plan.specs.Refusals.{number_of, is_clean}
 use Rattle.plan.specs.Lists.{int_at}
 use Rattle.planrules.specs.Checks.{node_at}
-use Rattle.entryrules.proofs.Laws.Testing.{element, held, failed}
+use Rattle.entryrules.proofs.Laws.Testing.{element, true_by_answer, false_by_answer}
 use Rattle.planrules.proofs.Laws.Findings.{begin, passed, found, none}
 use Rattle.planrules.proofs.checks.check_nodes.Goals.{After-node_test}
 use Rattle.planrules.proofs.checks.check_nodes.Goals as goal
@@ -25,12 +25,12 @@ pub returns-then-not-node_test : goal.returns-then-not-node_test
 unfolding number_of is_clean
 returns-then-not-node_test c =
     let told = answer (goal.at.returns-then-not-node_test c).After-node_test in
-    found c.loop-j.invariant (omega arith) (λ e. refl) (failed told c.if-not-node_test.true)
+    found c.loop-j.invariant (omega arith) (λ e. refl) (false_by_answer told c.if-not-node_test.true)
 
 pub loop-j-preserved : goal.loop-j-preserved
 loop-j-preserved c =
     let told = answer (goal.at.loop-j-preserved c).After-node_test in
-    passed c.loop-j.invariant (omega arith) (held told c.if-not-node_test.false)
+    passed c.loop-j.invariant (omega arith) (true_by_answer told c.if-not-node_test.false)
 
 pub returns : goal.returns
 returns c = none c.loop-j.invariant c.loop-j-test.false

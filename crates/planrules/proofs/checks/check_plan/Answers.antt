@@ -6,7 +6,7 @@ use Rattle.plan.specs.Refusals.{horizon_finding, integrators_finding, inputs_fin
 use Rattle.plan.specs.Refusals.{or_else}
 use Rattle.plan.proofs.Laws.CountLimits.{CountLimits, count-limits}
 use Rattle.plan.specs.declared.Plan.{Plan}
-use Rattle.entryrules.proofs.Laws.ChecksInOrder.{tried, refused, not_clean, or_else_join}
+use Rattle.entryrules.proofs.Laws.ChecksInOrder.{tried, refused, not_clean_else, or_else_join}
 use Rattle.plan.specs.Lent.{plan_lent}
 use Rattle.planrules.proofs.Laws.Findings.{from5, from6}
 use Rattle.planrules.proofs.checks.check_plan.Goals.{Start, In-Clean-found, In-Clean, In-Clean-found-2, In-Clean-found-3}
@@ -48,7 +48,7 @@ left4 c =
 
 pub returns-in_default : goal.returns-in_default
 unfolding plan_finding horizon_finding
-returns-in_default c = refused _ refl c.check_horizon-found.ensures (not_clean _ c.in_default.not-Clean)
+returns-in_default c = refused _ refl c.check_horizon-found.ensures (not_clean_else _ c.in_default.not-Clean)
 
 pub check_integrators-found-requires : goal.check_integrators-found-requires
 check_integrators-found-requires c = (limits (goal.at.check_integrators-found-requires c).Start).n
@@ -57,7 +57,7 @@ pub returns-in_default-found : goal.returns-in_default-found
 unfolding integrators_finding integrator_kept
 returns-in_default-found c =
     refused _ (left1 (goal.at.returns-in_default-found c).In-Clean) c.check_integrators-found.ensures
-    (not_clean _ c.in_default-found.not-Clean)
+    (not_clean_else _ c.in_default-found.not-Clean)
 
 pub check_inputs-found-requires : goal.check_inputs-found-requires
 check_inputs-found-requires c = (limits (goal.at.check_inputs-found-requires c).Start).m
@@ -66,7 +66,7 @@ pub returns-in_default-found-2 : goal.returns-in_default-found-2
 unfolding inputs_finding input_kept
 returns-in_default-found-2 c =
     refused _ (left2 (goal.at.returns-in_default-found-2 c).In-Clean-found) c.check_inputs-found.ensures
-    (not_clean _ c.in_default-found-2.not-Clean)
+    (not_clean_else _ c.in_default-found-2.not-Clean)
 
 pub check_nodes_and_links-found-requires : goal.check_nodes_and_links-found-requires
 check_nodes_and_links-found-requires c =
@@ -76,7 +76,7 @@ pub returns-in_default-found-3 : goal.returns-in_default-found-3
 unfolding nodes_finding node_kept links_finding link_limits_kept link_ordered
 returns-in_default-found-3 c =
     refused _ (left3 (goal.at.returns-in_default-found-3 c).In-Clean-found-2) c.check_nodes_and_links-found.ensures
-    (not_clean _ c.in_default-found-3.not-Clean)
+    (not_clean_else _ c.in_default-found-3.not-Clean)
 
 pub check_commands-requires : goal.check_commands-requires
 check_commands-requires c = (limits (goal.at.check_commands-requires c).Start).commands

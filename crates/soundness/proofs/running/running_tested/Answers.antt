@@ -19,7 +19,7 @@ use Rattle.machine.specs.SoundTest.{running_sound}
 use Rattle.machine.specs.declared.Running.{Running}
 use Rattle.tables.specs.Columns.{plan_tables}
 use Rattle.tables.proofs.Laws.OfPlan.{tables_ready, tables_are}
-use Rattle.entryrules.proofs.Laws.Testing.{held, failed}
+use Rattle.entryrules.proofs.Laws.Testing.{true_by_answer, false_by_answer}
 use Rattle.unusedentries.proofs.Laws.EarlyReturns.{passes, Passed, begin, next, passed_at, fails}
 use Rattle.soundness.specs.Testing.{unsound, running_tested_of}
 use Rattle.soundness.specs.declared.Tested.{Tested}
@@ -52,7 +52,7 @@ stops c k h e = figures-unsound (plan c) (run c) (fails (tests c) (all_of c) k h
 
 stops_by : (c : Start) {t : Tested} (k : ℕ) → k < 8 → {answer : Bool} → answer ≡ get_or (tests c) k true → answer ≡ false
     → t ≡ unsound → t ≡ running_tested_of (plan c) (run c)
-stops_by c k h e f = stops c k h (failed e f)
+stops_by c k h e f = stops c k h (false_by_answer e f)
 
 pub returns-then-clock-horizon : goal.returns-then-clock-horizon
 returns-then-clock-horizon c =
@@ -74,7 +74,7 @@ returns-then-not-values_within_m c =
     c.unsound-then-not-values_within_m.ensures
 
 test2 : (c : Else-not-values_within_m) → get_or (tests (goal.at.Else-not-values_within_m c).Start) 1 true ≡ true
-test2 c = held c.values_within_m.ensures c.if-not-values_within_m.false
+test2 c = true_by_answer c.values_within_m.ensures c.if-not-values_within_m.false
 
 passed2 : (c : Else-not-values_within_m) → Passed (tests (goal.at.Else-not-values_within_m c).Start) 2
 passed2 c = next (passed1 (goal.at.Else-not-values_within_m c).Else-clock-horizon) (test2 c)
@@ -88,7 +88,7 @@ returns-then-not-values_within_m-2 c =
     c.unsound-then-not-values_within_m-2.ensures
 
 test3 : (c : Else-not-values_within_m-2) → get_or (tests (goal.at.Else-not-values_within_m-2 c).Start) 2 true ≡ true
-test3 c = held c.values_within_m-2.ensures c.if-not-values_within_m-2.false
+test3 c = true_by_answer c.values_within_m-2.ensures c.if-not-values_within_m-2.false
 
 passed3 : (c : Else-not-values_within_m-2) → Passed (tests (goal.at.Else-not-values_within_m-2 c).Start) 3
 passed3 c = next (passed2 (goal.at.Else-not-values_within_m-2 c).Else-not-values_within_m) (test3 c)
@@ -125,7 +125,7 @@ returns-then-not-integrators_sound c =
     stops_by at.Start 3 (lit< tt) (answer at.After-integrators_sound) c.if-not-integrators_sound.true c.unsound-then-not-integrators_sound.ensures
 
 test4 : (c : Else-not-integrators_sound) → get_or (tests (goal.at.Else-not-integrators_sound c).Start) 3 true ≡ true
-test4 c = held (answer (goal.at.Else-not-integrators_sound c).After-integrators_sound) c.if-not-integrators_sound.false
+test4 c = true_by_answer (answer (goal.at.Else-not-integrators_sound c).After-integrators_sound) c.if-not-integrators_sound.false
 
 passed4 : (c : Else-not-integrators_sound) → Passed (tests (goal.at.Else-not-integrators_sound c).Start) 4
 passed4 c = next (passed3 (goal.at.Else-not-integrators_sound c).Else-not-values_within_m-2) (test4 c)
@@ -187,7 +187,7 @@ returns-then-not-running_unused_zero c =
     c.unsound-then-not-running_unused_zero.ensures
 
 test8 : (c : Else-not-running_unused_zero) → get_or (tests (goal.at.Else-not-running_unused_zero c).Start) 7 true ≡ true
-test8 c = held c.running_unused_zero.ensures c.if-not-running_unused_zero.false
+test8 c = true_by_answer c.running_unused_zero.ensures c.if-not-running_unused_zero.false
 
 passed8 : (c : Else-not-running_unused_zero) → Passed (tests (goal.at.Else-not-running_unused_zero c).Start) 8
 passed8 c = next (passed7 (goal.at.Else-not-running_unused_zero c).Else-updates-n) (test8 c)

@@ -8,7 +8,7 @@ use mir.Val.{SFits}
 use Rattle.integers.specs.Range.{within}
 use Rattle.plan.specs.Numbers.{M}
 use Rattle.plan.specs.Lists.{int_at}
-use Rattle.entryrules.proofs.Laws.Testing.{every-none, every_more, every_fails, held, failed}
+use Rattle.entryrules.proofs.Laws.Testing.{every-none, every_more, every_fails, true_by_answer, false_by_answer}
 use Rattle.soundness.proofs.running.values_within_m.Goals.{After-value_within_m}
 use Rattle.soundness.proofs.running.values_within_m.Goals as goal
 
@@ -24,12 +24,12 @@ answer c =
 pub returns-then-not-value_within_m : goal.returns-then-not-value_within_m
 returns-then-not-value_within_m c =
     let called = (goal.at.returns-then-not-value_within_m c).After-value_within_m in
-    sym (every_fails _ _ _ c.loop-i-test.true (failed (answer called) c.if-not-value_within_m.true))
+    sym (every_fails _ _ _ c.loop-i-test.true (false_by_answer (answer called) c.if-not-value_within_m.true))
 
 pub loop-i-preserved : goal.loop-i-preserved
 loop-i-preserved c =
     let called = (goal.at.loop-i-preserved c).After-value_within_m in
-    (omega arith, every_more _ c.loop-i.invariant.1 (held (answer called) c.if-not-value_within_m.false))
+    (omega arith, every_more _ c.loop-i.invariant.1 (true_by_answer (answer called) c.if-not-value_within_m.false))
 
 pub returns : goal.returns
 returns c = let all : c.loop-i.i ≡ c.args.count = omega arith in sym (rw (← all) c.loop-i.invariant.1)

@@ -7,7 +7,7 @@ use mathlib.Core.Path.{◌≡◌, refl}
 use Rattle.plan.specs.Lists.{every}
 use Rattle.plan.specs.Refusals.{is_clean}
 use Rattle.plan.specs.Unused.{ints_zero_from}
-use Rattle.entryrules.proofs.Laws.ChecksInOrder.{not_clean}
+use Rattle.entryrules.proofs.Laws.ChecksInOrder.{not_clean_else}
 use Rattle.planrules.specs.Checks.{inputs_check}
 use Rattle.unusedentries.proofs.Laws.EarlyReturns.{passes, Passed, begin, next, fails, last}
 use Rattle.soundplan.specs.Sections.{inputs_kept}
@@ -28,7 +28,7 @@ all_of c = refl
 
 pub returns-in_default : goal.returns-in_default
 returns-in_default c =
-    let s = (goal.at.returns-in_default c).Start in fails (tests s) (all_of s) 0 (lit< tt) (faulty c.check_inputs-found.ensures (not_clean _ c.in_default.not-Clean))
+    let s = (goal.at.returns-in_default c).Start in fails (tests s) (all_of s) 0 (lit< tt) (faulty c.check_inputs-found.ensures (not_clean_else _ c.in_default.not-Clean))
 
 -- behind each test: that this test has passed, and that all up to it have
 test1 : (c : In-Clean) → get_or (tests (goal.at.In-Clean c).Start) 0 true ≡ true

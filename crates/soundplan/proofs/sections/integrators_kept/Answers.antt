@@ -7,8 +7,8 @@ use mathlib.Core.Path.{◌≡◌, refl}
 use Rattle.plan.specs.Lists.{every}
 use Rattle.plan.specs.Refusals.{is_clean}
 use Rattle.plan.specs.Unused.{ints_zero_from}
-use Rattle.entryrules.proofs.Laws.ChecksInOrder.{not_clean}
-use Rattle.entryrules.proofs.Laws.Testing.{held, failed}
+use Rattle.entryrules.proofs.Laws.ChecksInOrder.{not_clean_else}
+use Rattle.entryrules.proofs.Laws.Testing.{true_by_answer, false_by_answer}
 use Rattle.planrules.specs.Checks.{integrators_check}
 use Rattle.unusedentries.proofs.Laws.EarlyReturns.{passes, Passed, begin, next, fails, last}
 use Rattle.soundplan.specs.Sections.{integrators_kept}
@@ -29,7 +29,7 @@ all_of c = refl
 
 pub returns-in_default : goal.returns-in_default
 returns-in_default c =
-    let s = (goal.at.returns-in_default c).Start in fails (tests s) (all_of s) 0 (lit< tt) (faulty c.check_integrators-found.ensures (not_clean _ c.in_default.not-Clean))
+    let s = (goal.at.returns-in_default c).Start in fails (tests s) (all_of s) 0 (lit< tt) (faulty c.check_integrators-found.ensures (not_clean_else _ c.in_default.not-Clean))
 
 -- behind each test: that this test has passed, and that all up to it have
 test1 : (c : In-Clean) → get_or (tests (goal.at.In-Clean c).Start) 0 true ≡ true
@@ -41,10 +41,10 @@ passed1 c = next (begin (tests (goal.at.In-Clean c).Start)) (test1 c)
 pub returns-then-not-signed_zero_from : goal.returns-then-not-signed_zero_from
 returns-then-not-signed_zero_from c =
     let s = (goal.at.returns-then-not-signed_zero_from c).Start in
-    fails (tests s) (all_of s) 1 (lit< tt) (failed c.signed_zero_from.ensures c.if-not-signed_zero_from.true)
+    fails (tests s) (all_of s) 1 (lit< tt) (false_by_answer c.signed_zero_from.ensures c.if-not-signed_zero_from.true)
 
 test2 : (c : Else-not-signed_zero_from) → get_or (tests (goal.at.Else-not-signed_zero_from c).Start) 1 true ≡ true
-test2 c = held c.signed_zero_from.ensures c.if-not-signed_zero_from.false
+test2 c = true_by_answer c.signed_zero_from.ensures c.if-not-signed_zero_from.false
 
 passed2 : (c : Else-not-signed_zero_from) → Passed (tests (goal.at.Else-not-signed_zero_from c).Start) 2
 passed2 c = next (passed1 (goal.at.Else-not-signed_zero_from c).In-Clean) (test2 c)
