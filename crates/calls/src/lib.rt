@@ -7,7 +7,7 @@ use machine::State;
 // Number 0 is acceptance; else it is one of document 01's refusals. A refused load gives the lowest faulty entry, and the idle state. Every
 // other refused call gives 0 for its other figures, and the state that was handed in.
 #[repr(C)]
-#[derive(Drop)]
+#[derive(Clone, Copy)]
 pub struct Loaded {
     pub number: usize,
     pub entry: usize,
@@ -15,7 +15,7 @@ pub struct Loaded {
 }
 
 #[repr(C)]
-#[derive(Drop)]
+#[derive(Clone, Copy)]
 pub struct Written {
     pub number: usize,
     pub length: usize,
@@ -23,7 +23,7 @@ pub struct Written {
 }
 
 #[repr(C)]
-#[derive(Drop)]
+#[derive(Clone, Copy)]
 pub struct Ran {
     pub number: usize,
     pub status: usize,
@@ -33,7 +33,7 @@ pub struct Ran {
 }
 
 #[repr(C)]
-#[derive(Drop)]
+#[derive(Clone, Copy)]
 pub struct Positioned {
     pub number: usize,
     pub value: i64,

@@ -126,7 +126,7 @@ pub fn cup_echo(state: State) -> State
 
 // The tables that a run starts with: where each integrator's links begin, what a change of each source reaches, and the value of each source.
 #[repr(C)]
-#[derive(Drop)]
+#[derive(Clone, Copy)]
 pub struct Tables {
     pub ranges: [usize; RANGES],
     pub reach: [u64; SOURCES],

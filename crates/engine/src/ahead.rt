@@ -6,7 +6,7 @@ use machine::Status;
 use plan::{COMMANDS, INTEGRATORS};
 use timing::{soonest_of, status_at};
 
-#[derive(Drop)]
+#[derive(Clone, Copy)]
 pub struct Ahead {
     pub tick: u32,
     pub due: u32,

@@ -14,7 +14,7 @@ use reach::reach_table;
 use values::{inputs_in, outputs_in};
 
 // The status of the state after a run, the bytes written from the buffer's start, and the running figures.
-#[derive(Drop)]
+#[derive(Clone, Copy)]
 pub struct Ended {
     pub status: Status,
     pub written: usize,

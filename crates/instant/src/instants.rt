@@ -13,7 +13,7 @@ use steps::{obey_entries, set_outputs, write_events};
 use values::work_out_nodes;
 
 // What an instant leaves, and the place behind its events.
-#[derive(Drop)]
+#[derive(Clone, Copy)]
 pub struct Taken {
     pub clocks: Clocks,
     pub end: usize,

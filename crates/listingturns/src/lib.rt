@@ -26,7 +26,7 @@ pub const TEXT_SPACE: usize = LISTING_BUDGET as usize * (INTEGRATORS + INPUTS) *
     + END_LINE_BYTES;
 
 // How many bytes of text stand at the start of the buffer, whether a turn follows, and the state for it.
-#[derive(Drop)]
+#[derive(Clone, Copy)]
 pub struct Turn {
     pub length: usize,
     pub more: bool,

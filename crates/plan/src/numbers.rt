@@ -21,7 +21,7 @@ pub const LARGEST_BUDGET: u64 = 1024;
 // "runs lazily with budget 64", the listing program.
 pub const LISTING_BUDGET: u64 = 64;
 
-#[derive(Drop)]
+#[derive(Clone, Copy)]
 pub struct Limits {
     pub value: i64,
     pub coefficient: i64,
@@ -61,7 +61,7 @@ pub const COMMANDS: usize = 64;
 // most.
 pub const SOURCES: usize = 64;
 
-#[derive(Drop)]
+#[derive(Clone, Copy)]
 pub struct Widths {
     pub integrators: usize,
     pub inputs: usize,
@@ -97,7 +97,7 @@ pub const SECTION_LINKS: usize = 3;
 
 pub const SECTION_COMMANDS: usize = 4;
 
-#[derive(Drop)]
+#[derive(Clone, Copy)]
 pub struct SectionNumbers {
     pub integrators: usize,
     pub inputs: usize,
@@ -129,7 +129,7 @@ pub const KIND_LIMIT: usize = 2;
 
 pub const KIND_COMPARISON: usize = 3;
 
-#[derive(Drop)]
+#[derive(Clone, Copy)]
 pub struct Kinds {
     pub difference: usize,
     pub product: usize,
@@ -181,7 +181,7 @@ pub const LISTING_INPUT: usize = LONGEST_FILE + 1;
 // "Events of an instant: .. 12 bytes each"
 pub const EVENT_BYTES: usize = 12;
 
-#[derive(Drop)]
+#[derive(Clone, Copy)]
 pub struct Sizes {
     pub sections: usize,
     pub header: usize,
@@ -245,7 +245,7 @@ pub const REFUSED_WRITE_BUFFER: usize = 13;
 
 pub const REFUSED_INTEGRATOR_NUMBER: usize = 14;
 
-#[derive(Drop)]
+#[derive(Clone, Copy)]
 pub struct Refusals {
     pub accepted: usize,
     pub short: usize,
@@ -295,7 +295,7 @@ pub const FINISHED: usize = 1;
 
 pub const RANGE: usize = 2;
 
-#[derive(Drop)]
+#[derive(Clone, Copy)]
 pub struct Statuses {
     pub paused: usize,
     pub finished: usize,

@@ -8,7 +8,7 @@ use plan::{Finding, Plan};
 use planrules::check_plan;
 
 // The plan of an accepted file, whose finding is `Clean`; else the finding, and the idle plan.
-#[derive(Drop)]
+#[derive(Clone, Copy)]
 pub struct FilePlan {
     pub finding: Finding,
     pub plan: Plan,

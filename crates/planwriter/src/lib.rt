@@ -74,7 +74,7 @@ fn write_header(buffer: &mut [u8], horizon: u32, counts: &[usize; SECTIONS])
 }
 
 // What the plan writer answers: that the buffer is shorter than the file, or the length of the file that it wrote.
-#[derive(Drop)]
+#[derive(Clone, Copy)]
 pub enum PlanWritten {
     Short,
     Length(usize),

@@ -126,7 +126,7 @@ fn entries_of(table: &[u64; SOURCES], changed: u64) -> u64
 }
 
 // The reached integrators, and the nodes that depend on a change.
-#[derive(Drop)]
+#[derive(Clone, Copy)]
 pub struct Reach {
     pub integrators: u32,
     pub nodes: u32,

@@ -18,7 +18,7 @@ use plan::{
 use soundness::test_state;
 
 // What a run answers beside the plan, which stays.
-#[derive(Drop)]
+#[derive(Clone, Copy)]
 pub struct Outcome {
     pub number: usize,
     pub status: usize,

@@ -14,7 +14,7 @@ use plan::{
 use soundness::test_state;
 
 // What the call answers beside the state, which stays.
-#[derive(Drop)]
+#[derive(Clone, Copy)]
 pub struct Found {
     pub number: usize,
     pub value: i64,

@@ -15,7 +15,7 @@ use planwriter::{PlanWritten, write_plan};
 use soundness::test_state;
 
 // What the call answers beside the state, which stays.
-#[derive(Drop)]
+#[derive(Clone, Copy)]
 pub struct Wrote {
     pub number: usize,
     pub length: usize,

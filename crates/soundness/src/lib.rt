@@ -16,7 +16,7 @@ use soundplan::plan_sound;
 mod running;
 
 // Whether a state is sound. If so, the tables that a run goes on with: where each integrator's links begin, and the value of each source. Else all 0.
-#[derive(Drop)]
+#[derive(Clone, Copy)]
 pub struct Tested {
     pub sound: bool,
     pub ranges: [usize; RANGES],

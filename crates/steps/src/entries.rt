@@ -6,7 +6,7 @@ use bitset::with_bit;
 use plan::{COMMANDS, SOURCES};
 
 // The numbers that entries of the tick set, and the next entry after them.
-#[derive(Drop)]
+#[derive(Clone, Copy)]
 pub struct Obeyed {
     pub numbers: u32,
     pub next: usize,

@@ -9,7 +9,7 @@ use rates::{RANGES, link_ranges, rates};
 use values::source_values;
 
 // Where each integrator's links begin, the value of each source, and the slope of each integrator.
-#[derive(Drop)]
+#[derive(Clone, Copy)]
 pub struct Tables {
     pub ranges: [usize; RANGES],
     pub values: [i64; SOURCES],

@@ -11,7 +11,7 @@ use bitset::{where_equal, with_bit};
 use plan::{COMMANDS, INTEGRATORS};
 
 // A tick, and the mask of the integrators that are due at it.
-#[derive(Drop)]
+#[derive(Clone, Copy)]
 pub struct Soonest {
     pub tick: u32,
     pub due: u32,
