@@ -155,9 +155,10 @@ fn only_speaks(path: &str) -> bool {
     path.ends_with(".md") || path.ends_with(".edit") || path.starts_with("rust/tests/pages/")
 }
 
-/// Folders whose names begin with a dot hold none.
+/// Folders whose names begin with a dot hold none. The record of the port begins with three commits
+/// and names what is no more.
 fn is_page(path: &str) -> bool {
-    path.ends_with(".md") && !path.starts_with('.')
+    path.ends_with(".md") && !path.starts_with('.') && path != "docs/PORT.md"
 }
 
 /// Adds the files below a folder. What a build or a check made is left out, and so is all whose name begins
