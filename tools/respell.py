@@ -1,7 +1,7 @@
 #!/usr/bin/env python3
 """Respells the repository's own definitions and lemmas: words in snake case, types and modules in camel case.
 
-usage: tools/respell.py FOLDER [--list]
+usage: tools/respell.py FOLDER [--list | --write]
 
 It ran once, right after port.py, and a second run finds nothing. A name counts if a file of crates/*/specs or crates/*/proofs declares it. A word that has
 capitals inside, as nextTick, becomes next_tick. In a lemma's name the parts are joined by _, and by a dash where two names of definitions meet, as in
