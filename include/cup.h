@@ -6,7 +6,7 @@
  * 0. The file must be readable, the buffer writable, and so must be the size_t that the last argument of
  * cup_read, cup_section and cup_rewrite points to. Neither the buffer nor that size_t may overlap
  * anything else that the call is given. A state is 9,808 bytes and goes by value, so a call takes up to
- * 60 KB of stack: give a thread that makes these calls 128 KB or more. docs/API.md has each call in C,
+ * 94 KB of stack: give a thread that makes these calls 128 KB or more. docs/API.md has each call in C,
  * Rust and Rattle, and docs/FORMAT.md the plan file and the events. */
 
 #ifndef CUP_H
