@@ -1,7 +1,7 @@
 -- Worked examples, computed by the checker: the calls on document 01's cup, with one theorem over their table: each refusal, the buffers,
 -- and a list of calls that mixes the engines and has two declined calls. What is brought in and opened here serves the comparison of the
 -- definitions with the second simulator too.
-use Rattle.std.specs.Prelude.{refl, List, [], ◌∷◌, ◌++◌, ℕ, ℤ, pos, replicate}
+use Rattle.std.specs.Prelude.{refl, Bool, true, false, List, [], ◌∷◌, ◌++◌, ℕ, ℤ, pos, negsuc, replicate}
 use Rattle.integers.specs.Division.{ceil_div}
 use Rattle.integers.specs.Range.{limited, within}
 use Rattle.bitset.specs.Counts.{count_of}
