@@ -32,6 +32,9 @@ def follow(name, renamed):
 
 
 def function_at(text, line):
-    """The function in whose text a line of the code stands."""
-    found = re.findall(r"\bfn (\w+)", "\n".join((text or "").split("\n")[:line]))
-    return found[-1] if found else None
+    """The function, or the constant, in whose text a line of the code stands. An attribute is of the function below it."""
+    lines = (text or "").split("\n")
+    while line < len(lines) and lines[line - 1].lstrip().startswith("#["):
+        line += 1
+    found = re.findall(r"\bfn (\w+)|^ *(?:pub )?const (\w+)", "\n".join(lines[:line]), re.M)
+    return "".join(found[-1]) if found else None

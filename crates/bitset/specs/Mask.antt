@@ -1,5 +1,5 @@
 -- Model of the code: a mask is a number read as a set, bit i set where i is in the set. Laws/Bits and Laws/Visiting say what is in each set.
-use Rattle.std.specs.Prelude.{Bool, true, cond, ℕ, zero, suc, ◌+◌, ◌-◌, ◌*◌, ◌/◌, ◌%◌, ◌^◌, eqb}
+use Rattle.std.specs.Prelude.{◌≡◌, Bool, true, cond, Option, MatchOption, ◌<◌, ℕ, zero, suc, ◌+◌, ◌-◌, ◌*◌, ◌/◌, ◌%◌, ◌^◌, eqb}
 use Rattle.std.specs.Int.Bits.{bit_and, bit_or}
 use Rattle.std.specs.Int.Count.{count_trailing_zeros}
 
@@ -40,3 +40,7 @@ rest_of m = bit_and m (m - 1)
 -- the i in `low`, all of them below n, and n + i for the i in `high`
 unfoldable pub union_shifted : ℕ → ℕ → ℕ → ℕ
 union_shifted low high n = high * 2 ^ n + low
+
+-- a turn of a walk over m, a mask of w bits: it takes the lowest and leaves t, or nothing where m is empty
+abbrev pub TakesLowest : (w m : ℕ) → Option ℕ → ℕ → Type 0
+TakesLowest w m taken t = MatchOption taken ((m ≡ 0) × (t ≡ 0)) (λ i. (0 < m) × (i ≡ lowest_of w m) × (t ≡ rest_of m))

@@ -1,58 +1,26 @@
-// Sets of small numbers as masks: bit i of a mask is set where i is in the set. Masks of 32 bits hold integrators, inputs or nodes; those of 64 bits, in
-// `wide`, sources, or integrators and nodes together. A set is visited in ascending order by `lowest` and `rest` while it is not 0.
+// Sets of small numbers as masks: bit i of a mask is set where i is in the set. Masks of 32 bits hold integrators, inputs or nodes; those of 64 bits
+// sources, or integrators and nodes together. `Mask` is what both can do. A set is visited in ascending order by `for i in mask.members()`.
 #![tactic(auto)]
 
 ghost use Rattle.std.specs.Prelude.{◌≡◌, ◌<◌, ◌≤◌, eqb, get_or};
 ghost use Rattle.bitset.specs.Mask.{has, mask_of, all_of, union, with_bit, lowest_of, rest_of};
 ghost use Rattle.bitset.specs.Counts.{count_of};
 
+mod mask;
+mod members;
+mod narrow;
 mod wide;
 
-pub use wide::{has64, lowest64, rest64, union_shifted, union64, with_bit64};
-
-// Whether i is in the set.
-pub fn has(mask: u32, i: usize) -> bool
-    requires { i < 32 }
-    ensures { result ≡ has mask i }
-{
-    (mask >> i) % 2 == 1
-}
-
-// The set, and i.
-pub fn with_bit(mask: u32, i: usize) -> u32
-    requires { i < 32 }
-    ensures { result ≡ with_bit mask i }
-{
-    mask | (1 << i)
-}
-
-// The lowest of the set, or 32 where the set is empty.
-pub fn lowest(mask: u32) -> usize
-    ensures { result ≡ lowest_of 32 mask }
-{
-    u32::trailing_zeros(mask) as usize
-}
-
-// The set without its lowest.
-pub fn rest(mask: u32) -> u32
-    requires { 0 < mask }
-    ensures { result ≡ rest_of mask }
-{
-    mask & (mask - 1)
-}
+pub use mask::Mask;
+pub use members::Members;
+pub use wide::union_shifted;
 
 // How many are in the set.
+#[tactic(auto, using(crate::proofs::Laws::Counts::ones_count))]
 pub fn count(mask: u32) -> usize
     ensures { result ≡ count_of (has mask) 32 }
 {
-    u32::count_ones(mask) as usize
-}
-
-// What is in a or in b.
-pub fn union(a: u32, b: u32) -> u32
-    ensures { result ≡ union a b }
-{
-    a | b
+    mask.count_ones() as usize
 }
 
 // All below n. The shift is by up to 32, so it needs more than 32 bits.
@@ -64,6 +32,7 @@ pub fn all(n: usize) -> u32
 }
 
 // The i below n with ticks[i] = t.
+// By place: the place is what goes into the mask. The first n of a column of fixed width, as C lays it out.
 pub fn where_equal(n: usize, ticks: &[u32; 32], t: u32) -> u32
     requires { n ≤ 32 }
     ensures { result ≡ mask_of (λ i. eqb (get_or ticks.now i 0) t) n }
@@ -71,7 +40,7 @@ pub fn where_equal(n: usize, ticks: &[u32; 32], t: u32) -> u32
     let mut equal: u32 = 0;
     for i in 0..n {
         if ticks[i] == t {
-            equal = with_bit(equal, i);
+            equal = equal.with_bit(i);
         }
     }
     equal

@@ -1,5 +1,6 @@
 // What the public calls answer, as structs. What each answers, lists of run calls, the promises and their proofs stand in specs; the calls themselves in the crate
 // `simulator`.
+// They are the C interface (include/cup.h), hence numbers and not a `Result` and an enum.
 #![tactic(auto)]
 
 use machine::State;

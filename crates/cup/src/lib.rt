@@ -1,4 +1,5 @@
 // The calls for C and Rust, which the crate `cup_c` exports. No call keeps anything, and none asks anything of the bytes or of the state.
+// They are the C interface, hence numbers, `&mut` for a second answer, and a call for each engine.
 #![tactic(auto)]
 
 ghost use Rattle.std.specs.Prelude.{◌≡◌, length};
@@ -8,29 +9,29 @@ ghost use Rattle.machine.specs.SoundTest.{is_sound};
 ghost use Rattle.machine.specs.declared.Engine.TheVariants.{Lazy, Eager};
 ghost use Rattle.calls.specs.Calls.{load_of, write_of, buffer_of_write, run_of, buffer_of_run, positioned_of};
 ghost use Rattle.cup.specs.Tables.{tables_of};
-ghost use Rattle.cup.specs.Rewriting.{rewrite_number, rewrite_length, rewrite_buffer};
+ghost use Rattle.cup.specs.Rewriting.{rewrite_number, rewrite_length, rewrite_buffer, RewriteAnswered};
 
 use directory::{offset_in, section_in};
 use machine::State;
-use plan::{ACCEPTED, Finding, REFUSED_WRITE_BUFFER, SECTION_INTEGRATORS, SECTIONS, SOURCES};
+use plan::{ACCEPTED, Refusal, SECTION_INTEGRATORS, SECTIONS, SOURCES};
 use planfile::{finding_of, read_plan};
 use planrules::{entry_of, number_of};
-use planwriter::{PlanWritten, write_plan};
+use planwriter::write_plan;
 use rates::RANGES;
 use reach::reach_table;
 use simulator::{
     Loaded, Positioned, Ran, Written, is_sound, load, position, run_eager, run_lazy, section, write,
 };
-use soundness::test_state;
+use soundness::{Tested, test_state};
 
 // Reads a plan file: the number, 0 where it is accepted, and the lowest faulty entry.
 pub fn cup_read(file: &[u8], entry: &mut usize) -> usize
     ensures answer { result ≡ number_of (finding_of file.now) }
     ensures entry { entry.new ≡ entry_of (finding_of file.now) }
 {
-    let found = finding_of(file);
-    *entry = entry_of(found);
-    number_of(found)
+    let finding = finding_of(file);
+    *entry = entry_of(finding);
+    number_of(finding)
 }
 
 // The section view: the length of the part, and where in the file it starts, an empty section too. Both are 0 if the file would be refused or the number
@@ -50,6 +51,14 @@ pub fn cup_section(file: &[u8], number: usize, offset: &mut usize) -> usize
     section_in(file, number).len()
 }
 
+// The length of the plan's file that is written, or the reader's refusal, or the writer's.
+fn rewritten(file: &[u8], buffer: &mut [u8]) -> Result<usize, Refusal>
+    ensures { RewriteAnswered file.now buffer.old result buffer.new }
+{
+    let plan = read_plan(file)?;
+    write_plan(&plan, buffer).ok_or(Refusal::WriteBuffer)
+}
+
 // Reads a plan file and writes its plan into the buffer: the number, and the length of what is written. Where the number is not 0 the length is 0,
 // and the buffer keeps every byte.
 pub fn cup_rewrite(file: &[u8], buffer: &mut [u8], written: &mut usize) -> usize
@@ -57,42 +66,12 @@ pub fn cup_rewrite(file: &[u8], buffer: &mut [u8], written: &mut usize) -> usize
     ensures written { written.new ≡ rewrite_length file.now (length buffer.old) }
     ensures buffer { buffer.new ≡ rewrite_buffer file.now buffer.old }
 {
-    let reading = read_plan(file);
-    let found = reading.finding;
-    let Finding::Clean = found else {
-        *written = 0;
-        return number_of(found);
+    let (number, length) = match rewritten(file, buffer) {
+        Ok(length) => (ACCEPTED, length),
+        Err(refusal) => (refusal.number(), 0),
     };
-    let plan = reading.plan;
-    let answer = write_plan(
-        plan.horizon,
-        plan.counts,
-        &plan.integrators.starts,
-        &plan.integrators.quanta,
-        &plan.inputs.firsts,
-        &plan.nodes.kinds,
-        &plan.nodes.a,
-        &plan.nodes.b,
-        &plan.nodes.lows,
-        &plan.nodes.highs,
-        &plan.links.targets,
-        &plan.links.sources,
-        &plan.links.coefficients,
-        &plan.commands.ticks,
-        &plan.commands.inputs,
-        &plan.commands.values,
-        buffer,
-    );
-    match answer {
-        PlanWritten::Short => {
-            *written = 0;
-            REFUSED_WRITE_BUFFER
-        }
-        PlanWritten::Length(length) => {
-            *written = length;
-            ACCEPTED
-        }
-    }
+    *written = length;
+    number
 }
 
 // The public call `load`.
@@ -137,51 +116,15 @@ pub struct Tables {
 pub fn cup_tables(state: State) -> Tables
     ensures { result ≡ tables_of state }
 {
-    let test = test_state(
-        state.plan.horizon,
-        state.plan.counts,
-        &state.plan.integrators.starts,
-        &state.plan.integrators.quanta,
-        &state.plan.inputs.firsts,
-        &state.plan.nodes.kinds,
-        &state.plan.nodes.a,
-        &state.plan.nodes.b,
-        &state.plan.nodes.lows,
-        &state.plan.nodes.highs,
-        &state.plan.links.targets,
-        &state.plan.links.sources,
-        &state.plan.links.coefficients,
-        &state.plan.commands.ticks,
-        &state.plan.commands.inputs,
-        &state.plan.commands.values,
-        &state.run.x,
-        &state.run.q,
-        &state.run.s,
-        &state.run.l,
-        &state.run.d,
-        &state.run.inputs,
-        state.run.clocks,
-    );
-    let ranges = test.ranges;
-    let values = test.values;
-    if !test.sound {
+    let Some(test) = test_state(&state.plan, &state.run) else {
         return Tables {
-            ranges,
+            ranges: [0; RANGES],
             reach: [0; SOURCES],
-            values,
+            values: [0; SOURCES],
         };
-    }
-    let counts = state.plan.counts;
-    let reach = reach_table(
-        counts.n + counts.m,
-        counts.k,
-        counts.links,
-        &state.plan.nodes.kinds,
-        &state.plan.nodes.a,
-        &state.plan.nodes.b,
-        &state.plan.links.targets,
-        &state.plan.links.sources,
-    );
+    };
+    let Tested { ranges, values } = test;
+    let reach = reach_table(&state.plan);
     Tables {
         ranges,
         reach,

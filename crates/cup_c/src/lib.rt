@@ -1,5 +1,6 @@
 // The calls of the crate `cup` for C and Rust, as a static library; `include/cup.h` declares them. A `&[u8]` is a pointer and a length, and a state goes in and
 // out by value. Each export promises what the call that it makes does.
+// No crate can depend on a static library, and only what it defines is exported: so the C interface needs each call once more.
 #![tactic(auto)]
 
 ghost use Rattle.std.specs.Prelude.{◌≡◌, length};

@@ -4,9 +4,8 @@ use Rattle.std.specs.Prelude.{List, ℕ, ◌≤◌, length}
 use Rattle.plan.specs.Numbers.{header_bytes}
 use Rattle.plan.specs.Tests.{long_enough, offsets_kept, sizes_kept}
 use Rattle.plan.specs.Rules.{OffsetRule, SizeRule}
-use Rattle.plan.specs.Refusals.{unless, or_else}
-use Rattle.plan.specs.declared.Finding.{Finding}
-use Rattle.plan.specs.declared.Finding.TheVariants.{Short, Offsets, Sizes}
+use Rattle.plan.specs.Refusals.{Finding, unless, or_else}
+use Rattle.plan.specs.declared.Refusal.TheVariants.{Short, Offsets, Sizes}
 
 unfoldable pub directory_finding : List ℕ → Finding
 directory_finding file =

@@ -2,8 +2,8 @@
 ghost use Rattle.std.specs.Prelude.{◌≡◌};
 ghost use Rattle.engine.specs.Ahead.{ahead_of, AheadReady};
 
-use machine::Status;
-use plan::{COMMANDS, INTEGRATORS};
+use machine::{Motion, Status};
+use plan::{Counts, Plan};
 use timing::{soonest_of, status_at};
 
 #[derive(Clone, Copy)]
@@ -13,22 +13,13 @@ pub struct Ahead {
     pub status: Status,
 }
 
-pub fn look_ahead<'a>(
-    horizon: u32,
-    n: usize,
-    commands: usize,
-    ticks: &'a [u32; COMMANDS],
-    x: &'a [i64; INTEGRATORS],
-    s: &'a [i64; INTEGRATORS],
-    l: &'a [u32; INTEGRATORS],
-    d: &'a [u32; INTEGRATORS],
-    next: usize,
-) -> Ahead
-    requires { AheadReady n commands ticks.now x.now s.now l.now d.now next }
-    ensures { result ≡ ahead_of horizon n commands ticks.now x.now s.now l.now d.now next }
+pub fn look_ahead(plan: &Plan, motion: &Motion, next: usize) -> Ahead
+    requires { AheadReady plan.now motion.now next }
+    ensures { result ≡ ahead_of plan.now motion.now next }
 {
-    let soonest = soonest_of(n, commands, ticks, d, next);
-    let status = status_at(horizon, n, soonest.tick, soonest.due, x, s, l);
+    let Counts { n, commands, .. } = plan.counts;
+    let soonest = soonest_of(&plan.commands, commands, n, &motion.d, next);
+    let status = status_at(plan.horizon, n, soonest.tick, soonest.due, motion);
     Ahead {
         tick: soonest.tick,
         due: soonest.due,

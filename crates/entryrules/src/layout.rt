@@ -28,6 +28,7 @@ const LARGEST_COUNTS: [u64; SECTIONS] = [
 ];
 
 // The bytes of an entry of a section. None is 0, so a length can be divided by it.
+#[tactic(auto, using(crate::proofs::Laws::Layout::sizes))]
 pub fn entry_size(section: usize) -> u64
     requires { section < sections }
     ensures answer { result ≡ nat_at entry_sizes section }
@@ -52,26 +53,17 @@ fn largest_count(section: usize) -> u64
 }
 
 // Whether a count is inside its section's limits.
+#[tactic(auto, unfolding(plan::specs::Tests::count_kept))]
 pub fn count_kept(section: usize, count: u64) -> bool
     requires { section < sections }
     ensures { result ≡ count_kept section count }
 {
-    if count < least_count(section) {
-        return false;
-    }
-    count <= largest_count(section)
+    (least_count(section)..=largest_count(section)).contains(&count)
 }
 
 // Whether the counts of a plan, in the order of the sections, are inside their limits. They may be any numbers.
 pub fn counts_kept(counts: &[usize; SECTIONS]) -> bool
     ensures { result ≡ every (λ section. count_kept section (nat_at counts.now section)) sections }
 {
-    let mut section = 0;
-    while section < SECTIONS {
-        if !count_kept(section, counts[section] as u64) {
-            return false;
-        }
-        section += 1;
-    }
-    true
+    (0..SECTIONS).all(|section| count_kept(section, counts[section] as u64))
 }

@@ -1,2 +1,2 @@
--- An instant on lent arrays, and what is proved of it.
-pub mod Lent
+-- An instant, and what is proved of it.
+pub mod Instants

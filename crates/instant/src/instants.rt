@@ -1,12 +1,12 @@
-// "One instant", steps 1 to 6, on lent arrays.
+// "One instant", steps 1 to 6.
 ghost use Rattle.std.specs.Prelude.{◌≡◌, ◌≤◌, length};
 ghost use Rattle.plan.specs.Numbers.{most_integrators};
-ghost use Rattle.instant.specs.Lent.{plan_of, running_of, moved_set, SomePlanReady, EveryPlanTaken};
+ghost use Rattle.instant.specs.Instants.{running_of, moved_set, InstantReady, InstantTaken};
 
-use bitset::{all, count, union, union_shifted};
-use machine::{Clocks, Engine};
+use bitset::{Mask, all, count, union_shifted};
+use machine::{Clocks, Engine, Motion};
 use moves::move_all;
-use plan::{COMMANDS, Counts, INTEGRATORS, LINKS, NODES, SOURCES};
+use plan::{Counts, Plan, SOURCES};
 use rates::RANGES;
 use reach::reached_by;
 use steps::{obey_entries, set_outputs, write_events};
@@ -20,99 +20,55 @@ pub struct Taken {
 }
 
 // 5. "The lazy engine moves those due or reached, the eager engine all".
+// The one place where an engine differs: a closure or a trait for it would be no plainer than the `match`.
+#[tactic(auto, unfolding(crate::specs::Instants::moved_set))]
 fn moved_set(engine: Engine, n: usize, due: u32, reached: u32) -> u32
     requires { n ≤ most_integrators }
     ensures { result ≡ moved_set engine n due reached }
 {
     match engine {
-        Engine::Lazy => union(due, reached),
+        Engine::Lazy => due.union(reached),
         Engine::Eager => all(n),
     }
 }
 
-// The instant at t, the next one of a sound and paused state; `due` is the mask of the integrators that are due there. Of the plan just the columns are lent
-// that an instant reads, `settings` the values that its commands set; `ranges` and `reach` are the plan's tables. `values` holds the value of every source
-// before the instant and after it, the outputs and input values among them; of the nodes only those are worked out that depend on a change, since the
-// others keep their value. All outputs are set before any slope is worked out.
-pub fn take_instant<'a>(
+// The instant at t, the next one of a sound and paused state; `due` is the mask of the integrators that are due there. `ranges` and `reach` are the plan's
+// tables. `values` holds the value of every source before the instant and after it, the outputs and input values among them; of the nodes only those are
+// worked out that depend on a change, since the others keep their value. All outputs are set before any slope is worked out.
+// Eleven parameters: the steps borrow `motion` and `values` side by side, so a struct of them would be taken apart again at each.
+pub fn take_instant(
     engine: Engine,
-    counts: Counts,
-    quanta: &'a [i64; INTEGRATORS],
-    kinds: &'a [usize; NODES],
-    a: &'a [usize; NODES],
-    b: &'a [usize; NODES],
-    lows: &'a [i64; NODES],
-    highs: &'a [i64; NODES],
-    sources: &'a [usize; LINKS],
-    coefficients: &'a [i64; LINKS],
-    ticks: &'a [u32; COMMANDS],
-    inputs: &'a [usize; COMMANDS],
-    settings: &'a [i64; COMMANDS],
-    ranges: &'a [usize; RANGES],
-    reach: &'a [u64; SOURCES],
+    plan: &Plan,
+    ranges: &[usize; RANGES],
+    reach: &[u64; SOURCES],
     t: u32,
     due: u32,
-    x: &mut [i64; INTEGRATORS],
-    s: &mut [i64; INTEGRATORS],
-    l: &mut [u32; INTEGRATORS],
-    d: &mut [u32; INTEGRATORS],
+    motion: &mut Motion,
     values: &mut [i64; SOURCES],
     clocks: Clocks,
     buffer: &mut [u8],
     at: usize,
 ) -> Taken
-    requires { SomePlanReady (plan_of counts quanta.now kinds.now a.now b.now lows.now highs.now sources.now coefficients.now ticks.now
-        inputs.now settings.now) ranges.now reach.now t due (running_of counts x.old s.old l.old d.old values.old clocks) values.old
-        at (length buffer.old) }
-    ensures { EveryPlanTaken engine (plan_of counts quanta.now kinds.now a.now b.now lows.now
-        highs.now sources.now coefficients.now ticks.now inputs.now settings.now)
-        ranges.now reach.now t due
-        (running_of counts x.old s.old l.old d.old values.old clocks) values.old
-        buffer.old at
-        (running_of counts x.new s.new l.new d.new values.new result.clocks) values.new
-        buffer.new result.end }
+    requires { InstantReady plan.now ranges.now reach.now t due (running_of plan.now.counts motion.old values.old clocks) values.old at (length buffer.old) }
+    ensures { InstantTaken engine plan.now (running_of plan.now.counts motion.old values.old clocks) buffer.old at
+        (running_of plan.now.counts motion.new values.new result.clocks) values.new buffer.new result.end }
 {
-    let n = counts.n;
-    let base = n + counts.m;
-    set_outputs(t, due, x, s, l, values);
-    let commanded = obey_entries(
+    let Counts {
         n,
-        counts.commands,
-        ticks,
-        inputs,
-        settings,
-        t,
-        values,
-        clocks.next,
-    );
+        m,
+        k,
+        commands,
+        ..
+    } = plan.counts;
+    let base = n + m;
+    set_outputs(t, due, motion, values);
+    let commanded = obey_entries(&plan.commands, n, commands, t, values, clocks.next);
     let changed = union_shifted(due, commanded.numbers, n);
     let reached = reached_by(reach, changed);
-    work_out_nodes(
-        base,
-        counts.k,
-        kinds,
-        a,
-        b,
-        lows,
-        highs,
-        reached.nodes,
-        values,
-    );
+    work_out_nodes(&plan.nodes, base, k, reached.nodes, values);
     let end = write_events(t, changed, values, buffer, at);
     let moved = moved_set(engine, n, due, reached.integrators);
-    move_all(
-        quanta,
-        sources,
-        coefficients,
-        ranges,
-        t,
-        moved,
-        x,
-        s,
-        l,
-        d,
-        values,
-    );
+    move_all(plan, ranges, t, moved, motion, values);
     let instants = clocks.instants + 1;
     let updates = clocks.updates + (count(moved) as u64);
     let after = Clocks {

@@ -1,5 +1,6 @@
 -- What is proved of these definitions.
 pub mod Decimals
+pub mod Library
 pub mod Lines
 pub mod Printing
 pub mod Signs

@@ -1,135 +1,113 @@
-// The text of the listing program, as ASCII bytes at the start of a lent buffer: numbers, and the lines that they make up. Each function answers the
-// length of its text, and the bytes behind the text keep their value.
+// The text of the listing program, as ASCII: numbers, and the lines that they make up. Each function puts its text behind what stands in a text of
+// fixed room. `write!` would say it shorter, but std leaves open whether a `Display` fails, and a listing that fits is to be printed whole.
 #![tactic(auto)]
 
-ghost use Rattle.std.specs.Prelude.{◌≡◌, ◌+◌, ◌*◌, ◌≤◌, nat_abs, length};
+ghost use Rattle.std.specs.Prelude.{◌≡◌, ◌+◌, ◌/◌, ◌<◌, ◌≤◌, ◌++◌, List, ℕ, length};
+ghost use Rattle.arrayvec.specs.ArrayString.{array_string_len};
 ghost use Rattle.plan.specs.Numbers.{event_bytes};
 ghost use Rattle.listingtext.specs.Decimal.{decimal, signed_decimal};
 ghost use Rattle.listingtext.specs.Lines.{field, event_line, lines_of, end_line, refusal_line};
-ghost use Rattle.listingtext.specs.Printed.{Printed, PrintedAt};
 
+use arrayvec::ArrayString;
+use itoa::Buffer;
 use plan::EVENT_BYTES;
 use words::{read_i32, read_u32};
 
-// The ASCII code of the digit 0.
-const DIGIT_0: u8 = 48;
+// A number that is printed in decimal digits.
+pub trait Number: Copy {
+    // Its digits, behind a '-' where it is below 0.
+    ghost digits: { Self → List ℕ };
 
-// The digits of a number: those of its tenth first.
-pub fn write_number(buffer: &mut [u8], number: u64) -> usize
-    requires { length (decimal number) ≤ length buffer.old }
-    ensures { Printed (decimal number) buffer.old result buffer.new }
-{
-    if number < 10 {
-        buffer[0] = DIGIT_0 + number as u8;
-        return 1;
-    }
-    let front = write_number(buffer, number / 10);
-    buffer[front] = DIGIT_0 + (number % 10) as u8;
-    front + 1
+    fn format(self, buffer: &mut Buffer) -> &str
+        ensures { result.now ≡ digits self };
 }
 
-// The size of a number that may be below 0.
-fn magnitude(value: i64) -> u64
-    ensures { result ≡ nat_abs value }
-{
-    if value < 0 {
-        (-1 - value) as u64 + 1
-    } else {
-        value as u64
+// Two impls of one body: the definition of the digits is another for each type, and the gate takes no impl that a macro writes.
+impl Number for u64 {
+    ghost digits = { decimal };
+
+    #[tactic(auto, using(crate::proofs::Laws::Library::printing))]
+    fn format(self, buffer: &mut Buffer) -> &str {
+        buffer.format::<u64>(self)
     }
 }
 
-// A number that may be below 0.
-pub fn write_signed(buffer: &mut [u8], value: i64) -> usize
-    requires { length (signed_decimal value) ≤ length buffer.old }
-    ensures { Printed (signed_decimal value) buffer.old result buffer.new }
-{
-    let size = magnitude(value);
-    if value < 0 {
-        buffer[0] = b'-';
-        return 1 + write_number(&mut buffer[1..], size);
+impl Number for i64 {
+    ghost digits = { signed_decimal };
+
+    #[tactic(auto, using(crate::proofs::Laws::Library::printing))]
+    fn format(self, buffer: &mut Buffer) -> &str {
+        buffer.format::<i64>(self)
     }
-    write_number(buffer, size)
 }
 
-// From byte `at` on, a number and what ends it: a space or the line's end. What is answered is the place behind it.
-fn write_field(buffer: &mut [u8], at: usize, number: u64, end: u8) -> usize
-    requires { at + length (field (decimal number) end) ≤ length buffer.old }
-    ensures { PrintedAt at (field (decimal number) end) buffer.old result buffer.new }
+pub fn write_number<D: Number, const N: usize>(text: &mut ArrayString<N>, number: D)
+    requires { array_string_len text.old + length (D.digits number) ≤ N }
+    ensures { text.new.bytes ≡ text.old.bytes ++ D.digits number }
 {
-    let last = at + write_number(&mut buffer[at..], number);
-    buffer[last] = end;
-    last + 1
+    text.push_str(number.format(&mut Buffer::new()));
 }
 
-// The same of a number that may be below 0.
-fn write_signed_field(buffer: &mut [u8], at: usize, value: i64, end: u8) -> usize
-    requires { at + length (field (signed_decimal value) end) ≤ length buffer.old }
-    ensures { PrintedAt at (field (signed_decimal value) end) buffer.old result buffer.new }
+// A number and what ends it: a space or the line's end.
+fn write_field<D: Number, const N: usize>(text: &mut ArrayString<N>, number: D, end: char)
+    requires { (array_string_len text.old + length (field (D.digits number) end) ≤ N) × (end < 128) }
+    ensures { text.new.bytes ≡ text.old.bytes ++ field (D.digits number) end }
 {
-    let last = at + write_signed(&mut buffer[at..], value);
-    buffer[last] = end;
-    last + 1
+    write_number(text, number);
+    text.push(end);
 }
 
 // "each event as tick, source, value"
-pub fn write_event(buffer: &mut [u8], tick: u64, source: u64, value: i64) -> usize
-    requires { length (event_line tick source value) ≤ length buffer.old }
-    ensures { Printed (event_line tick source value) buffer.old result buffer.new }
+#[tactic(auto, using(crate::proofs::Laws::Sizes::parts), unfolding(crate::specs::Lines::event_line))]
+pub fn write_event<const N: usize>(text: &mut ArrayString<N>, tick: u64, source: u64, value: i64)
+    requires { array_string_len text.old + length (event_line tick source value) ≤ N }
+    ensures { text.new.bytes ≡ text.old.bytes ++ event_line tick source value }
 {
-    let second = write_field(buffer, 0, tick, b' ');
-    let third = write_field(buffer, second, source, b' ');
-    write_signed_field(buffer, third, value, b'\n')
+    write_field(text, tick, ' ');
+    write_field(text, source, ' ');
+    write_field(text, value, '\n');
 }
 
-// The lines of the first `count` events of a list of bytes.
-pub fn write_lines(buffer: &mut [u8], events: &[u8], count: usize) -> usize
-    requires { (event_bytes * count ≤ length events.now) × (length (lines_of events.now count) ≤ length buffer.old) }
-    ensures { Printed (lines_of events.now count) buffer.old result buffer.new }
+// The lines of a list of events.
+// By place and not by `chunks_exact`, which would say what a chunk holds by the run of an iterator, where the definition has the place.
+pub fn write_lines<const N: usize>(text: &mut ArrayString<N>, events: &[u8])
+    requires { array_string_len text.old + length (lines_of events.now (length events.now / event_bytes)) ≤ N }
+    ensures { text.new.bytes ≡ text.old.bytes ++ lines_of events.now (length events.now / event_bytes) }
 {
-    let mut at = 0;
-    let mut i = 0;
-    while i < count {
+    for i in 0..events.len() / EVENT_BYTES {
         let tick = read_u32(events, EVENT_BYTES * i);
         let source = read_u32(events, EVENT_BYTES * i + 4);
         let value = read_i32(events, EVENT_BYTES * i + 8);
-        at += write_event(&mut buffer[at..], tick, source, value);
-        i += 1;
+        write_event(text, tick, source, value);
     }
-    at
-}
-
-// A fixed text, byte for byte.
-fn write_text(buffer: &mut [u8], text: &[u8]) -> usize
-    requires { length text.now ≤ length buffer.old }
-    ensures { Printed text.now buffer.old result buffer.new }
-{
-    let mut i = 0;
-    while i < text.len() {
-        buffer[i] = text[i];
-        i += 1;
-    }
-    i
 }
 
 // "then "end", status, clock, instants, updates"
-pub fn write_end(buffer: &mut [u8], status: u64, clock: u64, instants: u64, updates: u64) -> usize
-    requires { length (end_line status clock instants updates) ≤ length buffer.old }
-    ensures { Printed (end_line status clock instants updates) buffer.old result buffer.new }
+#[tactic(auto, using(crate::proofs::Laws::Sizes::parts), unfolding(crate::specs::Lines::end_line))]
+pub fn write_end<const N: usize>(
+    text: &mut ArrayString<N>,
+    status: u64,
+    clock: u64,
+    instants: u64,
+    updates: u64,
+)
+    requires { array_string_len text.old + length (end_line status clock instants updates) ≤ N }
+    ensures { text.new.bytes ≡ text.old.bytes ++ end_line status clock instants updates }
 {
-    let first = write_text(buffer, b"end ");
-    let second = write_field(buffer, first, status, b' ');
-    let third = write_field(buffer, second, clock, b' ');
-    let fourth = write_field(buffer, third, instants, b' ');
-    write_field(buffer, fourth, updates, b'\n')
+    text.push_str("end ");
+    write_field(text, status, ' ');
+    write_field(text, clock, ' ');
+    write_field(text, instants, ' ');
+    write_field(text, updates, '\n');
 }
 
 // "a declined plan prints "refused", number, entry"
-pub fn write_refusal(buffer: &mut [u8], number: u64, entry: u64) -> usize
-    requires { length (refusal_line number entry) ≤ length buffer.old }
-    ensures { Printed (refusal_line number entry) buffer.old result buffer.new }
+#[tactic(auto, using(crate::proofs::Laws::Sizes::parts), unfolding(crate::specs::Lines::refusal_line))]
+pub fn write_refusal<const N: usize>(text: &mut ArrayString<N>, number: u64, entry: u64)
+    requires { array_string_len text.old + length (refusal_line number entry) ≤ N }
+    ensures { text.new.bytes ≡ text.old.bytes ++ refusal_line number entry }
 {
-    let first = write_text(buffer, b"refused ");
-    let second = write_field(buffer, first, number, b' ');
-    write_field(buffer, second, entry, b'\n')
+    text.push_str("refused ");
+    write_field(text, number, ' ');
+    write_field(text, entry, '\n');
 }

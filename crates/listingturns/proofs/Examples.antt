@@ -10,7 +10,7 @@ use Rattle.plan.specs.Lists.{table, row, joined, every, some, first_from}
 use Rattle.plan.specs.Format.{horizon_in, offset_in, length_in, required_offset, count_in, part, section_in, column_of, column_in, plan_in}
 use Rattle.plan.specs.Tests.{long_enough, offsets_kept, count_kept, sizes_kept, horizon_kept, integrator_kept, input_kept}
 use Rattle.plan.specs.Tests.{node_test, pair_ascends, node_kept, link_limits_kept, link_ordered, command_limits_kept, command_ordered}
-use Rattle.plan.specs.Refusals.{number_of, entry_of, is_clean, or_else, first_finding, horizon_finding, integrators_finding, inputs_finding}
+use Rattle.plan.specs.Refusals.{refusal_number, refusal_entry, number_of, entry_of, is_clean, or_else, first_finding, horizon_finding, integrators_finding, inputs_finding}
 use Rattle.plan.specs.Refusals.{nodes_finding, links_finding, commands_finding, plan_finding, finding_of, accepted}
 use Rattle.plan.specs.ExampleTables.{Case, case, AllRight, end, ◌&◌}
 use Rattle.plan.specs.ExampleFiles.{file_of, cup_file}
@@ -60,7 +60,7 @@ pub examples_right : AllRight examples
 unfolding examples ceil_div limited within count_of number_at bytes_of signed_of unsigned_of flat table row joined every some first_from
     horizon_in offset_in length_in required_offset count_in part section_in column_of column_in plan_in long_enough offsets_kept count_kept sizes_kept
     horizon_kept integrator_kept input_kept node_test pair_ascends node_kept link_limits_kept link_ordered command_limits_kept
-    command_ordered number_of entry_of is_clean or_else first_finding horizon_finding integrators_finding inputs_finding nodes_finding
+    command_ordered refusal_number refusal_entry number_of entry_of is_clean or_else first_finding horizon_finding integrators_finding inputs_finding nodes_finding
     links_finding commands_finding plan_finding finding_of accepted node_value value_with value_of sum_over rate_of upper_level lower_level distance ticks_to
     due_tick due_of sets value_then next_entry entry_tick next_command least_due slope_of inputs_then entries_tick next_tick start_slope start_due start_of
     start_state idle_state is_due is_commanded woken gives placed changes_by depends_with link_reaches reached touched position_at moves bytes_of_event events_at

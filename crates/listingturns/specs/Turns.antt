@@ -1,5 +1,5 @@
 -- Model of the code: the turns of the program's loop, a run with budget 64 and its text each, "until status 1 or 2".
-use Rattle.std.specs.Prelude.{Bool, cond, List, [], ◌++◌, ℕ, zero, suc, ◌+◌, ◌*◌, eqb, length}
+use Rattle.std.specs.Prelude.{Bool, cond, List, [], ◌++◌, ℕ, zero, suc, ◌+◌, ◌*◌, eqb}
 use Rattle.plan.specs.Numbers.{listing_budget, most_integrators, most_inputs, event_bytes, acceptance}
 use Rattle.machine.specs.Status.{running_paused}
 use Rattle.machine.specs.declared.State.{State}
@@ -8,6 +8,7 @@ use Rattle.listingtext.specs.Lines.{refusal_line}
 use Rattle.calls.specs.Calls.{load_of, ran_state, ran_events}
 use Rattle.listingturns.specs.Listing.{event_lines, end_line_of}
 use Rattle.listingturns.specs.declared.Turn.{Turn}
+use Rattle.listingturns.specs.declared.Turn.TheVariants.{More, Last}
 
 -- the room that a turn's buffers need: its events, 64 × 40 × 12 bytes, and its text, 64 × 40 lines of up to 26 characters and an end line
 -- of up to 40; and the room that a refusal needs
@@ -35,14 +36,14 @@ module _ (st : State) where
 
   -- what the code answers for it
   unfoldable pub turn_of : Turn
-  turn_of = record { length = length turn_text; more = turn_more; state = turn_state }
+  turn_of = cond turn_more (More turn_state) (Last turn_state)
 
 -- Before the first turn: nothing is printed for an accepted file, and the refusal for another, with no turn behind it.
 unfoldable pub begin_text : List ℕ → List ℕ
 begin_text file = cond (eqb (load_of file).number acceptance) [] (refusal_line (load_of file).number (load_of file).entry)
 
 unfoldable pub begin_of : List ℕ → Turn
-begin_of file = record { length = length (begin_text file); more = eqb (load_of file).number acceptance; state = (load_of file).state }
+begin_of file = cond (eqb (load_of file).number acceptance) (More (load_of file).state) (Last (load_of file).state)
 
 -- the texts of at most so many turns, joined
 unfoldable pub turns_from : ℕ → State → List ℕ

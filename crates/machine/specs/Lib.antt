@@ -13,4 +13,3 @@ pub mod Plain
 pub mod Updates
 pub mod Sound
 pub mod SoundTest
-pub mod Lent

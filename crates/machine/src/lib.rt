@@ -31,6 +31,16 @@ pub struct Running {
     pub clocks: Clocks,
 }
 
+// What an instant moves: positions, slopes, last-moved ticks and due ticks, as in `Running`.
+// No part of `Running`: the C interface has its fields in another order.
+#[derive(Clone, Copy)]
+pub struct Motion {
+    pub x: [i64; INTEGRATORS],
+    pub s: [i64; INTEGRATORS],
+    pub l: [u32; INTEGRATORS],
+    pub d: [u32; INTEGRATORS],
+}
+
 #[repr(C)]
 #[derive(Clone, Copy)]
 pub struct State {
@@ -55,6 +65,7 @@ pub enum Status {
 
 impl Status {
     // 0 paused, 1 finished, 2 range
+    #[tactic(auto, unfolding(crate::specs::Status::status_number))]
     pub fn number(self) -> usize
         ensures { result ≡ status_number self }
     {
@@ -66,24 +77,21 @@ impl Status {
     }
 
     // the integrator of a range, and else 0
+    #[tactic(auto, unfolding(crate::specs::Status::status_integrator))]
     pub fn integrator(self) -> usize
         ensures { result ≡ status_integrator self }
     {
         match self {
-            Status::Paused => 0,
-            Status::Finished => 0,
             Status::Range(i) => i,
+            Status::Paused | Status::Finished => 0,
         }
     }
 
+    #[tactic(auto, unfolding(crate::specs::Status::is_paused))]
     pub fn is_paused(self) -> bool
         ensures { result ≡ is_paused self }
     {
-        match self {
-            Status::Paused => true,
-            Status::Finished => false,
-            Status::Range(_) => false,
-        }
+        matches!(self, Status::Paused)
     }
 }
 
@@ -93,6 +101,7 @@ impl State {
 
     pub const NEVER: u32 = NEVER;
 
+    // A constant carries no contract (DECISIONS, 14): the next two say what these are.
     pub fn largest() -> i64
         ensures { result ≡ pos Rattle.plan.specs.Numbers.M }
     {

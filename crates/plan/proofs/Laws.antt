@@ -19,3 +19,4 @@ pub mod Parts
 pub mod Places
 pub mod FileRoundTrip
 pub mod View
+pub mod Constants

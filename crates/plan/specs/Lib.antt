@@ -10,6 +10,6 @@ pub mod Rules
 pub mod Unused
 pub mod Places
 pub mod Idle
-pub mod Lent
 pub mod ExampleTables
 pub mod ExampleFiles
+pub mod Kinds

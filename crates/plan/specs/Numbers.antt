@@ -1,13 +1,6 @@
--- Binding definition: the numbers of document 01 by name. src/numbers.rt has the same as constants, and its contracts say that the two are
--- equal.
-use Rattle.std.specs.Prelude.{List, [], ◌∷◌, ℕ, ◌+◌, ◌*◌, pos}
-use Rattle.plan.specs.declared.numbers.Limits.{Limits}
-use Rattle.plan.specs.declared.numbers.Widths.{Widths}
-use Rattle.plan.specs.declared.numbers.SectionNumbers.{SectionNumbers}
-use Rattle.plan.specs.declared.numbers.Kinds.{Kinds}
-use Rattle.plan.specs.declared.numbers.Sizes.{Sizes}
-use Rattle.plan.specs.declared.numbers.Refusals.{Refusals}
-use Rattle.plan.specs.declared.numbers.Statuses.{Statuses}
+-- Binding definition: the numbers of document 01 by name. src/numbers.rt has the same as constants, and Laws/Constants says that the
+-- two are equal.
+use Rattle.std.specs.Prelude.{List, [], ◌∷◌, ℕ, ◌+◌, ◌*◌}
 
 -- ---- values and ticks
 -- "Let M = 2^30 = 1,073,741,824."
@@ -34,17 +27,6 @@ largest_budget = 1024
 abbrev pub listing_budget : ℕ
 listing_budget = 64
 
-abbrev pub limits : Limits
-limits =
-    record {
-      value = pos M;
-      coefficient = pos largest_coefficient;
-      horizon = largest_horizon;
-      never = never;
-      budget = largest_budget;
-      listing = listing_budget;
-    }
-
 -- ---- the most entries of each section, which are the widths of a plan's arrays
 -- "Integrators, 1 to 32 (n)"
 abbrev pub most_integrators : ℕ
@@ -70,17 +52,6 @@ most_commands = 64
 abbrev pub source_width : ℕ
 source_width = 64
 
-abbrev pub widths : Widths
-widths =
-    record {
-      integrators = most_integrators;
-      inputs = most_inputs;
-      nodes = most_nodes;
-      links = most_links;
-      commands = most_commands;
-      sources = source_width;
-    }
-
 -- ---- "Sections in order": the number of each, in the header and for the section view
 abbrev pub section_integrators : ℕ
 section_integrators = 0
@@ -96,16 +67,6 @@ section_links = 3
 
 abbrev pub section_commands : ℕ
 section_commands = 4
-
-abbrev pub section_numbers : SectionNumbers
-section_numbers =
-    record {
-      integrators = section_integrators;
-      inputs = section_inputs;
-      nodes = section_nodes;
-      links = section_links;
-      commands = section_commands;
-    }
 
 -- ---- "Node kinds, with a and b the values of A and B"
 -- "0 is a−b"
@@ -123,15 +84,6 @@ kind_limit = 2
 -- "3 is hi if a ≥ b, else lo"
 abbrev pub kind_comparison : ℕ
 kind_comparison = 3
-
-abbrev pub kinds : Kinds
-kinds =
-    record {
-      difference = kind_difference;
-      product = kind_product;
-      limit = kind_limit;
-      comparison = kind_comparison;
-    }
 
 -- ---- the plan file: the bytes of an entry of each section
 -- "Integrators, .. 8 bytes"
@@ -182,21 +134,6 @@ listing_input = longest_file + 1
 -- "Events of an instant: .. 12 bytes each"
 abbrev pub event_bytes : ℕ
 event_bytes = 12
-
-abbrev pub sizes : Sizes
-sizes =
-    record {
-      sections = sections;
-      header = header_bytes;
-      integrator = integrator_bytes;
-      input = input_bytes;
-      node = node_bytes;
-      link = link_bytes;
-      command = command_bytes;
-      longest = longest_file;
-      listing = listing_input;
-      event = event_bytes;
-    }
 
 -- ---- "When a call declines"
 -- "An accepted call gives number 0"
@@ -259,26 +196,6 @@ refused_write_buffer = 13
 abbrev pub refused_integrator_number : ℕ
 refused_integrator_number = 14
 
-abbrev pub refusals : Refusals
-refusals =
-    record {
-      accepted = acceptance;
-      short = refused_short;
-      offsets = refused_offsets;
-      sizes = refused_sizes;
-      horizon = refused_horizon;
-      integrator = refused_integrator;
-      input = refused_input;
-      node = refused_node;
-      link = refused_link;
-      command = refused_command;
-      unsound = refused_unsound;
-      budget = refused_budget;
-      run = refused_run_buffer;
-      write = refused_write_buffer;
-      number = refused_integrator_number;
-    }
-
 -- ---- "Status is read from the state"
 -- "else 0 paused"
 abbrev pub paused : ℕ
@@ -291,6 +208,3 @@ finished = 1
 -- "else 2 range if step 1 bars the instant"
 abbrev pub range : ℕ
 range = 2
-
-abbrev pub statuses : Statuses
-statuses = record { paused = paused; finished = finished; range = range }

@@ -1,54 +1,69 @@
 -- Binding definition: "When a call declines", 1 to 9: what a file is refused for, tried in order, with the lowest faulty entry; and the
 -- section view.
-use Rattle.std.specs.Prelude.{Bool, cond, ◌&&◌, List, [], ℕ, zero, suc, ◌+◌, ltb, eqb}
+use Rattle.std.specs.Prelude.{Bool, cond, ◌&&◌, List, [], ℕ, zero, suc, ◌+◌, ltb, is_ok, Result, Ok, Err}
 use Rattle.plan.specs.Numbers.{sections, acceptance, refused_short, refused_offsets, refused_sizes, refused_horizon, refused_integrator, refused_input, refused_node, refused_link, refused_command}
+use Rattle.plan.specs.Numbers.{refused_unsound, refused_budget, refused_run_buffer, refused_write_buffer, refused_integrator_number}
 use Rattle.plan.specs.Format.{offset_in, section_in, plan_in}
 use Rattle.plan.specs.Tests.{long_enough, offsets_kept, sizes_kept, horizon_kept, integrator_kept, input_kept, node_kept, link_limits_kept}
 use Rattle.plan.specs.Tests.{link_ordered, command_limits_kept, command_ordered}
 use Rattle.plan.specs.declared.Plan.{Plan}
-use Rattle.plan.specs.declared.Finding.{Finding}
-use Rattle.plan.specs.declared.Finding.TheVariants.{Clean, Short, Offsets, Sizes, Horizon, Integrator, Input, Node, Link, Command}
+use Rattle.plan.specs.declared.Refusal.{Refusal}
+use Rattle.plan.specs.declared.Refusal.TheVariants.{Short, Offsets, Sizes, Horizon, Integrator, Input, Node, Link, Command}
+use Rattle.plan.specs.declared.Refusal.TheVariants.{Unsound, Budget, RunBuffer, WriteBuffer, IntegratorNumber}
 
--- document 01's number of each finding
-unfoldable pub number_of : Finding → ℕ
-number_of Clean = acceptance
-number_of Short = refused_short
-number_of Offsets = refused_offsets
-number_of Sizes = refused_sizes
-number_of Horizon = refused_horizon
-number_of (Integrator i) = refused_integrator
-number_of (Input j) = refused_input
-number_of (Node j) = refused_node
-number_of (Link e) = refused_link
-number_of (Command e) = refused_command
+-- document 01's number of each refusal
+unfoldable pub refusal_number : Refusal → ℕ
+refusal_number Short = refused_short
+refusal_number Offsets = refused_offsets
+refusal_number Sizes = refused_sizes
+refusal_number Horizon = refused_horizon
+refusal_number (Integrator i) = refused_integrator
+refusal_number (Input j) = refused_input
+refusal_number (Node j) = refused_node
+refusal_number (Link e) = refused_link
+refusal_number (Command e) = refused_command
+refusal_number Unsound = refused_unsound
+refusal_number Budget = refused_budget
+refusal_number RunBuffer = refused_run_buffer
+refusal_number WriteBuffer = refused_write_buffer
+refusal_number IntegratorNumber = refused_integrator_number
 
 -- and its entry: "lowest faulty entry of that section (0 for 1 to 4)"
+unfoldable pub refusal_entry : Refusal → ℕ
+refusal_entry (Integrator i) = i
+refusal_entry (Input j) = j
+refusal_entry (Node j) = j
+refusal_entry (Link e) = e
+refusal_entry (Command e) = e
+refusal_entry other = 0
+
+-- What a check finds: nothing, or the first refusal. Its number, and its entry.
+abbrev pub Finding : Type 0
+Finding = Result Unit Refusal
+
+unfoldable pub number_of : Finding → ℕ
+number_of (Ok u) = acceptance
+number_of (Err refusal) = refusal_number refusal
+
 unfoldable pub entry_of : Finding → ℕ
-entry_of Clean = 0
-entry_of Short = 0
-entry_of Offsets = 0
-entry_of Sizes = 0
-entry_of Horizon = 0
-entry_of (Integrator i) = i
-entry_of (Input j) = j
-entry_of (Node j) = j
-entry_of (Link e) = e
-entry_of (Command e) = e
+entry_of (Ok u) = 0
+entry_of (Err refusal) = refusal_entry refusal
 
 unfoldable pub is_clean : Finding → Bool
-is_clean finding = eqb (number_of finding) acceptance
+is_clean finding = is_ok finding
 
--- the finding where a rule is broken
-abbrev pub unless : Bool → Finding → Finding
-unless kept finding = cond kept Clean finding
+-- the refusal where a rule is broken
+abbrev pub unless : Bool → Refusal → Finding
+unless kept refusal = cond kept (Ok tt) (Err refusal)
 
 -- the first finding, or else the next
 unfoldable pub or_else : Finding → Finding → Finding
-or_else finding next = cond (is_clean finding) next finding
+or_else (Ok u) next = next
+or_else (Err refusal) next = Err refusal
 
 -- the first finding of the `left` entries from i on: that of the lowest faulty entry
 unfoldable pub first_finding : (ℕ → Finding) → ℕ → ℕ → Finding
-first_finding at i zero = Clean
+first_finding at i zero = Ok tt
 first_finding at i (suc left) = or_else (at i) (first_finding at (i + 1) left)
 
 module _ (p : Plan) where

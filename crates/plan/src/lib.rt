@@ -1,11 +1,15 @@
 // The plan of a cup: what document 01's plan file says, number for number, with 0 in the unused entries. And document 01's numbers by name.
+// Columns of fixed width, with a count beside them: the C interface (include/cup.h) lays a plan out so, and there is no heap.
 #![tactic(auto)]
 
+mod kinds;
 mod numbers;
 
-ghost use Rattle.std.specs.Prelude.{◌≡◌};
+ghost use Rattle.std.specs.Prelude.{◌≡◌, [], ◌∷◌};
 ghost use Rattle.plan.specs.Idle.{idle_plan};
+ghost use Rattle.plan.specs.Refusals.{refusal_number, refusal_entry};
 
+pub use kinds::Kind;
 pub use numbers::{
     ACCEPTED, COMMAND_BYTES, COMMANDS, EVENT_BYTES, FINISHED, HEADER_BYTES, INPUT_BYTES, INPUTS,
     INTEGRATOR_BYTES, INTEGRATORS, KIND_COMPARISON, KIND_DIFFERENCE, KIND_LIMIT, KIND_PRODUCT,
@@ -18,6 +22,7 @@ pub use numbers::{
 };
 
 // How many entries each section has: n integrators, m inputs, k nodes, links, commands.
+// No invariant holds their limits: C fills states by hand, with any numbers. So the functions that need a limit ask for it.
 #[repr(C)]
 #[derive(Clone, Copy)]
 pub struct Counts {
@@ -83,11 +88,10 @@ pub struct Plan {
     pub commands: Commands,
 }
 
-// What a check of a plan file, or of a part of it, finds: nothing, or the first of document 01's refusals 1 to 9. Those of an
-// entry hold the entry's number, counted from 0.
-#[derive(Clone, Copy)]
-pub enum Finding {
-    Clean,
+// What document 01 refuses, in the order of its numbers: 1 to 9 a plan file, 10 to 14 a call. Those of an entry hold the entry's number, counted from
+// 0. What a check finds is a `Result<(), Refusal>`.
+#[derive(Clone, Copy, Debug, PartialEq, Eq)]
+pub enum Refusal {
     Short,
     Offsets,
     Sizes,
@@ -97,10 +101,65 @@ pub enum Finding {
     Node(usize),
     Link(usize),
     Command(usize),
+    Unsound,
+    Budget,
+    RunBuffer,
+    WriteBuffer,
+    IntegratorNumber,
+}
+
+impl Counts {
+    // The counts in the order of the sections.
+    pub fn in_order(self) -> [usize; SECTIONS]
+        ensures { result ≡ self.n ∷ self.m ∷ self.k ∷ self.links ∷ self.commands ∷ [] }
+    {
+        [self.n, self.m, self.k, self.links, self.commands]
+    }
+}
+
+impl Refusal {
+    // Document 01's number: the C interface has it as a number, so the numbers stay constants.
+    #[tactic(auto, unfolding(crate::specs::Refusals::refusal_number))]
+    pub fn number(self) -> usize
+        ensures { result ≡ refusal_number self }
+    {
+        match self {
+            Self::Short => REFUSED_SHORT,
+            Self::Offsets => REFUSED_OFFSETS,
+            Self::Sizes => REFUSED_SIZES,
+            Self::Horizon => REFUSED_HORIZON,
+            Self::Integrator(_) => REFUSED_INTEGRATOR,
+            Self::Input(_) => REFUSED_INPUT,
+            Self::Node(_) => REFUSED_NODE,
+            Self::Link(_) => REFUSED_LINK,
+            Self::Command(_) => REFUSED_COMMAND,
+            Self::Unsound => REFUSED_UNSOUND,
+            Self::Budget => REFUSED_BUDGET,
+            Self::RunBuffer => REFUSED_RUN_BUFFER,
+            Self::WriteBuffer => REFUSED_WRITE_BUFFER,
+            Self::IntegratorNumber => REFUSED_INTEGRATOR_NUMBER,
+        }
+    }
+
+    // The faulty entry, 0 for a refusal that is of none.
+    #[tactic(auto, unfolding(crate::specs::Refusals::refusal_entry))]
+    pub fn entry(self) -> usize
+        ensures { result ≡ refusal_entry self }
+    {
+        match self {
+            Self::Integrator(entry)
+            | Self::Input(entry)
+            | Self::Node(entry)
+            | Self::Link(entry)
+            | Self::Command(entry) => entry,
+            _ => 0,
+        }
+    }
 }
 
 impl Plan {
     // One integrator with start 0 and quantum 1, nothing else, horizon 1.
+    // The zeros stand here and in the readers: std derives no `Default` for arrays above 32 entries, and five by hand would be no shorter.
     pub fn idle() -> Self
         ensures { result ≡ idle_plan }
     {

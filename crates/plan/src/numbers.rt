@@ -1,7 +1,6 @@
-// The numbers of document 01 by name. A definition can't cite a constant, so specs/Numbers has each of them again; the functions of this file
-// hand the constants out, a group at a time, and their contracts say that the two are equal.
-ghost use Rattle.std.specs.Prelude.{◌≡◌};
-ghost use Rattle.plan.specs.Numbers.{limits, widths, section_numbers, kinds, sizes, refusals, statuses};
+// The numbers of document 01 by name. specs/Numbers has each of them again: a definition could cite a constant of the code, but then a wrong constant
+// would be a wrong definition with it. proofs/Laws/Constants says that the two are equal. The numbers of sections, kinds, refusals and statuses stay numbers:
+// the plan file and the C interface (include/cup.h) have them so.
 
 // "Let M = 2^30 = 1,073,741,824."
 pub const M: i64 = 1073741824;
@@ -21,31 +20,6 @@ pub const LARGEST_BUDGET: u64 = 1024;
 // "runs lazily with budget 64", the listing program.
 pub const LISTING_BUDGET: u64 = 64;
 
-#[derive(Clone, Copy)]
-pub struct Limits {
-    pub value: i64,
-    pub coefficient: i64,
-    pub horizon: u32,
-    pub never: u32,
-    pub budget: u64,
-    pub listing: u64,
-}
-
-impl Limits {
-    pub fn named() -> Self
-        ensures { result ≡ limits }
-    {
-        Self {
-            value: M,
-            coefficient: LARGEST_COEFFICIENT,
-            horizon: LARGEST_HORIZON,
-            never: NEVER,
-            budget: LARGEST_BUDGET,
-            listing: LISTING_BUDGET,
-        }
-    }
-}
-
 // The most integrators, inputs, nodes, links and commands of a plan: the widths of its arrays.
 pub const INTEGRATORS: usize = 32;
 
@@ -61,31 +35,6 @@ pub const COMMANDS: usize = 64;
 // most.
 pub const SOURCES: usize = 64;
 
-#[derive(Clone, Copy)]
-pub struct Widths {
-    pub integrators: usize,
-    pub inputs: usize,
-    pub nodes: usize,
-    pub links: usize,
-    pub commands: usize,
-    pub sources: usize,
-}
-
-impl Widths {
-    pub fn named() -> Self
-        ensures { result ≡ widths }
-    {
-        Self {
-            integrators: INTEGRATORS,
-            inputs: INPUTS,
-            nodes: NODES,
-            links: LINKS,
-            commands: COMMANDS,
-            sources: SOURCES,
-        }
-    }
-}
-
 // "Sections in order": the number of each, in the header and for the section view.
 pub const SECTION_INTEGRATORS: usize = 0;
 
@@ -97,29 +46,6 @@ pub const SECTION_LINKS: usize = 3;
 
 pub const SECTION_COMMANDS: usize = 4;
 
-#[derive(Clone, Copy)]
-pub struct SectionNumbers {
-    pub integrators: usize,
-    pub inputs: usize,
-    pub nodes: usize,
-    pub links: usize,
-    pub commands: usize,
-}
-
-impl SectionNumbers {
-    pub fn named() -> Self
-        ensures { result ≡ section_numbers }
-    {
-        Self {
-            integrators: SECTION_INTEGRATORS,
-            inputs: SECTION_INPUTS,
-            nodes: SECTION_NODES,
-            links: SECTION_LINKS,
-            commands: SECTION_COMMANDS,
-        }
-    }
-}
-
 // "Node kinds": the number of each; specs/Numbers has document 01's words for each.
 pub const KIND_DIFFERENCE: usize = 0;
 
@@ -128,27 +54,6 @@ pub const KIND_PRODUCT: usize = 1;
 pub const KIND_LIMIT: usize = 2;
 
 pub const KIND_COMPARISON: usize = 3;
-
-#[derive(Clone, Copy)]
-pub struct Kinds {
-    pub difference: usize,
-    pub product: usize,
-    pub limit: usize,
-    pub comparison: usize,
-}
-
-impl Kinds {
-    pub fn named() -> Self
-        ensures { result ≡ kinds }
-    {
-        Self {
-            difference: KIND_DIFFERENCE,
-            product: KIND_PRODUCT,
-            limit: KIND_LIMIT,
-            comparison: KIND_COMPARISON,
-        }
-    }
-}
 
 // How many sections a plan file has.
 pub const SECTIONS: usize = 5;
@@ -181,39 +86,6 @@ pub const LISTING_INPUT: usize = LONGEST_FILE + 1;
 // "Events of an instant: .. 12 bytes each"
 pub const EVENT_BYTES: usize = 12;
 
-#[derive(Clone, Copy)]
-pub struct Sizes {
-    pub sections: usize,
-    pub header: usize,
-    pub integrator: usize,
-    pub input: usize,
-    pub node: usize,
-    pub link: usize,
-    pub command: usize,
-    pub longest: usize,
-    pub listing: usize,
-    pub event: usize,
-}
-
-impl Sizes {
-    pub fn named() -> Self
-        ensures { result ≡ sizes }
-    {
-        Self {
-            sections: SECTIONS,
-            header: HEADER_BYTES,
-            integrator: INTEGRATOR_BYTES,
-            input: INPUT_BYTES,
-            node: NODE_BYTES,
-            link: LINK_BYTES,
-            command: COMMAND_BYTES,
-            longest: LONGEST_FILE,
-            listing: LISTING_INPUT,
-            event: EVENT_BYTES,
-        }
-    }
-}
-
 // "When a call declines": document 01's numbers, in its order; specs/Numbers has its sentence for each.
 pub const ACCEPTED: usize = 0;
 
@@ -245,71 +117,9 @@ pub const REFUSED_WRITE_BUFFER: usize = 13;
 
 pub const REFUSED_INTEGRATOR_NUMBER: usize = 14;
 
-#[derive(Clone, Copy)]
-pub struct Refusals {
-    pub accepted: usize,
-    pub short: usize,
-    pub offsets: usize,
-    pub sizes: usize,
-    pub horizon: usize,
-    pub integrator: usize,
-    pub input: usize,
-    pub node: usize,
-    pub link: usize,
-    pub command: usize,
-    pub unsound: usize,
-    pub budget: usize,
-    pub run: usize,
-    pub write: usize,
-    pub number: usize,
-}
-
-impl Refusals {
-    pub fn named() -> Self
-        ensures { result ≡ refusals }
-    {
-        Self {
-            accepted: ACCEPTED,
-            short: REFUSED_SHORT,
-            offsets: REFUSED_OFFSETS,
-            sizes: REFUSED_SIZES,
-            horizon: REFUSED_HORIZON,
-            integrator: REFUSED_INTEGRATOR,
-            input: REFUSED_INPUT,
-            node: REFUSED_NODE,
-            link: REFUSED_LINK,
-            command: REFUSED_COMMAND,
-            unsound: REFUSED_UNSOUND,
-            budget: REFUSED_BUDGET,
-            run: REFUSED_RUN_BUFFER,
-            write: REFUSED_WRITE_BUFFER,
-            number: REFUSED_INTEGRATOR_NUMBER,
-        }
-    }
-}
-
 // "1 finished ..; else 2 range ..; else 0 paused."
 pub const PAUSED: usize = 0;
 
 pub const FINISHED: usize = 1;
 
 pub const RANGE: usize = 2;
-
-#[derive(Clone, Copy)]
-pub struct Statuses {
-    pub paused: usize,
-    pub finished: usize,
-    pub range: usize,
-}
-
-impl Statuses {
-    pub fn named() -> Self
-        ensures { result ≡ statuses }
-    {
-        Self {
-            paused: PAUSED,
-            finished: FINISHED,
-            range: RANGE,
-        }
-    }
-}

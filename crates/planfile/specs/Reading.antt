@@ -1,15 +1,14 @@
--- Model of the code: what reading a plan file gives, the plan or the refusal, by the finding and the plan of `plan/Refusals` and
--- `plan/Format`.
-use Rattle.std.specs.Prelude.{cond, List, ℕ}
+-- Model of the code: what reading a plan file gives, the plan or the refusal, by the finding of `plan/Refusals` and the plan of `plan/Format`.
+use Rattle.std.specs.Prelude.{List, ℕ, Result, Ok, Err}
 use Rattle.plan.specs.Format.{plan_in}
-use Rattle.plan.specs.Refusals.{finding_of, accepted}
-use Rattle.plan.specs.Idle.{idle_plan}
-use Rattle.plan.specs.declared.Finding.{Finding}
-use Rattle.planfile.specs.declared.reading.FilePlan.{FilePlan}
+use Rattle.plan.specs.Refusals.{Finding, finding_of}
+use Rattle.plan.specs.declared.Plan.{Plan}
+use Rattle.plan.specs.declared.Refusal.{Refusal}
 
-abbrev pub refused_with : Finding → FilePlan
-refused_with finding = record { finding = finding; plan = idle_plan }
+-- a plan of which this is found
+abbrev pub found_of : Finding → Plan → Result Plan Refusal
+found_of (Ok u) plan = Ok plan
+found_of (Err refusal) plan = Err refusal
 
--- the finding, and the plan of an accepted file or else the idle plan
-unfoldable pub file_plan_of : List ℕ → FilePlan
-file_plan_of file = record { finding = finding_of file; plan = cond (accepted file) (plan_in file) idle_plan }
+unfoldable pub file_plan_of : List ℕ → Result Plan Refusal
+file_plan_of file = found_of (finding_of file) (plan_in file)

@@ -1,4 +1,4 @@
-// Reading plan files: the section readers; the plan that a file holds; the refusal of any bytes, without a plan; and the plan or the refusal of any bytes.
+// Reading plan files: the section readers; the plan that a file holds; the refusal of any bytes; and of any bytes the plan or the refusal.
 #![tactic(auto)]
 
 mod checking;
@@ -7,4 +7,4 @@ mod readers;
 mod reading;
 
 pub use checking::finding_of;
-pub use reading::{FilePlan, read_plan};
+pub use reading::read_plan;

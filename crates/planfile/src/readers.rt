@@ -1,5 +1,6 @@
 // The section readers. Each is handed its section, as a part of the file, with the count of its entries, and hands back the columns of the entries; they
 // begin all 0, so the unused entries are 0.
+// Five loops of one shape: a function for a column in their place would be four, for words read as usize, u32, i64 and signed, and called fourteen times.
 ghost use Rattle.std.specs.Prelude.{◌≡◌, ◌*◌, ◌≤◌, length};
 ghost use Rattle.plan.specs.Numbers.{most_integrators, most_inputs, most_nodes, most_links, most_commands};
 ghost use Rattle.plan.specs.Numbers.{integrator_bytes, input_bytes, node_bytes, link_bytes, command_bytes};
@@ -12,6 +13,7 @@ use plan::{
 use words::{read_i32, read_u32};
 
 // "8 bytes: signed start ..; quantum"
+#[tactic(auto, using(crate::proofs::Laws::ColumnLoops::columns))]
 pub fn read_integrators(part: &[u8], n: usize) -> Integrators
     requires { (n ≤ most_integrators) × (integrator_bytes * n ≤ length part.now) }
     ensures starts { result.starts ≡ signeds_of most_integrators integrator_bytes n part.now 0 }
@@ -21,18 +23,15 @@ pub fn read_integrators(part: &[u8], n: usize) -> Integrators
         starts: [0; INTEGRATORS],
         quanta: [0; INTEGRATORS],
     };
-    let mut i = 0;
-    while i < n {
-        let start = read_i32(part, INTEGRATOR_BYTES * i);
-        let quantum = read_u32(part, INTEGRATOR_BYTES * i + 4) as i64;
-        read.starts[i] = start;
-        read.quanta[i] = quantum;
-        i += 1;
+    for i in 0..n {
+        read.starts[i] = read_i32(part, INTEGRATOR_BYTES * i);
+        read.quanta[i] = read_u32(part, INTEGRATOR_BYTES * i + 4) as i64;
     }
     read
 }
 
 // "4 bytes: signed first value"
+#[tactic(auto, using(crate::proofs::Laws::ColumnLoops::columns))]
 pub fn read_inputs(part: &[u8], m: usize) -> Inputs
     requires { (m ≤ most_inputs) × (input_bytes * m ≤ length part.now) }
     ensures { result.firsts ≡ signeds_of most_inputs input_bytes m part.now 0 }
@@ -40,16 +39,14 @@ pub fn read_inputs(part: &[u8], m: usize) -> Inputs
     let mut read = Inputs {
         firsts: [0; INPUTS],
     };
-    let mut j = 0;
-    while j < m {
-        let first = read_i32(part, INPUT_BYTES * j);
-        read.firsts[j] = first;
-        j += 1;
+    for j in 0..m {
+        read.firsts[j] = read_i32(part, INPUT_BYTES * j);
     }
     read
 }
 
 // "20 bytes: kind, A, B, signed lo, signed hi"
+#[tactic(auto, using(crate::proofs::Laws::ColumnLoops::columns))]
 pub fn read_nodes(part: &[u8], k: usize) -> Nodes
     requires { (k ≤ most_nodes) × (node_bytes * k ≤ length part.now) }
     ensures kinds { result.kinds ≡ words_of most_nodes node_bytes k part.now 0 }
@@ -65,24 +62,18 @@ pub fn read_nodes(part: &[u8], k: usize) -> Nodes
         lows: [0; NODES],
         highs: [0; NODES],
     };
-    let mut j = 0;
-    while j < k {
-        let kind = read_u32(part, NODE_BYTES * j) as usize;
-        let a = read_u32(part, NODE_BYTES * j + 4) as usize;
-        let b = read_u32(part, NODE_BYTES * j + 8) as usize;
-        let low = read_i32(part, NODE_BYTES * j + 12);
-        let high = read_i32(part, NODE_BYTES * j + 16);
-        read.kinds[j] = kind;
-        read.a[j] = a;
-        read.b[j] = b;
-        read.lows[j] = low;
-        read.highs[j] = high;
-        j += 1;
+    for j in 0..k {
+        read.kinds[j] = read_u32(part, NODE_BYTES * j) as usize;
+        read.a[j] = read_u32(part, NODE_BYTES * j + 4) as usize;
+        read.b[j] = read_u32(part, NODE_BYTES * j + 8) as usize;
+        read.lows[j] = read_i32(part, NODE_BYTES * j + 12);
+        read.highs[j] = read_i32(part, NODE_BYTES * j + 16);
     }
     read
 }
 
 // "12 bytes: target integrator, source, signed coefficient"
+#[tactic(auto, using(crate::proofs::Laws::ColumnLoops::columns))]
 pub fn read_links(part: &[u8], links: usize) -> Links
     requires { (links ≤ most_links) × (link_bytes * links ≤ length part.now) }
     ensures targets { result.targets ≡ words_of most_links link_bytes links part.now 0 }
@@ -94,20 +85,16 @@ pub fn read_links(part: &[u8], links: usize) -> Links
         sources: [0; LINKS],
         coefficients: [0; LINKS],
     };
-    let mut e = 0;
-    while e < links {
-        let target = read_u32(part, LINK_BYTES * e) as usize;
-        let source = read_u32(part, LINK_BYTES * e + 4) as usize;
-        let coefficient = read_i32(part, LINK_BYTES * e + 8);
-        read.targets[e] = target;
-        read.sources[e] = source;
-        read.coefficients[e] = coefficient;
-        e += 1;
+    for e in 0..links {
+        read.targets[e] = read_u32(part, LINK_BYTES * e) as usize;
+        read.sources[e] = read_u32(part, LINK_BYTES * e + 4) as usize;
+        read.coefficients[e] = read_i32(part, LINK_BYTES * e + 8);
     }
     read
 }
 
 // "12 bytes: tick .., input number .., signed value"
+#[tactic(auto, using(crate::proofs::Laws::ColumnLoops::columns))]
 pub fn read_commands(part: &[u8], commands: usize) -> Commands
     requires { (commands ≤ most_commands) × (command_bytes * commands ≤ length part.now) }
     ensures ticks { result.ticks ≡ words_of most_commands command_bytes commands part.now 0 }
@@ -119,15 +106,10 @@ pub fn read_commands(part: &[u8], commands: usize) -> Commands
         inputs: [0; COMMANDS],
         values: [0; COMMANDS],
     };
-    let mut e = 0;
-    while e < commands {
-        let tick = read_u32(part, COMMAND_BYTES * e) as u32;
-        let input = read_u32(part, COMMAND_BYTES * e + 4) as usize;
-        let value = read_i32(part, COMMAND_BYTES * e + 8);
-        read.ticks[e] = tick;
-        read.inputs[e] = input;
-        read.values[e] = value;
-        e += 1;
+    for e in 0..commands {
+        read.ticks[e] = read_u32(part, COMMAND_BYTES * e) as u32;
+        read.inputs[e] = read_u32(part, COMMAND_BYTES * e + 4) as usize;
+        read.values[e] = read_i32(part, COMMAND_BYTES * e + 8);
     }
     read
 }

@@ -1,4 +1,4 @@
--- Model of the code: what each section check finds, on the arrays that it is lent. These are the findings of `plan/Refusals`, of which each
+-- Model of the code: what each section check finds, on the arrays of its section. These are the findings of `plan/Refusals`, of which each
 -- sees its own section and the sizes that it goes by, and the contract of `check_plan` joins them to `plan_finding`. The test of entry e
 -- stands before each.
 use Rattle.std.specs.Prelude.{Bool, ◌&&◌, List, ℕ, ◌+◌, ℤ}
@@ -6,12 +6,12 @@ use Rattle.integers.specs.Range.{within}
 use Rattle.plan.specs.Numbers.{M}
 use Rattle.plan.specs.Lists.{nat_at, int_at}
 use Rattle.plan.specs.Tests.{integrator_test, node_test, link_limits_test, command_limits_test, ascends_at}
-use Rattle.plan.specs.Refusals.{unless, first_finding}
-use Rattle.plan.specs.declared.Finding.{Finding}
-use Rattle.plan.specs.declared.Finding.TheVariants.{Integrator, Input, Node, Link, Command}
+use Rattle.plan.specs.Refusals.{Finding, unless, first_finding}
+use Rattle.plan.specs.declared.Refusal.{Refusal}
+use Rattle.plan.specs.declared.Refusal.TheVariants.{Integrator, Input, Node, Link, Command}
 
 -- the finding of n entries, by the test of an entry and its fault
-abbrev pub checked : (ℕ → Bool) → (ℕ → Finding) → ℕ → Finding
+abbrev pub checked : (ℕ → Bool) → (ℕ → Refusal) → ℕ → Finding
 checked test fault n = first_finding (λ e. unless (test e) (fault e)) 0 n
 
 abbrev pub integrator_at : List ℤ → List ℤ → ℕ → Bool

@@ -1,221 +1,155 @@
-// The checks of a plan, document 01's refusals 4 to 9: each goes through its section from entry 0 and answers the first fault. They are lent
-// just the arrays that they look at, and ask that the counts are inside their limits, so that every index stays inside its array and every sum inside its type.
+// The checks of a plan, document 01's refusals 4 to 9: each goes through its section from entry 0 and answers the first fault. They ask that the
+// counts are inside their limits, so that every index stays inside its array and every sum inside its type.
+// Five loops of one shape: one over closures would say in its contract what each test answers, and `find` with a `match` is no plainer.
 ghost use Rattle.std.specs.Prelude.{◌≡◌, ◌+◌, ◌≤◌};
 ghost use Rattle.plan.specs.Numbers.{most_integrators, most_inputs, most_nodes, most_links, most_commands};
 ghost use Rattle.plan.specs.Tests.{horizon_kept};
 ghost use Rattle.plan.specs.Rules.{CountsRule};
-ghost use Rattle.plan.specs.Refusals.{unless, or_else, plan_finding};
-ghost use Rattle.plan.specs.declared.Finding.TheVariants.{Horizon};
+ghost use Rattle.plan.specs.Refusals.{unless, plan_finding};
+ghost use Rattle.plan.specs.declared.Refusal.TheVariants.{Horizon};
 ghost use Rattle.planrules.specs.Checks.{integrators_check, inputs_check, nodes_check, links_check, commands_check};
-ghost use Rattle.plan.specs.Lent.{plan_lent};
 
 use entryrules::{
     command_ascends, command_limits_test, horizon_kept, integrator_test, link_ascends,
     link_limits_test, node_test, value_within_m,
 };
-use plan::{COMMANDS, Counts, Finding, INPUTS, INTEGRATORS, LINKS, NODES};
+use plan::{Commands, Inputs, Integrators, Links, Nodes, Plan, Refusal};
 
 // Refusal 4, the horizon.
-fn check_horizon(horizon: u32) -> Finding
+fn check_horizon(horizon: u32) -> Result<(), Refusal>
     ensures { result ≡ unless (horizon_kept horizon) Horizon }
 {
     if horizon_kept(horizon) {
-        Finding::Clean
+        Ok(())
     } else {
-        Finding::Horizon
+        Err(Refusal::Horizon)
     }
 }
 
 // Refusal 5, the integrators.
-pub fn check_integrators<'a>(
-    n: usize,
-    starts: &'a [i64; INTEGRATORS],
-    quanta: &'a [i64; INTEGRATORS],
-) -> Finding
+pub fn check_integrators(integrators: &Integrators, n: usize) -> Result<(), Refusal>
     requires { n ≤ most_integrators }
-    ensures { result ≡ integrators_check n starts.now quanta.now }
+    ensures { result ≡ integrators_check n integrators.now.starts integrators.now.quanta }
 {
-    let mut i = 0;
-    while i < n {
-        if !integrator_test(starts[i], quanta[i]) {
-            return Finding::Integrator(i);
+    for i in 0..n {
+        if !integrator_test(integrators.starts[i], integrators.quanta[i]) {
+            return Err(Refusal::Integrator(i));
         }
-        i += 1;
     }
-    Finding::Clean
+    Ok(())
 }
 
 // Refusal 6, the inputs.
-pub fn check_inputs(m: usize, firsts: &[i64; INPUTS]) -> Finding
+pub fn check_inputs(inputs: &Inputs, m: usize) -> Result<(), Refusal>
     requires { m ≤ most_inputs }
-    ensures { result ≡ inputs_check m firsts.now }
+    ensures { result ≡ inputs_check m inputs.now.firsts }
 {
-    let mut j = 0;
-    while j < m {
-        if !value_within_m(firsts[j]) {
-            return Finding::Input(j);
+    for j in 0..m {
+        if !value_within_m(inputs.firsts[j]) {
+            return Err(Refusal::Input(j));
         }
-        j += 1;
     }
-    Finding::Clean
+    Ok(())
 }
 
 // Refusal 7, the nodes. `base` is n + m, the source number of node 0.
-pub fn check_nodes<'a>(
-    base: usize,
-    k: usize,
-    kinds: &'a [usize; NODES],
-    a: &'a [usize; NODES],
-    b: &'a [usize; NODES],
-    lows: &'a [i64; NODES],
-    highs: &'a [i64; NODES],
-) -> Finding
+pub fn check_nodes(nodes: &Nodes, base: usize, k: usize) -> Result<(), Refusal>
     requires { (base ≤ most_integrators + most_inputs) × (k ≤ most_nodes) }
-    ensures { result ≡ nodes_check base k kinds.now a.now b.now lows.now highs.now }
+    ensures { result ≡ nodes_check base k nodes.now.kinds nodes.now.a nodes.now.b nodes.now.lows nodes.now.highs }
 {
-    let mut j = 0;
-    while j < k {
-        if !node_test(base + j, kinds[j], a[j], b[j], lows[j], highs[j]) {
-            return Finding::Node(j);
+    for j in 0..k {
+        let kept = node_test(
+            base + j,
+            nodes.kinds[j],
+            nodes.a[j],
+            nodes.b[j],
+            nodes.lows[j],
+            nodes.highs[j],
+        );
+        if !kept {
+            return Err(Refusal::Node(j));
         }
-        j += 1;
     }
-    Finding::Clean
+    Ok(())
 }
 
 // Refusal 8, the links. `all` is n + m + k, the number of sources.
-pub fn check_links<'a>(
-    n: usize,
-    all: usize,
-    links: usize,
-    targets: &'a [usize; LINKS],
-    sources: &'a [usize; LINKS],
-    coefficients: &'a [i64; LINKS],
-) -> Finding
-    requires { links ≤ most_links }
-    ensures { result ≡ links_check n all links targets.now sources.now coefficients.now }
+pub fn check_links(links: &Links, n: usize, all: usize, count: usize) -> Result<(), Refusal>
+    requires { count ≤ most_links }
+    ensures { result ≡ links_check n all count links.now.targets links.now.sources links.now.coefficients }
 {
-    let mut e = 0;
-    while e < links {
-        if !link_limits_test(n, all, targets[e], sources[e], coefficients[e]) {
-            return Finding::Link(e);
+    for e in 0..count {
+        if !link_limits_test(
+            n,
+            all,
+            links.targets[e],
+            links.sources[e],
+            links.coefficients[e],
+        ) {
+            return Err(Refusal::Link(e));
         }
-        if !link_ascends(e, targets, sources) {
-            return Finding::Link(e);
+        if !link_ascends(links, e) {
+            return Err(Refusal::Link(e));
         }
-        e += 1;
     }
-    Finding::Clean
-}
-
-// The refusals 7 and 8, in this order: both go by source numbers, which are worked out here.
-fn check_nodes_and_links<'a>(
-    n: usize,
-    m: usize,
-    k: usize,
-    links: usize,
-    kinds: &'a [usize; NODES],
-    a: &'a [usize; NODES],
-    b: &'a [usize; NODES],
-    lows: &'a [i64; NODES],
-    highs: &'a [i64; NODES],
-    targets: &'a [usize; LINKS],
-    sources: &'a [usize; LINKS],
-    coefficients: &'a [i64; LINKS],
-) -> Finding
-    requires { (n + m ≤ most_integrators + most_inputs) × (k ≤ most_nodes) × (links ≤ most_links) }
-    ensures { result ≡ or_else (nodes_check (n + m) k kinds.now a.now b.now lows.now highs.now)
-        (links_check n (n + m + k) links targets.now sources.now coefficients.now) }
-{
-    let base = n + m;
-    let all = base + k;
-    let found = check_nodes(base, k, kinds, a, b, lows, highs);
-    let Finding::Clean = found else {
-        return found;
-    };
-    check_links(n, all, links, targets, sources, coefficients)
+    Ok(())
 }
 
 // Refusal 9, the commands.
-pub fn check_commands<'a>(
+pub fn check_commands(
+    commands: &Commands,
     horizon: u32,
     m: usize,
-    commands: usize,
-    ticks: &'a [u32; COMMANDS],
-    inputs: &'a [usize; COMMANDS],
-    values: &'a [i64; COMMANDS],
-) -> Finding
-    requires { commands ≤ most_commands }
-    ensures { result ≡ commands_check horizon m commands ticks.now inputs.now values.now }
+    count: usize,
+) -> Result<(), Refusal>
+    requires { count ≤ most_commands }
+    ensures { result ≡ commands_check horizon m count commands.now.ticks commands.now.inputs commands.now.values }
 {
-    let mut e = 0;
-    while e < commands {
-        if !command_limits_test(horizon, m, ticks[e], inputs[e], values[e]) {
-            return Finding::Command(e);
+    for e in 0..count {
+        if !command_limits_test(
+            horizon,
+            m,
+            commands.ticks[e],
+            commands.inputs[e],
+            commands.values[e],
+        ) {
+            return Err(Refusal::Command(e));
         }
-        if !command_ascends(e, ticks, inputs) {
-            return Finding::Command(e);
+        if !command_ascends(commands, e) {
+            return Err(Refusal::Command(e));
         }
-        e += 1;
     }
-    Finding::Clean
+    Ok(())
 }
 
-// The refusals 4 to 9 of a plan whose counts are inside their limits, tried in order. The plan's columns are lent one by one, so that none is copied.
-pub fn check_plan<'a>(
-    horizon: u32,
-    counts: Counts,
-    starts: &'a [i64; INTEGRATORS],
-    quanta: &'a [i64; INTEGRATORS],
-    firsts: &'a [i64; INPUTS],
-    kinds: &'a [usize; NODES],
-    a: &'a [usize; NODES],
-    b: &'a [usize; NODES],
-    lows: &'a [i64; NODES],
-    highs: &'a [i64; NODES],
-    targets: &'a [usize; LINKS],
-    sources: &'a [usize; LINKS],
-    coefficients: &'a [i64; LINKS],
-    ticks: &'a [u32; COMMANDS],
-    numbers: &'a [usize; COMMANDS],
-    settings: &'a [i64; COMMANDS],
-) -> Finding
-    requires { CountsRule (plan_lent horizon counts starts.now quanta.now firsts.now kinds.now a.now b.now lows.now highs.now
-        targets.now sources.now coefficients.now ticks.now numbers.now settings.now) }
-    ensures { result ≡ plan_finding (plan_lent horizon counts starts.now quanta.now firsts.now kinds.now
-        a.now b.now lows.now highs.now targets.now sources.now
-        coefficients.now ticks.now numbers.now settings.now) }
+// The refusals 4 to 9 of a plan whose counts are inside their limits, tried in order. Each answer is taken apart by `let .. else` before the next check, and
+// not by `?`: document 01 names that form.
+#[tactic(auto, using(crate::proofs::Laws::Findings::stages), unfolding(plan::specs::Refusals::or_else))]
+pub fn check_plan(plan: &Plan) -> Result<(), Refusal>
+    requires { CountsRule plan.now }
+    ensures { result ≡ plan_finding plan.now }
 {
-    let n = counts.n;
-    let m = counts.m;
-    let found = check_horizon(horizon);
-    let Finding::Clean = found else {
+    let counts = plan.counts;
+    let base = counts.n + counts.m;
+    let found = check_horizon(plan.horizon);
+    let Ok(()) = found else {
         return found;
     };
-    let found = check_integrators(n, starts, quanta);
-    let Finding::Clean = found else {
+    let found = check_integrators(&plan.integrators, counts.n);
+    let Ok(()) = found else {
         return found;
     };
-    let found = check_inputs(m, firsts);
-    let Finding::Clean = found else {
+    let found = check_inputs(&plan.inputs, counts.m);
+    let Ok(()) = found else {
         return found;
     };
-    let found = check_nodes_and_links(
-        n,
-        m,
-        counts.k,
-        counts.links,
-        kinds,
-        a,
-        b,
-        lows,
-        highs,
-        targets,
-        sources,
-        coefficients,
-    );
-    let Finding::Clean = found else {
+    let found = check_nodes(&plan.nodes, base, counts.k);
+    let Ok(()) = found else {
         return found;
     };
-    check_commands(horizon, m, counts.commands, ticks, numbers, settings)
+    let found = check_links(&plan.links, counts.n, base + counts.k, counts.links);
+    let Ok(()) = found else {
+        return found;
+    };
+    check_commands(&plan.commands, plan.horizon, counts.m, counts.commands)
 }

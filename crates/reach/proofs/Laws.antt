@@ -1,6 +1,6 @@
 -- What is proved of these definitions.
-pub mod TableLoops
 pub mod Some
 pub mod Masks
 pub mod Entries
 pub mod Reached
+pub mod TableLoops

@@ -1,5 +1,6 @@
 // The section writers: each writes the entries of its section, one behind the other, at the start of the part of the buffer that it is lent. They ask
-// for room and that each number fits its word of 32 bits.
+// for room and that each number fits its word of 32 bits. Five loops of one shape: one over a closure would say in its contract what each entry's words
+// are, and be no plainer.
 #![tactic(auto)]
 
 ghost use Rattle.std.specs.Prelude.{◌≡◌, [], ◌∷◌, ◌*◌, ◌<◌, ◌≤◌, ◌^◌, length};
@@ -13,8 +14,8 @@ ghost use Rattle.plan.specs.Encoding.{integrator_entry, input_entry, node_entry,
 ghost use Rattle.sectionwriters.specs.Entries.{Unsigned32, Signed32};
 
 use plan::{
-    COMMAND_BYTES, COMMANDS, INPUT_BYTES, INPUTS, INTEGRATOR_BYTES, INTEGRATORS, LINK_BYTES, LINKS,
-    NODE_BYTES, NODES,
+    COMMAND_BYTES, Commands, INPUT_BYTES, INTEGRATOR_BYTES, Inputs, Integrators, LINK_BYTES, Links,
+    NODE_BYTES, Nodes,
 };
 use words::{write_i32, write_triple, write_u32};
 
@@ -36,6 +37,7 @@ fn write_input(buffer: &mut [u8], first: i64)
 }
 
 // The words of a node's entry.
+// An entry's numbers one by one, as the plan's columns hold them.
 fn write_node(buffer: &mut [u8], kind: usize, a: usize, b: usize, lo: i64, hi: i64)
     requires { (node_bytes ≤ length buffer.old) × (kind < 2 ^ 32) × (a < 2 ^ 32) × (b < 2 ^ 32) × (mag lo < 2 ^ 31) × (mag hi < 2 ^ 31) }
     ensures { buffer.new ≡ written (kind ∷ a ∷ b ∷ word_of lo ∷ word_of hi ∷ []) buffer.old }
@@ -48,111 +50,81 @@ fn write_node(buffer: &mut [u8], kind: usize, a: usize, b: usize, lo: i64, hi: i
 }
 
 // The section of the integrators.
-pub fn write_integrators<'a>(
-    buffer: &mut [u8],
-    n: usize,
-    starts: &'a [i64; INTEGRATORS],
-    quanta: &'a [i64; INTEGRATORS],
-)
+pub fn write_integrators(buffer: &mut [u8], integrators: &Integrators, n: usize)
     requires counted { (n ≤ most_integrators) × (integrator_bytes * n ≤ length buffer.old) }
-    requires fitting { Signed32 n starts.now × Signed32 n quanta.now }
-    ensures { buffer.new ≡ written (joined (integrator_entry starts.now quanta.now) n) buffer.old }
+    requires fitting { Signed32 n integrators.now.starts × Signed32 n integrators.now.quanta }
+    ensures { buffer.new ≡ written (joined (integrator_entry integrators.now.starts integrators.now.quanta) n) buffer.old }
 {
-    let mut i = 0;
-    while i < n {
-        write_integrator(&mut buffer[INTEGRATOR_BYTES * i..], starts[i], quanta[i]);
-        i += 1;
+    for i in 0..n {
+        write_integrator(
+            &mut buffer[INTEGRATOR_BYTES * i..],
+            integrators.starts[i],
+            integrators.quanta[i],
+        );
     }
 }
 
 // The section of the inputs.
-pub fn write_inputs<'a>(buffer: &mut [u8], m: usize, firsts: &'a [i64; INPUTS])
+pub fn write_inputs(buffer: &mut [u8], inputs: &Inputs, m: usize)
     requires counted { (m ≤ most_inputs) × (input_bytes * m ≤ length buffer.old) }
-    requires fitting { Signed32 m firsts.now }
-    ensures { buffer.new ≡ written (joined (input_entry firsts.now) m) buffer.old }
+    requires fitting { Signed32 m inputs.now.firsts }
+    ensures { buffer.new ≡ written (joined (input_entry inputs.now.firsts) m) buffer.old }
 {
-    let mut j = 0;
-    while j < m {
-        write_input(&mut buffer[INPUT_BYTES * j..], firsts[j]);
-        j += 1;
+    for j in 0..m {
+        write_input(&mut buffer[INPUT_BYTES * j..], inputs.firsts[j]);
     }
 }
 
 // The section of the nodes.
-pub fn write_nodes<'a>(
-    buffer: &mut [u8],
-    k: usize,
-    kinds: &'a [usize; NODES],
-    a: &'a [usize; NODES],
-    b: &'a [usize; NODES],
-    lows: &'a [i64; NODES],
-    highs: &'a [i64; NODES],
-)
+pub fn write_nodes(buffer: &mut [u8], nodes: &Nodes, k: usize)
     requires counted { (k ≤ most_nodes) × (node_bytes * k ≤ length buffer.old) }
-    requires fitting { Unsigned32 k kinds.now × Unsigned32 k a.now × Unsigned32 k b.now × Signed32 k lows.now × Signed32 k highs.now }
-    ensures { buffer.new ≡ written (joined (node_entry kinds.now a.now b.now
-        lows.now highs.now) k) buffer.old }
+    requires fitting { Unsigned32 k nodes.now.kinds × Unsigned32 k nodes.now.a × Unsigned32 k nodes.now.b
+        × Signed32 k nodes.now.lows × Signed32 k nodes.now.highs }
+    ensures { buffer.new ≡ written (joined (node_entry nodes.now.kinds nodes.now.a nodes.now.b
+        nodes.now.lows nodes.now.highs) k) buffer.old }
 {
-    let mut j = 0;
-    while j < k {
+    for j in 0..k {
         write_node(
             &mut buffer[NODE_BYTES * j..],
-            kinds[j],
-            a[j],
-            b[j],
-            lows[j],
-            highs[j],
+            nodes.kinds[j],
+            nodes.a[j],
+            nodes.b[j],
+            nodes.lows[j],
+            nodes.highs[j],
         );
-        j += 1;
     }
 }
 
 // The section of the links.
-pub fn write_links<'a>(
-    buffer: &mut [u8],
-    links: usize,
-    targets: &'a [usize; LINKS],
-    sources: &'a [usize; LINKS],
-    coefficients: &'a [i64; LINKS],
-)
-    requires counted { (links ≤ most_links) × (link_bytes * links ≤ length buffer.old) }
-    requires fitting { Unsigned32 links targets.now × Unsigned32 links sources.now × Signed32 links coefficients.now }
-    ensures { buffer.new ≡ written (joined (triple_entry targets.now sources.now coefficients.now) links)
+pub fn write_links(buffer: &mut [u8], links: &Links, count: usize)
+    requires counted { (count ≤ most_links) × (link_bytes * count ≤ length buffer.old) }
+    requires fitting { Unsigned32 count links.now.targets × Unsigned32 count links.now.sources × Signed32 count links.now.coefficients }
+    ensures { buffer.new ≡ written (joined (triple_entry links.now.targets links.now.sources links.now.coefficients) count)
         buffer.old }
 {
-    let mut e = 0;
-    while e < links {
+    for e in 0..count {
         write_triple(
             &mut buffer[LINK_BYTES * e..],
-            targets[e],
-            sources[e],
-            coefficients[e],
+            links.targets[e],
+            links.sources[e],
+            links.coefficients[e],
         );
-        e += 1;
     }
 }
 
 // The section of the commands.
-pub fn write_commands<'a>(
-    buffer: &mut [u8],
-    commands: usize,
-    ticks: &'a [u32; COMMANDS],
-    inputs: &'a [usize; COMMANDS],
-    values: &'a [i64; COMMANDS],
-)
-    requires counted { (commands ≤ most_commands) × (command_bytes * commands ≤ length buffer.old) }
-    requires fitting { Unsigned32 commands ticks.now × Unsigned32 commands inputs.now × Signed32 commands values.now }
-    ensures { buffer.new ≡ written (joined (triple_entry ticks.now inputs.now values.now) commands)
+pub fn write_commands(buffer: &mut [u8], commands: &Commands, count: usize)
+    requires counted { (count ≤ most_commands) × (command_bytes * count ≤ length buffer.old) }
+    requires fitting { Unsigned32 count commands.now.ticks × Unsigned32 count commands.now.inputs × Signed32 count commands.now.values }
+    ensures { buffer.new ≡ written (joined (triple_entry commands.now.ticks commands.now.inputs commands.now.values) count)
         buffer.old }
 {
-    let mut e = 0;
-    while e < commands {
+    for e in 0..count {
         write_triple(
             &mut buffer[COMMAND_BYTES * e..],
-            ticks[e] as usize,
-            inputs[e],
-            values[e],
+            commands.ticks[e] as usize,
+            commands.inputs[e],
+            commands.values[e],
         );
-        e += 1;
     }
 }

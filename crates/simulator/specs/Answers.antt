@@ -1,22 +1,26 @@
--- Model of the code: what a call answers beside the state that it was handed, as the answer of the call. What the answers are by document 01:
+-- Model of the code: what a call answers, or what it declines with, beside the state that it was handed. What the answers are by document 01:
 -- Laws/Answers.
-use Rattle.std.specs.Prelude.{◌≡◌, List, ℕ}
-use Rattle.plan.specs.declared.Plan.{Plan}
-use Rattle.machine.specs.declared.Running.{Running}
+use Rattle.std.specs.Prelude.{◌≡◌, List, ℕ, ℤ, pos, Result, Ok, Err}
+use Rattle.plan.specs.Numbers.{acceptance}
+use Rattle.plan.specs.Refusals.{refusal_number}
+use Rattle.plan.specs.declared.Refusal.{Refusal}
+use Rattle.machine.specs.declared.State.{State}
 use Rattle.calls.specs.Calls.{write_of, buffer_of_write, positioned_of}
 use Rattle.calls.specs.declared.Written.{Written}
 use Rattle.calls.specs.declared.Positioned.{Positioned}
-use Rattle.runcalls.specs.Answers.{state_by}
-use Rattle.simulator.specs.declared.positions.Found.{Found}
-use Rattle.simulator.specs.declared.writing.Wrote.{Wrote}
 
 -- ---- plan writer
-abbrev pub WriteAnswered : (p : Plan) (r : Running) (buffer : List ℕ) (w : Wrote) (after : List ℕ) → Type 0
-WriteAnswered p r buffer w after =
-    (◌≡◌ {A = Written} (record { number = w.number; length = w.length; state = state_by p r }) (write_of (state_by p r) buffer))
-    × (after ≡ buffer_of_write (state_by p r) buffer)
+abbrev pub written_with : State → Result ℕ Refusal → Written
+written_with st (Ok size) = record { number = acceptance; length = size; state = st }
+written_with st (Err refusal) = record { number = refusal_number refusal; length = 0; state = st }
+
+abbrev pub WriteAnswered : (st : State) (buffer : List ℕ) (w : Result ℕ Refusal) (after : List ℕ) → Type 0
+WriteAnswered st buffer w after = (written_with st w ≡ write_of st buffer) × (after ≡ buffer_of_write st buffer)
 
 -- ---- position call
-abbrev pub PositionAnswered : (p : Plan) (r : Running) (i : ℕ) (w : Found) → Type 0
-PositionAnswered p r i w =
-    ◌≡◌ {A = Positioned} (record { number = w.number; value = w.value; state = state_by p r }) (positioned_of (state_by p r) i)
+abbrev pub positioned_with : State → Result ℤ Refusal → Positioned
+positioned_with st (Ok value) = record { number = acceptance; value = value; state = st }
+positioned_with st (Err refusal) = record { number = refusal_number refusal; value = pos 0; state = st }
+
+abbrev pub PositionAnswered : (st : State) (i : ℕ) (w : Result ℤ Refusal) → Type 0
+PositionAnswered st i w = positioned_with st w ≡ positioned_of st i

@@ -13,9 +13,8 @@ ghost use Rattle.calls.specs.Calls.{load_of};
 pub use calls::{Loaded, Positioned, Ran, Written};
 use directory::section_in;
 use machine::State;
-use plan::{ACCEPTED, Finding, SECTIONS};
+use plan::{ACCEPTED, SECTIONS};
 use planfile::{finding_of, read_plan};
-use planrules::{entry_of, number_of};
 pub use positions::position;
 pub use runcalls::{run_eager, run_lazy};
 use starts::start;
@@ -31,8 +30,7 @@ pub fn section(file: &[u8], number: usize) -> &[u8]
     if SECTIONS <= number {
         return &file[..0];
     }
-    let found = finding_of(file);
-    let Finding::Clean = found else {
+    let Ok(()) = finding_of(file) else {
         return &file[..0];
     };
     section_in(file, number)
@@ -43,24 +41,19 @@ pub fn section(file: &[u8], number: usize) -> &[u8]
 pub fn load(file: &[u8]) -> Loaded
     ensures { result ≡ load_of file.now }
 {
-    let reading = read_plan(file);
-    let found = reading.finding;
-    let Finding::Clean = found else {
-        let number = number_of(found);
-        let entry = entry_of(found);
-        let state = State::idle();
-        return Loaded {
-            number,
-            entry,
-            state,
-        };
-    };
-    let plan = reading.plan;
-    let run = start(plan);
-    let state = State { plan, run };
-    Loaded {
-        number: ACCEPTED,
-        entry: 0,
-        state,
+    match read_plan(file) {
+        Ok(plan) => {
+            let run = start(&plan);
+            Loaded {
+                number: ACCEPTED,
+                entry: 0,
+                state: State { plan, run },
+            }
+        }
+        Err(refusal) => Loaded {
+            number: refusal.number(),
+            entry: refusal.entry(),
+            state: State::idle(),
+        },
     }
 }

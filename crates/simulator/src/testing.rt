@@ -1,4 +1,4 @@
-// "A sound state": the test behind refusal 10, as a call of its own. The state's arrays are lent where they lie.
+// "A sound state": the test behind refusal 10, as a call of its own. The state is lent where it lies.
 ghost use Rattle.std.specs.Prelude.{◌≡◌};
 ghost use Rattle.machine.specs.SoundTest.{is_sound};
 
@@ -9,30 +9,5 @@ use soundness::test_state;
 pub fn is_sound(state: State) -> bool
     ensures { result ≡ is_sound state }
 {
-    let test = test_state(
-        state.plan.horizon,
-        state.plan.counts,
-        &state.plan.integrators.starts,
-        &state.plan.integrators.quanta,
-        &state.plan.inputs.firsts,
-        &state.plan.nodes.kinds,
-        &state.plan.nodes.a,
-        &state.plan.nodes.b,
-        &state.plan.nodes.lows,
-        &state.plan.nodes.highs,
-        &state.plan.links.targets,
-        &state.plan.links.sources,
-        &state.plan.links.coefficients,
-        &state.plan.commands.ticks,
-        &state.plan.commands.inputs,
-        &state.plan.commands.values,
-        &state.run.x,
-        &state.run.q,
-        &state.run.s,
-        &state.run.l,
-        &state.run.d,
-        &state.run.inputs,
-        state.run.clocks,
-    );
-    test.sound
+    test_state(&state.plan, &state.run).is_some()
 }

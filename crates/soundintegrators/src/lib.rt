@@ -7,11 +7,12 @@ ghost use Rattle.plan.specs.Lists.{nat_at, int_at, every};
 ghost use Rattle.timing.specs.Ticks.{upper_in, lower_in};
 ghost use Rattle.soundintegrators.specs.Figures.{figures_sound, FiguresReady, IntegratorsReady};
 
-use plan::INTEGRATORS;
+use machine::Running;
+use plan::{INTEGRATORS, Plan};
 use timing::due_tick;
 
 // "l ≤ c < d; .. |x−q| < D; s and d keep Rate and Due", of one integrator with these levels, whose slope has to be `slope`. x may be any number of 64
-// bits, so it is compared with the levels and nothing is taken from it.
+// bits, so it is compared with the levels and nothing is taken from it. The numbers come one by one: a struct of these eight would be filled for this call alone.
 fn figures_sound(
     upper: i64,
     lower: i64,
@@ -44,30 +45,24 @@ fn figures_sound(
 }
 
 // Of each integrator.
-pub fn integrators_sound<'a>(
-    n: usize,
-    quanta: &'a [i64; INTEGRATORS],
-    slopes: &'a [i64; INTEGRATORS],
-    clock: u32,
-    x: &'a [i64; INTEGRATORS],
-    q: &'a [i64; INTEGRATORS],
-    s: &'a [i64; INTEGRATORS],
-    l: &'a [u32; INTEGRATORS],
-    d: &'a [u32; INTEGRATORS],
-) -> bool
-    requires { (n ≤ most_integrators) × IntegratorsReady n quanta.now slopes.now clock q.now }
-    ensures { result ≡ every (λ i. figures_sound (upper_in q.now quanta.now i) (lower_in q.now quanta.now i)
-        (int_at slopes.now i) clock (int_at x.now i) (int_at s.now i) (nat_at l.now i) (nat_at d.now i)) n }
+#[tactic(auto, unfolding(plan::specs::Lists::every))]
+pub fn integrators_sound(plan: &Plan, slopes: &[i64; INTEGRATORS], run: &Running) -> bool
+    requires { (plan.now.counts.n ≤ most_integrators)
+        × IntegratorsReady plan.now.counts.n plan.now.integrators.quanta slopes.now run.now.clocks.clock run.now.q }
+    ensures { result ≡ every (λ i. figures_sound (upper_in run.now.q plan.now.integrators.quanta i) (lower_in run.now.q plan.now.integrators.quanta i)
+        (int_at slopes.now i) run.now.clocks.clock (int_at run.now.x i) (int_at run.now.s i) (nat_at run.now.l i) (nat_at run.now.d i)) plan.now.counts.n }
 {
-    let mut i: usize = 0;
-    while i < n {
-        let output = q[i];
-        let upper = output + quanta[i];
-        let lower = output - quanta[i];
-        if !figures_sound(upper, lower, slopes[i], clock, x[i], s[i], l[i], d[i]) {
+    let clock = run.clocks.clock;
+    for i in 0..plan.counts.n {
+        let output = run.q[i];
+        let quantum = plan.integrators.quanta[i];
+        let upper = output + quantum;
+        let lower = output - quantum;
+        if !figures_sound(
+            upper, lower, slopes[i], clock, run.x[i], run.s[i], run.l[i], run.d[i],
+        ) {
             return false;
         }
-        i += 1;
     }
     true
 }

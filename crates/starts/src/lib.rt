@@ -4,66 +4,46 @@
 ghost use Rattle.std.specs.Prelude.{◌≡◌, ◌≤◌};
 ghost use Rattle.plan.specs.Numbers.{most_integrators};
 ghost use Rattle.plan.specs.Rules.{PlanRules};
-ghost use Rattle.plan.specs.Lists.{int_at, row};
-ghost use Rattle.machine.specs.Due.{due_tick};
+ghost use Rattle.plan.specs.Lists.{row};
 ghost use Rattle.machine.specs.Start.{start_of};
-ghost use Rattle.timing.specs.Ticks.{upper_in, lower_in};
-ghost use Rattle.starts.specs.Starting.{StartsReady};
+ghost use Rattle.starts.specs.Starting.{first_due, StartsReady};
 
 use machine::{Clocks, Running};
-use plan::{INTEGRATORS, Plan};
+use plan::{Counts, INTEGRATORS, Integrators, Plan};
 use tables::tables_by;
 use timing::{due_tick, next_entry};
 
 // The due tick of each integrator at its start.
-fn start_dues<'a>(
+// By place: four arrays in step, which `zip` would nest.
+fn start_dues(
+    integrators: &Integrators,
     n: usize,
-    starts: &'a [i64; INTEGRATORS],
-    quanta: &'a [i64; INTEGRATORS],
-    slopes: &'a [i64; INTEGRATORS],
+    slopes: &[i64; INTEGRATORS],
 ) -> [u32; INTEGRATORS]
-    requires { (n ≤ most_integrators) × StartsReady n starts.now quanta.now slopes.now }
-    ensures { result ≡ row 0 most_integrators n (λ i. due_tick 0 (int_at starts.now i)
-        (upper_in starts.now quanta.now i) (lower_in starts.now quanta.now i)
-        (int_at slopes.now i)) }
+    requires { (n ≤ most_integrators) × StartsReady n integrators.now slopes.now }
+    ensures { result ≡ row 0 most_integrators n (first_due integrators.now slopes.now) }
 {
-    let mut dues: [u32; INTEGRATORS] = [0; INTEGRATORS];
-    let mut i: usize = 0;
-    while i < n {
-        let start = starts[i];
-        let upper = start + quanta[i];
-        let lower = start - quanta[i];
+    let mut dues = [0; INTEGRATORS];
+    for i in 0..n {
+        let start = integrators.starts[i];
+        let upper = start + integrators.quanta[i];
+        let lower = start - integrators.quanta[i];
         dues[i] = due_tick(0, start, upper, lower, slopes[i]);
-        i += 1;
     }
     dues
 }
 
 // The running figures that a plan starts with.
-pub fn start(plan: Plan) -> Running
-    requires { PlanRules plan }
-    ensures { result ≡ start_of plan }
+pub fn start(plan: &Plan) -> Running
+    requires { PlanRules plan.now }
+    ensures { result ≡ start_of plan.now }
 {
-    let counts = plan.counts;
-    let tables = tables_by(
-        counts,
-        &plan.nodes.kinds,
-        &plan.nodes.a,
-        &plan.nodes.b,
-        &plan.nodes.lows,
-        &plan.nodes.highs,
-        &plan.links.targets,
-        &plan.links.sources,
-        &plan.links.coefficients,
-        &plan.integrators.starts,
-        &plan.inputs.firsts,
-    );
-    let s = tables.slopes;
-    let n = counts.n;
-    let d = start_dues(n, &plan.integrators.starts, &plan.integrators.quanta, &s);
-    let next = next_entry(counts.commands, &plan.commands.ticks, 0);
+    let Counts { n, commands, .. } = plan.counts;
     let x = plan.integrators.starts;
     let inputs = plan.inputs.firsts;
+    let s = tables_by(plan, &x, &inputs).slopes;
+    let d = start_dues(&plan.integrators, n, &s);
+    let next = next_entry(&plan.commands, commands, 0);
     Running {
         x,
         q: x,

@@ -1,14 +1,12 @@
--- Model of the code: the tables as they are made of the columns of a plan, and what that asks. What they are of a plan that keeps its
--- rules: `plan_tables`, by Laws/OfPlan.
-use Rattle.std.specs.Prelude.{true, List, ℕ, ◌+◌, ◌≤◌, ℤ, pos}
-use Rattle.bitset.specs.Mask.{each}
-use Rattle.plan.specs.Numbers.{most_integrators, most_inputs, most_links}
+-- Model of the code: the tables as they are worked out, and what that asks. What they are of a plan that keeps its rules: `plan_tables`, by
+-- Laws/OfPlan.
+use Rattle.std.specs.Prelude.{List, ◌+◌, ◌≤◌, ℤ, pos}
+use Rattle.plan.specs.Numbers.{most_integrators, most_links}
 use Rattle.plan.specs.Lists.{nat_at, row}
-use Rattle.plan.specs.declared.Counts.{Counts}
 use Rattle.plan.specs.declared.Plan.{Plan}
 use Rattle.machine.specs.Held.{Held, slope_of}
-use Rattle.values.specs.Sources.{values_of, output_and_input_values, node_step, NodesReady}
-use Rattle.rates.specs.Links.{first_link, ranges_of, range_rate, RatesReady}
+use Rattle.values.specs.Sources.{values_of, values_by, SourcesReady}
+use Rattle.rates.specs.Links.{ranges_of, range_rate, RatesReady}
 use Rattle.tables.specs.declared.Tables.{Tables}
 
 -- the tables of a plan, by what is held
@@ -20,28 +18,17 @@ plan_tables p h =
       slopes = row (pos 0) most_integrators p.counts.n (slope_of p h);
     }
 
-module _ (counts : Counts) (kinds a b : List ℕ) (lows highs : List ℤ) (targets sources : List ℕ) (coefficients q inputs : List ℤ) where
-  abbrev ranges_by : List ℕ
-  ranges_by = row 0 (most_integrators + 1) (counts.n + 1) (first_link targets counts.links)
-
-  -- integrators and inputs alone, before the nodes are worked out
-  abbrev first_values : List ℤ
-  first_values = output_and_input_values counts.n counts.m q inputs
-
-  abbrev values_by : List ℤ
-  values_by = each (node_step kinds a b lows highs (counts.n + counts.m)) (λ _. true) counts.k first_values
+module _ (p : Plan) (q inputs : List ℤ) where
+  -- the slope of each integrator, by the values and ranges as the code works them out
+  abbrev slopes_by : List ℤ
+  slopes_by =
+      let values = values_by p q inputs in
+      row (pos 0) most_integrators p.counts.n (λ i. range_rate p.links values (nat_at (ranges_of p) i) (nat_at (ranges_of p) (i + 1)))
 
   abbrev pub tables_by : Tables
-  tables_by =
-      record {
-        ranges = ranges_by;
-        values = values_by;
-        slopes = row (pos 0) most_integrators counts.n (λ i. range_rate sources coefficients values_by (nat_at ranges_by i) (nat_at ranges_by (i + 1)));
-      }
+  tables_by = record { ranges = ranges_of p; values = values_by p q inputs; slopes = slopes_by }
 
   pub record TablesReady : Type 0 where
-    pub n : counts.n ≤ most_integrators
-    pub m : counts.m ≤ most_inputs
-    pub links : counts.links ≤ most_links
-    pub nodes : NodesReady a b lows highs first_values (counts.n + counts.m) counts.k
-    pub rates : RatesReady counts.n sources coefficients ranges_by values_by
+    pub links : p.counts.links ≤ most_links
+    pub sources : SourcesReady p q inputs
+    pub rates : RatesReady p.counts.n p.links (ranges_of p) (values_by p q inputs)

@@ -13,7 +13,7 @@ soonest_at d n t = record { tick = t; due = mask_of (is_due d t) n }
 -- with integrator i, whose due tick is d
 unfoldable pub sooner_of : (soonest : Soonest) (i d : ℕ) → Soonest
 sooner_of soonest i d =
-    let kept = cond (ltb d soonest.tick) 0 soonest.due in let tick = cond (ltb d soonest.tick) d soonest.tick in
+    let kept = cond (ltb d soonest.tick) 0 soonest.due in let tick = min soonest.tick d in
     record { tick = tick; due = cond (eqb d tick) (with_bit kept i) kept }
 
 -- the least of the four due ticks from place i on, in pairs

@@ -7,8 +7,8 @@ ghost use Rattle.timing.specs.Soonest.{soonest_at, sooner_of};
 
 use crate::entries::entry_tick;
 use crate::ticks::next_tick;
-use bitset::{where_equal, with_bit};
-use plan::{COMMANDS, INTEGRATORS};
+use bitset::{Mask, where_equal};
+use plan::{Commands, INTEGRATORS};
 
 // A tick, and the mask of the integrators that are due at it.
 #[derive(Clone, Copy)]
@@ -21,17 +21,19 @@ pub struct Soonest {
 const FEW: usize = 16;
 
 // With integrator i too, whose due tick is d: where it is due sooner than those before, none of them stays.
+#[tactic(auto, unfolding(crate::specs::Soonest::sooner_of))]
 fn sooner(soonest: Soonest, i: usize, d: u32) -> Soonest
     requires { i < most_integrators }
     ensures { result ≡ sooner_of soonest i d }
 {
     let kept = if d < soonest.tick { 0 } else { soonest.due };
-    let tick = if d < soonest.tick { d } else { soonest.tick };
-    let due = if d == tick { with_bit(kept, i) } else { kept };
+    let tick = soonest.tick.min(d);
+    let due = if d == tick { kept.with_bit(i) } else { kept };
     Soonest { tick, due }
 }
 
 // The first n integrators in one pass, beside a tick that is there without them.
+// By place: the place is what goes into the mask.
 fn soonest_of_few(n: usize, d: &[u32; INTEGRATORS], first: u32) -> Soonest
     requires { n ≤ most_integrators }
     ensures { result ≡ soonest_at d.now n (min (least_due d.now n) first) }
@@ -40,30 +42,29 @@ fn soonest_of_few(n: usize, d: &[u32; INTEGRATORS], first: u32) -> Soonest
         tick: first,
         due: 0,
     };
-    let mut i: usize = 0;
-    while i < n {
+    for i in 0..n {
         soonest = sooner(soonest, i, d[i]);
-        i += 1;
     }
     soonest
 }
 
 // "Next instant t: the least of all d and the next command's tick", and "The due integrators (d = t)". Above a few integrators in two passes, the tick first.
-pub fn soonest_of<'a>(
+#[tactic(auto, unfolding(machine::specs::Reach::is_due))]
+pub fn soonest_of(
+    commands: &Commands,
+    count: usize,
     n: usize,
-    commands: usize,
-    ticks: &'a [u32; COMMANDS],
-    d: &'a [u32; INTEGRATORS],
+    d: &[u32; INTEGRATORS],
     next: usize,
 ) -> Soonest
-    requires { (n ≤ most_integrators) × (commands ≤ most_commands) }
-    ensures { result ≡ soonest_at d.now n (min (least_due d.now n) (entry_tick ticks.now commands next)) }
+    requires { (n ≤ most_integrators) × (count ≤ most_commands) }
+    ensures { result ≡ soonest_at d.now n (min (least_due d.now n) (entry_tick commands.now.ticks count next)) }
 {
     if n <= FEW {
-        let first = entry_tick(commands, ticks, next);
+        let first = entry_tick(commands, count, next);
         return soonest_of_few(n, d, first);
     }
-    let tick = next_tick(n, commands, ticks, d, next);
+    let tick = next_tick(commands, count, n, d, next);
     let due = where_equal(n, d, tick);
     Soonest { tick, due }
 }

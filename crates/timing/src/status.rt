@@ -5,47 +5,29 @@ ghost use Rattle.plan.specs.Lists.{first_from};
 ghost use Rattle.machine.specs.Status.{status_by};
 ghost use Rattle.timing.specs.Status.{bars_in, DuePositionsReady};
 
-use crate::ticks::position;
-use bitset::{lowest, rest};
-use machine::{State, Status};
-use plan::INTEGRATORS;
+use crate::ticks::position_at;
+use bitset::Mask;
+use machine::{Motion, State, Status};
 
-// The lowest of the due integrators whose value at t is beyond ±M, or n.
-fn lowest_barring<'a>(
-    n: usize,
-    t: u32,
-    due: u32,
-    x: &'a [i64; INTEGRATORS],
-    s: &'a [i64; INTEGRATORS],
-    l: &'a [u32; INTEGRATORS],
-) -> usize
-    requires { (n ≤ most_integrators) × (due < 2 ^ n) × DuePositionsReady t due x.now s.now l.now }
-    ensures { result ≡ first_from (bars_in t due x.now s.now l.now) 0 n }
+// The lowest of the due integrators whose value at t is beyond ±M, or n. n for none and no `Option`: the clause of `status_at` has it so, by `first_from`.
+fn lowest_barring(n: usize, t: u32, due: u32, motion: &Motion) -> usize
+    requires { (n ≤ most_integrators) × (due < 2 ^ n) × DuePositionsReady t due motion.now.x motion.now.s motion.now.l }
+    ensures { result ≡ first_from (bars_in t due motion.now.x motion.now.s motion.now.l) 0 n }
 {
-    let mut left = due;
-    while left != 0 {
-        let i = lowest(left);
-        let value = position(x[i], s[i], l[i], t);
-        if value > State::M || value < -State::M {
+    for i in due.members() {
+        let value = position_at(motion, i, t);
+        if !(-State::M..=State::M).contains(&value) {
             return i;
         }
-        left = rest(left);
     }
     n
 }
 
 // "1 finished if t is never or above the horizon; else 2 range if step 1 bars the instant (with the lowest such integrator); else 0 paused."
-pub fn status_at<'a>(
-    horizon: u32,
-    n: usize,
-    t: u32,
-    due: u32,
-    x: &'a [i64; INTEGRATORS],
-    s: &'a [i64; INTEGRATORS],
-    l: &'a [u32; INTEGRATORS],
-) -> Status
-    requires { (n ≤ most_integrators) × (due < 2 ^ n) × ((t ≤ horizon) → DuePositionsReady t due x.now s.now l.now) }
-    ensures { result ≡ status_by horizon n t (first_from (bars_in t due x.now s.now l.now) 0 n) }
+#[tactic(auto, unfolding(machine::specs::Status::status_by))]
+pub fn status_at(horizon: u32, n: usize, t: u32, due: u32, motion: &Motion) -> Status
+    requires { (n ≤ most_integrators) × (due < 2 ^ n) × ((t ≤ horizon) → DuePositionsReady t due motion.now.x motion.now.s motion.now.l) }
+    ensures { result ≡ status_by horizon n t (first_from (bars_in t due motion.now.x motion.now.s motion.now.l) 0 n) }
 {
     if t == State::NEVER {
         return Status::Finished;
@@ -53,7 +35,7 @@ pub fn status_at<'a>(
     if t > horizon {
         return Status::Finished;
     }
-    let lowest = lowest_barring(n, t, due, x, s, l);
+    let lowest = lowest_barring(n, t, due, motion);
     if lowest < n {
         return Status::Range(lowest);
     }

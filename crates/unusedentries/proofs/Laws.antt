@@ -1,3 +1,3 @@
 -- What the proofs of the code go by.
-pub mod Unused
 pub mod EarlyReturns
+pub mod Unused

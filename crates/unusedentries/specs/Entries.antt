@@ -1,5 +1,4 @@
--- Model of the code: the unused entries of the running figures, on the arrays that the code is lent. That they are document 01's:
--- `soundness`, Laws/RunningTests.
+-- Model of the code: the unused entries of the running figures. That they are document 01's: `soundness`, Laws/RunningTests.
 use Rattle.std.specs.Prelude.{Bool, ◌&&◌, List, ℕ, ℤ}
 use Rattle.plan.specs.Unused.{nats_zero_from, ints_zero_from}
 

@@ -3,3 +3,4 @@ pub mod NodeSteps
 pub mod SourceValues
 pub mod DependentNodes
 pub mod ReadOut
+pub mod Copies

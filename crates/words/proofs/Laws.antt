@@ -4,3 +4,4 @@ pub mod Writing
 pub mod Flat
 pub mod Signs
 pub mod Putting
+pub mod Library

@@ -1,5 +1,7 @@
 // Numbers of 32 bits in a slice of bytes, lowest byte first. A word is the unsigned value of four bytes; a signed number is in two's
 // complement.
+// Where std has no `From`, as to and from usize, a cast is `as`, which Rattle proves to lose nothing; `try_from` would have an error that cannot come.
+// A word is a u64 in every signature, and not a u32: offsets and lengths are added as 64-bit numbers, and the wrong body `unsigned_zero` answers 2^32.
 #![tactic(auto)]
 
 ghost use Rattle.std.specs.Prelude.{◌≡◌, [], ◌∷◌, ◌+◌, ◌^◌, ◌≤◌, ◌<◌, length};
@@ -7,22 +9,13 @@ ghost use Rattle.std.specs.Int.Signed.{mag};
 ghost use Rattle.words.specs.Word.{word, signed_word, signed_of, word_of};
 ghost use Rattle.words.specs.Putting.{put, written};
 
-// A byte, wide enough to be added up.
-fn wide(byte: u8) -> u64
-    ensures answer { result ≡ byte }
-    ensures range { result < 256 }
-{
-    byte as u64
-}
-
 // The word that starts at byte `at`.
 pub fn read_u32(bytes: &[u8], at: usize) -> u64
     requires { at + 4 ≤ length bytes.now }
     ensures answer { result ≡ word bytes.now at }
     ensures range { result < 2 ^ 32 }
 {
-    wide(bytes[at])
-        + 256 * (wide(bytes[at + 1]) + 256 * (wide(bytes[at + 2]) + 256 * wide(bytes[at + 3])))
+    u64::from(u32::from_le_bytes([bytes[at], bytes[at + 1], bytes[at + 2], bytes[at + 3]]))
 }
 
 // The number that a word stands for.
@@ -30,11 +23,7 @@ pub fn signed(word: u64) -> i64
     requires { word < 2 ^ 32 }
     ensures { result ≡ signed_of 4 word }
 {
-    if word < 2147483648 {
-        word as i64
-    } else {
-        (word as i64) - 4294967296
-    }
+    i64::from((word as u32).cast_signed())
 }
 
 // The signed number that starts at byte `at`.
@@ -51,11 +40,7 @@ pub fn unsigned(value: i64) -> u64
     ensures answer { result ≡ word_of value }
     ensures range { result < 2 ^ 32 }
 {
-    if value < 0 {
-        (value + 4294967296) as u64
-    } else {
-        value as u64
-    }
+    u64::from((value as i32).cast_unsigned())
 }
 
 // The four bytes of a word are stored from byte `at` on.
@@ -63,10 +48,7 @@ pub fn write_u32(bytes: &mut [u8], at: usize, word: u64)
     requires { (at + 4 ≤ length bytes.old) × (word < 2 ^ 32) }
     ensures { bytes.new ≡ put 4 bytes.old at word }
 {
-    bytes[at] = (word % 256) as u8;
-    bytes[at + 1] = (word / 256 % 256) as u8;
-    bytes[at + 2] = (word / 256 / 256 % 256) as u8;
-    bytes[at + 3] = (word / 256 / 256 / 256 % 256) as u8;
+    bytes[at..at + 4].copy_from_slice(&(word as u32).to_le_bytes());
 }
 
 // The four bytes of a signed number are stored from byte `at` on.

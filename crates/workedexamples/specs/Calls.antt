@@ -10,8 +10,8 @@ use Rattle.plan.specs.Lists.{table, row, joined, every, some, all, first_from}
 use Rattle.plan.specs.Format.{horizon_in, offset_in, length_in, required_offset, count_in, part, section_in, column_of, column_in, plan_in}
 use Rattle.plan.specs.Tests.{long_enough, offsets_kept, count_kept, sizes_kept, horizon_kept, count_list, counts_kept, integrator_kept, input_kept}
 use Rattle.plan.specs.Tests.{node_test, pair_ascends, node_kept, link_limits_kept, link_ordered, command_limits_kept, command_ordered}
-use Rattle.plan.specs.Refusals.{number_of, entry_of, is_clean, or_else, first_finding, horizon_finding, integrators_finding, inputs_finding}
-use Rattle.plan.specs.Refusals.{nodes_finding, links_finding, commands_finding, plan_finding, finding_of, accepted, section_of}
+use Rattle.plan.specs.Refusals.{refusal_number, refusal_entry, number_of, entry_of, is_clean, or_else, first_finding, horizon_finding}
+use Rattle.plan.specs.Refusals.{integrators_finding, inputs_finding, nodes_finding, links_finding, commands_finding, plan_finding, finding_of, accepted, section_of}
 use Rattle.plan.specs.Encoding.{offset_from, offset_of, file_length, header_words, integrator_words, input_words, node_words, link_words}
 use Rattle.plan.proofs.Laws.Layout.{length_of}
 use Rattle.plan.specs.Encoding.{command_words, file_words, encode}
@@ -174,7 +174,7 @@ pub examples_right : AllRight examples
 unfolding examples ceil_div limited within count_of number_at bytes_of signed_of unsigned_of flat table row joined every some all first_from
     horizon_in offset_in length_in required_offset count_in part section_in column_of column_in plan_in long_enough offsets_kept count_kept sizes_kept
     horizon_kept count_list counts_kept integrator_kept input_kept node_test pair_ascends node_kept link_limits_kept link_ordered command_limits_kept
-    command_ordered number_of entry_of is_clean or_else first_finding horizon_finding integrators_finding inputs_finding nodes_finding links_finding
+    command_ordered refusal_number refusal_entry number_of entry_of is_clean or_else first_finding horizon_finding integrators_finding inputs_finding nodes_finding links_finding
     commands_finding plan_finding finding_of accepted section_of offset_from length_of offset_of file_length header_words integrator_words input_words
     node_words link_words command_words file_words encode node_value value_with value_of sum_over rate_of upper_level lower_level distance ticks_to
     due_tick due_of sets value_then next_entry entry_tick next_command least_due slope_of inputs_then entries_tick next_tick start_slope start_due

@@ -1,13 +1,13 @@
 -- Worked examples, computed by the checker: the plan file, with one theorem over their table: "A cup in full" decoded, encoded and taken
 -- apart, and a file for each refusal and for the limits that are easily missed.
-use Rattle.std.specs.Prelude.{refl, Bool, true, List, [], ◌∷◌, ◌++◌, ℕ, pos, negsuc, length, take, drop, replicate}
+use Rattle.std.specs.Prelude.{refl, Bool, true, List, [], ◌∷◌, ◌++◌, ℕ, pos, negsuc, length, take, drop, replicate, Ok, Err}
 use Rattle.integers.specs.Range.{within}
 use Rattle.words.specs.Word.{number_at, bytes_of, signed_of, unsigned_of, flat}
 use Rattle.plan.specs.Lists.{table, row, joined, every}
 use Rattle.plan.specs.Format.{horizon_in, offset_in, length_in, required_offset, count_in, part, section_in, column_of, column_in, plan_in}
 use Rattle.plan.specs.Tests.{long_enough, offsets_kept, count_kept, sizes_kept, horizon_kept, count_list, integrator_kept, input_kept}
 use Rattle.plan.specs.Tests.{node_test, pair_ascends, node_kept, link_limits_kept, link_ordered, command_limits_kept, command_ordered}
-use Rattle.plan.specs.Refusals.{number_of, entry_of, is_clean, or_else, first_finding, horizon_finding, integrators_finding, inputs_finding}
+use Rattle.plan.specs.Refusals.{refusal_number, refusal_entry, Finding, number_of, entry_of, is_clean, or_else, first_finding, horizon_finding, integrators_finding, inputs_finding}
 use Rattle.plan.specs.Refusals.{nodes_finding, links_finding, commands_finding, plan_finding, finding_of, accepted, section_of, section_start}
 use Rattle.plan.specs.Encoding.{offset_from, offset_of, file_length, header_words, integrator_words, input_words, node_words, link_words}
 use Rattle.plan.specs.Encoding.{command_words, file_words, encode}
@@ -15,8 +15,8 @@ use Rattle.plan.specs.Idle.{idle_plan}
 use Rattle.plan.specs.ExampleTables.{Case, case, AllRight, end, ◌&◌}
 use Rattle.plan.specs.ExampleFiles.{file_of, cup_file, cup_plan}
 use Rattle.plan.specs.declared.Plan.{Plan}
-use Rattle.plan.specs.declared.Finding.{Finding}
-use Rattle.plan.specs.declared.Finding.TheVariants.{Clean, Short, Offsets, Sizes, Horizon, Integrator, Input, Node, Link, Command}
+use Rattle.plan.specs.declared.Refusal.{Refusal}
+use Rattle.plan.specs.declared.Refusal.TheVariants.{Short, Offsets, Sizes, Horizon, Integrator, Input, Node, Link, Command}
 
 -- words of signed numbers: −1, −M, −M − 1, −16,777,216, −16,777,217
 abbrev minus1 : ℕ
@@ -34,9 +34,12 @@ minus_c = 4278190080
 abbrev below_c : ℕ
 below_c = 4278190079
 
--- the finding of a file
-abbrev finds : List ℕ → Finding → Case
-finds file finding = case Finding (finding_of file) finding
+-- a file in which nothing is found, and one that is refused
+abbrev clean : List ℕ → Case
+clean file = case Finding (finding_of file) (Ok tt)
+
+abbrev refuses : List ℕ → Refusal → Case
+refuses file refusal = case Finding (finding_of file) (Err refusal)
 
 -- ten ticks of one integrator with this start and quantum; of these nodes over one integrator and one input; of these links between two
 -- integrators; of these commands to one input
@@ -75,7 +78,7 @@ valve_plan = record {
 pub examples : List Case
 examples =
     -- "A cup in full": decoded, encoded, and its sections; and the 52 bytes of the idle plan
-    finds cup_file Clean
+    clean cup_file
     ∷ case Plan (plan_in cup_file) cup_plan
     ∷ case (List ℕ) (encode cup_plan) cup_file
     ∷ case ℕ (file_length cup_plan) 100
@@ -91,97 +94,97 @@ examples =
     ∷ case Plan (plan_in (encode idle_plan)) idle_plan
     ∷ case ℕ (file_length idle_plan) 52
     -- a plan with nodes and numbers below 0, decoded and encoded; the counts and the length of the longest file
-    ∷ finds valve_file Clean
+    ∷ clean valve_file
     ∷ case Plan (plan_in valve_file) valve_plan
     ∷ case (List ℕ) (encode valve_plan) valve_file
     ∷ case Bool (sizes_kept full_file) true
     ∷ case ℕ (length full_file) 4492
     -- 1 to 4: the file is too short, has a byte too many, a gap, an offset that is no sum; no integrators, one entry too many of each section,
     -- half an entry; a horizon outside its limits; 2 before 3 before 4
-    ∷ finds [] Short
-    ∷ finds (take 43 cup_file) Short
-    ∷ finds (cup_file ++ (0 ∷ [])) Offsets
-    ∷ finds (take 99 cup_file) Offsets
-    ∷ finds (flat (10 ∷ 48 ∷ 8 ∷ 56 ∷ 0 ∷ 56 ∷ 0 ∷ 56 ∷ 0 ∷ 56 ∷ 0 ∷ 0 ∷ 0 ∷ 1 ∷ [])) Offsets
-    ∷ finds (flat (10 ∷ 44 ∷ 8 ∷ 52 ∷ 0 ∷ 53 ∷ 0 ∷ 52 ∷ 0 ∷ 52 ∷ 0 ∷ 0 ∷ 1 ∷ [])) Offsets
-    ∷ finds (file_of 10 [] [] [] [] [] ++ (0 ∷ [])) Offsets
-    ∷ finds (file_of 10 [] [] [] [] []) Sizes
-    ∷ finds (file_of 10 (replicate 66 1) [] [] [] []) Sizes
-    ∷ finds (file_of 10 (0 ∷ 1 ∷ 0 ∷ []) [] [] [] []) Sizes
-    ∷ finds (file_of 10 (0 ∷ 1 ∷ []) (replicate 9 0) [] [] []) Sizes
-    ∷ finds (file_of 10 (0 ∷ 1 ∷ []) [] (replicate 85 0) [] []) Sizes
-    ∷ finds (file_of 10 (0 ∷ 1 ∷ []) [] [] (replicate 771 0) []) Sizes
-    ∷ finds (file_of 10 (0 ∷ 1 ∷ []) [] [] [] (replicate 195 0)) Sizes
-    ∷ finds (file_of 0 (0 ∷ 1 ∷ 0 ∷ []) [] [] [] []) Sizes
-    ∷ finds (file_of 0 (0 ∷ 0 ∷ []) [] [] [] []) Horizon
-    ∷ finds (file_of 2000000001 (0 ∷ 1 ∷ []) [] [] [] []) Horizon
-    ∷ finds (file_of 2000000000 (0 ∷ 1 ∷ []) [] [] [] []) Clean
+    ∷ refuses [] Short
+    ∷ refuses (take 43 cup_file) Short
+    ∷ refuses (cup_file ++ (0 ∷ [])) Offsets
+    ∷ refuses (take 99 cup_file) Offsets
+    ∷ refuses (flat (10 ∷ 48 ∷ 8 ∷ 56 ∷ 0 ∷ 56 ∷ 0 ∷ 56 ∷ 0 ∷ 56 ∷ 0 ∷ 0 ∷ 0 ∷ 1 ∷ [])) Offsets
+    ∷ refuses (flat (10 ∷ 44 ∷ 8 ∷ 52 ∷ 0 ∷ 53 ∷ 0 ∷ 52 ∷ 0 ∷ 52 ∷ 0 ∷ 0 ∷ 1 ∷ [])) Offsets
+    ∷ refuses (file_of 10 [] [] [] [] [] ++ (0 ∷ [])) Offsets
+    ∷ refuses (file_of 10 [] [] [] [] []) Sizes
+    ∷ refuses (file_of 10 (replicate 66 1) [] [] [] []) Sizes
+    ∷ refuses (file_of 10 (0 ∷ 1 ∷ 0 ∷ []) [] [] [] []) Sizes
+    ∷ refuses (file_of 10 (0 ∷ 1 ∷ []) (replicate 9 0) [] [] []) Sizes
+    ∷ refuses (file_of 10 (0 ∷ 1 ∷ []) [] (replicate 85 0) [] []) Sizes
+    ∷ refuses (file_of 10 (0 ∷ 1 ∷ []) [] [] (replicate 771 0) []) Sizes
+    ∷ refuses (file_of 10 (0 ∷ 1 ∷ []) [] [] [] (replicate 195 0)) Sizes
+    ∷ refuses (file_of 0 (0 ∷ 1 ∷ 0 ∷ []) [] [] [] []) Sizes
+    ∷ refuses (file_of 0 (0 ∷ 0 ∷ []) [] [] [] []) Horizon
+    ∷ refuses (file_of 2000000001 (0 ∷ 1 ∷ []) [] [] [] []) Horizon
+    ∷ clean (file_of 2000000000 (0 ∷ 1 ∷ []) [] [] [] [])
     -- 5 and 6: both ends of the limits, and beyond; the lowest entry; 5 before 6
-    ∷ finds (integrator 1073741824 1) Clean
-    ∷ finds (integrator minus_m 1073741824) Clean
-    ∷ finds (integrator 1073741825 1) (Integrator 0)
-    ∷ finds (integrator below_m 1) (Integrator 0)
-    ∷ finds (integrator 0 0) (Integrator 0)
-    ∷ finds (file_of 10 (0 ∷ 1 ∷ below_m ∷ 1 ∷ []) [] [] [] []) (Integrator 1)
-    ∷ finds (integrator 0 minus1) (Integrator 0)
-    ∷ finds (integrator 0 1073741825) (Integrator 0)
-    ∷ finds (file_of 10 (0 ∷ 1 ∷ 0 ∷ 0 ∷ 0 ∷ 0 ∷ []) (below_m ∷ []) [] [] []) (Integrator 1)
-    ∷ finds (file_of 10 (0 ∷ 1 ∷ []) (minus_m ∷ 1073741824 ∷ below_m ∷ []) [] [] []) (Input 2)
+    ∷ clean (integrator 1073741824 1)
+    ∷ clean (integrator minus_m 1073741824)
+    ∷ refuses (integrator 1073741825 1) (Integrator 0)
+    ∷ refuses (integrator below_m 1) (Integrator 0)
+    ∷ refuses (integrator 0 0) (Integrator 0)
+    ∷ refuses (file_of 10 (0 ∷ 1 ∷ below_m ∷ 1 ∷ []) [] [] [] []) (Integrator 1)
+    ∷ refuses (integrator 0 minus1) (Integrator 0)
+    ∷ refuses (integrator 0 1073741825) (Integrator 0)
+    ∷ refuses (file_of 10 (0 ∷ 1 ∷ 0 ∷ 0 ∷ 0 ∷ 0 ∷ []) (below_m ∷ []) [] [] []) (Integrator 1)
+    ∷ refuses (file_of 10 (0 ∷ 1 ∷ []) (minus_m ∷ 1073741824 ∷ below_m ∷ []) [] [] []) (Input 2)
     -- 7: kind 0, kind 1 of a lower node, kind 2 with lo = hi, kind 3 with lo above hi are clean; then each way to break a kind's rule, the
     -- lowest entry, and 6 before 7
-    ∷ finds (node (0 ∷ 0 ∷ 1 ∷ 0 ∷ 0 ∷ [])) Clean
-    ∷ finds (node (0 ∷ 0 ∷ 1 ∷ 0 ∷ 0 ∷ 1 ∷ 2 ∷ 2 ∷ 0 ∷ 0 ∷ [])) Clean
-    ∷ finds (node (2 ∷ 1 ∷ 0 ∷ 5 ∷ 5 ∷ [])) Clean
-    ∷ finds (node (3 ∷ 0 ∷ 1 ∷ 1073741824 ∷ minus_m ∷ [])) Clean
-    ∷ finds (node (4 ∷ 0 ∷ 0 ∷ 0 ∷ 0 ∷ [])) (Node 0)
-    ∷ finds (node (0 ∷ 2 ∷ 0 ∷ 0 ∷ 0 ∷ [])) (Node 0)
-    ∷ finds (node (2 ∷ 2 ∷ 0 ∷ 0 ∷ 0 ∷ [])) (Node 0)
-    ∷ finds (node (3 ∷ 2 ∷ 0 ∷ 0 ∷ 0 ∷ [])) (Node 0)
-    ∷ finds (node (1 ∷ 0 ∷ 2 ∷ 0 ∷ 0 ∷ [])) (Node 0)
-    ∷ finds (node (3 ∷ 0 ∷ 2 ∷ 0 ∷ 0 ∷ [])) (Node 0)
-    ∷ finds (node (0 ∷ 0 ∷ 1 ∷ 1 ∷ 0 ∷ [])) (Node 0)
-    ∷ finds (node (1 ∷ 0 ∷ 1 ∷ 0 ∷ 1 ∷ [])) (Node 0)
-    ∷ finds (node (2 ∷ 0 ∷ 0 ∷ 5 ∷ 4 ∷ [])) (Node 0)
-    ∷ finds (node (2 ∷ 0 ∷ 1 ∷ 4 ∷ 5 ∷ [])) (Node 0)
-    ∷ finds (node (2 ∷ 0 ∷ 0 ∷ below_m ∷ 0 ∷ [])) (Node 0)
-    ∷ finds (node (3 ∷ 0 ∷ 1 ∷ 0 ∷ 1073741825 ∷ [])) (Node 0)
-    ∷ finds (node (0 ∷ 3 ∷ 0 ∷ 0 ∷ 0 ∷ 0 ∷ 0 ∷ 0 ∷ 0 ∷ 0 ∷ [])) (Node 0)
-    ∷ finds (node (0 ∷ 0 ∷ 0 ∷ 0 ∷ 0 ∷ 4 ∷ 0 ∷ 0 ∷ 0 ∷ 0 ∷ 4 ∷ 0 ∷ 0 ∷ 0 ∷ 0 ∷ [])) (Node 1)
-    ∷ finds (file_of 10 (0 ∷ 1 ∷ []) (below_m ∷ []) (4 ∷ 0 ∷ 0 ∷ 0 ∷ 0 ∷ []) [] []) (Input 0)
+    ∷ clean (node (0 ∷ 0 ∷ 1 ∷ 0 ∷ 0 ∷ []))
+    ∷ clean (node (0 ∷ 0 ∷ 1 ∷ 0 ∷ 0 ∷ 1 ∷ 2 ∷ 2 ∷ 0 ∷ 0 ∷ []))
+    ∷ clean (node (2 ∷ 1 ∷ 0 ∷ 5 ∷ 5 ∷ []))
+    ∷ clean (node (3 ∷ 0 ∷ 1 ∷ 1073741824 ∷ minus_m ∷ []))
+    ∷ refuses (node (4 ∷ 0 ∷ 0 ∷ 0 ∷ 0 ∷ [])) (Node 0)
+    ∷ refuses (node (0 ∷ 2 ∷ 0 ∷ 0 ∷ 0 ∷ [])) (Node 0)
+    ∷ refuses (node (2 ∷ 2 ∷ 0 ∷ 0 ∷ 0 ∷ [])) (Node 0)
+    ∷ refuses (node (3 ∷ 2 ∷ 0 ∷ 0 ∷ 0 ∷ [])) (Node 0)
+    ∷ refuses (node (1 ∷ 0 ∷ 2 ∷ 0 ∷ 0 ∷ [])) (Node 0)
+    ∷ refuses (node (3 ∷ 0 ∷ 2 ∷ 0 ∷ 0 ∷ [])) (Node 0)
+    ∷ refuses (node (0 ∷ 0 ∷ 1 ∷ 1 ∷ 0 ∷ [])) (Node 0)
+    ∷ refuses (node (1 ∷ 0 ∷ 1 ∷ 0 ∷ 1 ∷ [])) (Node 0)
+    ∷ refuses (node (2 ∷ 0 ∷ 0 ∷ 5 ∷ 4 ∷ [])) (Node 0)
+    ∷ refuses (node (2 ∷ 0 ∷ 1 ∷ 4 ∷ 5 ∷ [])) (Node 0)
+    ∷ refuses (node (2 ∷ 0 ∷ 0 ∷ below_m ∷ 0 ∷ [])) (Node 0)
+    ∷ refuses (node (3 ∷ 0 ∷ 1 ∷ 0 ∷ 1073741825 ∷ [])) (Node 0)
+    ∷ refuses (node (0 ∷ 3 ∷ 0 ∷ 0 ∷ 0 ∷ 0 ∷ 0 ∷ 0 ∷ 0 ∷ 0 ∷ [])) (Node 0)
+    ∷ refuses (node (0 ∷ 0 ∷ 0 ∷ 0 ∷ 0 ∷ 4 ∷ 0 ∷ 0 ∷ 0 ∷ 0 ∷ 4 ∷ 0 ∷ 0 ∷ 0 ∷ 0 ∷ [])) (Node 1)
+    ∷ refuses (file_of 10 (0 ∷ 1 ∷ []) (below_m ∷ []) (4 ∷ 0 ∷ 0 ∷ 0 ∷ 0 ∷ []) [] []) (Input 0)
     -- 8: "an order fault is the later entry's", a wild predecessor is itself faulty, the lowest entry, and 7 before 8
-    ∷ finds (links (0 ∷ 0 ∷ minus_c ∷ 0 ∷ 1 ∷ 16777216 ∷ 1 ∷ 0 ∷ 1 ∷ [])) Clean
-    ∷ finds (links (0 ∷ 1 ∷ 1 ∷ 0 ∷ 0 ∷ 1 ∷ [])) (Link 1)
-    ∷ finds (links (1 ∷ 0 ∷ 1 ∷ 0 ∷ 1 ∷ 1 ∷ [])) (Link 1)
-    ∷ finds (links (0 ∷ 0 ∷ 1 ∷ 0 ∷ 0 ∷ 1 ∷ [])) (Link 1)
-    ∷ finds (links (5 ∷ 0 ∷ 1 ∷ 0 ∷ 0 ∷ 1 ∷ [])) (Link 0)
-    ∷ finds (links (2 ∷ 0 ∷ 1 ∷ [])) (Link 0)
-    ∷ finds (links (0 ∷ 2 ∷ 1 ∷ [])) (Link 0)
-    ∷ finds (links (0 ∷ 0 ∷ 0 ∷ [])) (Link 0)
-    ∷ finds (links (0 ∷ 0 ∷ 16777217 ∷ [])) (Link 0)
-    ∷ finds (links (0 ∷ 0 ∷ below_c ∷ [])) (Link 0)
-    ∷ finds (links (0 ∷ 0 ∷ 1 ∷ 0 ∷ 1 ∷ 0 ∷ 0 ∷ 1 ∷ 0 ∷ [])) (Link 1)
-    ∷ finds (file_of 10 (0 ∷ 1 ∷ []) [] (4 ∷ 0 ∷ 0 ∷ 0 ∷ 0 ∷ []) (0 ∷ 0 ∷ 0 ∷ []) []) (Node 0)
+    ∷ clean (links (0 ∷ 0 ∷ minus_c ∷ 0 ∷ 1 ∷ 16777216 ∷ 1 ∷ 0 ∷ 1 ∷ []))
+    ∷ refuses (links (0 ∷ 1 ∷ 1 ∷ 0 ∷ 0 ∷ 1 ∷ [])) (Link 1)
+    ∷ refuses (links (1 ∷ 0 ∷ 1 ∷ 0 ∷ 1 ∷ 1 ∷ [])) (Link 1)
+    ∷ refuses (links (0 ∷ 0 ∷ 1 ∷ 0 ∷ 0 ∷ 1 ∷ [])) (Link 1)
+    ∷ refuses (links (5 ∷ 0 ∷ 1 ∷ 0 ∷ 0 ∷ 1 ∷ [])) (Link 0)
+    ∷ refuses (links (2 ∷ 0 ∷ 1 ∷ [])) (Link 0)
+    ∷ refuses (links (0 ∷ 2 ∷ 1 ∷ [])) (Link 0)
+    ∷ refuses (links (0 ∷ 0 ∷ 0 ∷ [])) (Link 0)
+    ∷ refuses (links (0 ∷ 0 ∷ 16777217 ∷ [])) (Link 0)
+    ∷ refuses (links (0 ∷ 0 ∷ below_c ∷ [])) (Link 0)
+    ∷ refuses (links (0 ∷ 0 ∷ 1 ∷ 0 ∷ 1 ∷ 0 ∷ 0 ∷ 1 ∷ 0 ∷ [])) (Link 1)
+    ∷ refuses (file_of 10 (0 ∷ 1 ∷ []) [] (4 ∷ 0 ∷ 0 ∷ 0 ∷ 0 ∷ []) (0 ∷ 0 ∷ 0 ∷ []) []) (Node 0)
     -- 9: a tick at the horizon and two inputs at one tick are clean; each limit, the order, no input to name, and 8 before 9
-    ∷ finds (commands (1 ∷ 0 ∷ minus_m ∷ 10 ∷ 0 ∷ 1073741824 ∷ [])) Clean
-    ∷ finds (file_of 10 (0 ∷ 1 ∷ []) (0 ∷ 0 ∷ []) [] [] (2 ∷ 0 ∷ 1 ∷ 2 ∷ 1 ∷ 1 ∷ [])) Clean
-    ∷ finds (commands (0 ∷ 0 ∷ 0 ∷ [])) (Command 0)
-    ∷ finds (commands (11 ∷ 0 ∷ 0 ∷ [])) (Command 0)
-    ∷ finds (commands (1 ∷ 1 ∷ 0 ∷ [])) (Command 0)
-    ∷ finds (commands (1 ∷ 0 ∷ below_m ∷ [])) (Command 0)
-    ∷ finds (commands (2 ∷ 0 ∷ 0 ∷ 2 ∷ 0 ∷ 1 ∷ [])) (Command 1)
-    ∷ finds (commands (3 ∷ 0 ∷ 0 ∷ 2 ∷ 0 ∷ 0 ∷ 1 ∷ 0 ∷ 0 ∷ [])) (Command 1)
-    ∷ finds (file_of 10 (0 ∷ 1 ∷ []) [] [] [] (1 ∷ 0 ∷ 0 ∷ [])) (Command 0)
-    ∷ finds (file_of 10 (0 ∷ 1 ∷ []) (3 ∷ []) [] (0 ∷ 0 ∷ 0 ∷ []) (0 ∷ 0 ∷ 0 ∷ [])) (Link 0)
+    ∷ clean (commands (1 ∷ 0 ∷ minus_m ∷ 10 ∷ 0 ∷ 1073741824 ∷ []))
+    ∷ clean (file_of 10 (0 ∷ 1 ∷ []) (0 ∷ 0 ∷ []) [] [] (2 ∷ 0 ∷ 1 ∷ 2 ∷ 1 ∷ 1 ∷ []))
+    ∷ refuses (commands (0 ∷ 0 ∷ 0 ∷ [])) (Command 0)
+    ∷ refuses (commands (11 ∷ 0 ∷ 0 ∷ [])) (Command 0)
+    ∷ refuses (commands (1 ∷ 1 ∷ 0 ∷ [])) (Command 0)
+    ∷ refuses (commands (1 ∷ 0 ∷ below_m ∷ [])) (Command 0)
+    ∷ refuses (commands (2 ∷ 0 ∷ 0 ∷ 2 ∷ 0 ∷ 1 ∷ [])) (Command 1)
+    ∷ refuses (commands (3 ∷ 0 ∷ 0 ∷ 2 ∷ 0 ∷ 0 ∷ 1 ∷ 0 ∷ 0 ∷ [])) (Command 1)
+    ∷ refuses (file_of 10 (0 ∷ 1 ∷ []) [] [] [] (1 ∷ 0 ∷ 0 ∷ [])) (Command 0)
+    ∷ refuses (file_of 10 (0 ∷ 1 ∷ []) (3 ∷ []) [] (0 ∷ 0 ∷ 0 ∷ []) (0 ∷ 0 ∷ 0 ∷ [])) (Link 0)
     ∷ case (List ℕ) (section_of (commands (0 ∷ 0 ∷ 0 ∷ [])) 0) []
-    ∷ case ℕ (number_of (Command 3)) 9
-    ∷ case ℕ (entry_of (Command 3)) 3
+    ∷ case ℕ (number_of (Err (Command 3))) 9
+    ∷ case ℕ (entry_of (Err (Command 3))) 3
     ∷ []
 
 -- every example is right: each pair of values is equal by computation
 pub examples_right : AllRight examples
 unfolding examples number_at bytes_of signed_of unsigned_of flat within table row joined every horizon_in offset_in length_in required_offset count_in
     part section_in column_of column_in plan_in long_enough offsets_kept count_kept sizes_kept horizon_kept count_list integrator_kept input_kept node_test
-    pair_ascends node_kept link_limits_kept link_ordered command_limits_kept command_ordered number_of entry_of is_clean or_else first_finding horizon_finding
+    pair_ascends node_kept link_limits_kept link_ordered command_limits_kept command_ordered refusal_number refusal_entry number_of entry_of is_clean or_else first_finding horizon_finding
     integrators_finding inputs_finding nodes_finding links_finding commands_finding plan_finding finding_of accepted section_of section_start
     offset_from offset_of file_length header_words integrator_words input_words node_words link_words command_words file_words encode
 examples_right =

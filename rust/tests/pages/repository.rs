@@ -155,10 +155,12 @@ fn only_speaks(path: &str) -> bool {
     path.ends_with(".md") || path.ends_with(".edit") || path.starts_with("rust/tests/pages/")
 }
 
-/// Folders whose names begin with a dot hold none. The record of the port begins with three commits
-/// and names what is no more.
+/// The records of the port and of the design pass begin with commits and name what is no more.
+const RECORDS: [&str; 2] = ["docs/PORT.md", "docs/DESIGN-PASS.md"];
+
+/// Folders whose names begin with a dot hold none.
 fn is_page(path: &str) -> bool {
-    path.ends_with(".md") && !path.starts_with('.') && path != "docs/PORT.md"
+    path.ends_with(".md") && !path.starts_with('.') && !RECORDS.contains(&path)
 }
 
 /// Adds the files below a folder. What a build or a check made is left out, and so is all whose name begins

@@ -1,17 +1,18 @@
 -- Laws: visiting by lowest and rest. The lowest of a mask is in it and none below it is, the rest has all but the lowest, and so a loop that
 -- takes the lowest each time is the loop with a test over all numbers below the width. Assumes nothing.
-use Rattle.std.specs.Prelude.{◌≡◌, Bool, cond, ◌&&◌, not, ltb, eqb}
+use Rattle.std.specs.Prelude.{◌≡◌, Some, None, Bool, cond, ◌&&◌, not, ltb, eqb}
 use Rattle.std.proofs.Math.Path.{refl, ap}
 use Rattle.std.proofs.Common.{sym, ◌∙◌, true≢false, zero-add, eq-or-lt_of_le, le_of_suc-le-suc, not-suc-le-zero, add-suc, pow-suc, lt_of_lt_of_le, arith, pow_mono, ltb-true, ltb-false, eq-eqb, ne_eqb}
 use Rattle.std.proofs.Math.Bool.{true, false, and-true, and-false}
 use Rattle.std.proofs.Math.Logic.{⊎_elim}
+use Rattle.std.proofs.lemmas.Bool.{and_parts}
 use Prim.Native.Nat.{ℕ, zero, suc, ◌+◌, ◌-◌, ◌*◌, ◌/◌, ◌%◌, ◌^◌, ◌≤◌, ◌<◌}
 use Rattle.std.proofs.Math.Nat.{add-zero, min-zero, zero-min}
 use Rattle.std.proofs.Math.Dec.{eqb-suc-zero, eqb-suc-suc}
 use Rattle.std.specs.Int.Bits.{and_step, and_self}
 use Rattle.std.proofs.lemmas.Nat.{and_le_r, trailing_le}
 use Rattle.std.specs.Int.Count.{count_trailing_zeros}
-use Rattle.bitset.specs.Mask.{has, mask_of, each, lowest_of, rest_of}
+use Rattle.bitset.specs.Mask.{has, mask_of, each, lowest_of, rest_of, TakesLowest}
 use Rattle.bitset.proofs.Laws.Bits.{parity, has-none, has_zero, has_suc, has-high, has-mask_of, mask_of_lt}
 
 -- ---- by the lowest digit
@@ -163,3 +164,28 @@ module _ {S : Type 0} (f : ℕ → S → S) where
       ap (λ (x : ℕ). each f (has (mask_of p n)) x s) e
       ∙ each_cut (has (mask_of p n)) n (w - n) s (λ i b h. has-high (mask_of p n) n i (mask_of_lt p n) b)
       ∙ each_ext (has (mask_of p n)) p n s (has-mask_of p n)
+
+-- ---- a walk by `Members`
+module _ {S : Type 0} (f : ℕ → S → S) (w m : ℕ) (s : S) where
+  -- of a walk that began at m with s, `left` is left, and it stands at t: those left are in m, and visiting them ends where visiting all of m ends
+  pub record Walking (left : ℕ) (t : S) : Type 0 where
+    pub fits : left < 2 ^ w
+    pub within : (i : ℕ) → has left i ≡ true → has m i ≡ true
+    pub ends : each f (has left) w t ≡ each f (has m) w s
+
+  -- the member that a turn takes
+  pub walk_member : {left i after : ℕ} {t : S} → Walking left t → TakesLowest w left (Some i) after → (i < w) × (has m i ≡ true)
+  walk_member {left} k (p, e, _) =
+      rw e (lowest_lt w left p k.fits, k.within (lowest_of w left) (has-lowest w left p k.fits))
+
+  pub walk_turn : {left i after : ℕ} {t : S} → Walking left t → TakesLowest w left (Some i) after → Walking after (f i t)
+  walk_turn {left} {i} {after} {t} k (p, e, r) =
+      rw r (record {
+        fits = omega (arith, rest_lt left p, k.fits);
+        within = λ j h. k.within j (and_parts _ _ (rw (has_rest w left j p k.fits) at h)).0;
+        ends = each_turn f w left i (rest_of left) t _ p k.fits e refl k.ends;
+      })
+
+  -- nothing is left
+  pub walk_done : {left after : ℕ} {t : S} → Walking left t → TakesLowest w left None after → t ≡ each f (has m) w s
+  walk_done {left} {t = t} k (z, _) = each_done f w left t _ z k.ends

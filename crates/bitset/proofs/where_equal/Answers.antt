@@ -1,6 +1,5 @@
 use borrow.Author.Tests.{eq-eqb, ne_eqb}
-use mathlib.Core.Path.{◌≡◌, refl, ap, ◌∙◌}
-use native.Mathlib.Omega.{arith}
+use mathlib.Core.Path.{refl, ap, ◌∙◌}
 use Rattle.bitset.specs.Mask.{mask_of, with_bit}
 use Rattle.bitset.proofs.Laws.Bits.{mask_of_in, mask_of_out}
 use Rattle.bitset.proofs.where_equal.Goals.{then-ticks-i, else-ticks-i}
@@ -8,17 +7,11 @@ use Rattle.bitset.proofs.where_equal.Goals as goal
 
 pub loop-i-init : goal.loop-i-init
 unfolding mask_of
-loop-i-init c = (omega arith, refl)
+loop-i-init c = refl
 
 pub loop-i-preserved : goal.loop-i-preserved
 loop-i-preserved c =
-    let l = c.loop-i in (
-      omega arith,
-      elim c.if-ticks-i.branch [
-        | then-ticks-i w ↦ w.equal-is ∙ w.with_bit-equal.ensures ∙ ap (λ x. with_bit x l.i) l.invariant.1 ∙ mask_of_in _ l.i (eq-eqb _ _ w.if-ticks-i.true)
-        | else-ticks-i w ↦ w.equal-is ∙ l.invariant.1 ∙ mask_of_out _ l.i (ne_eqb _ _ w.if-ticks-i.false)
-      ],
-    )
-
-pub returns : goal.returns
-returns c = let e : c.loop-i.i ≡ c.args.n = omega arith in c.loop-i.invariant.1 ∙ ap (mask_of _) e
+    let l = c.loop-i in elim c.if-ticks-i.branch [
+      | then-ticks-i w ↦ w.equal-is ∙ w.with_bit-equal.ensures ∙ ap (λ x. with_bit x l.i) l.invariant ∙ mask_of_in _ l.i (eq-eqb _ _ w.if-ticks-i.true)
+      | else-ticks-i w ↦ w.equal-is ∙ l.invariant ∙ mask_of_out _ l.i (ne_eqb _ _ w.if-ticks-i.false)
+    ]

@@ -12,6 +12,7 @@ use Rattle.plan.specs.Unused.{PlanUnusedZero}
 use Rattle.plan.specs.Encoding.{encode}
 use Rattle.plan.specs.Idle.{idle_plan}
 use Rattle.plan.specs.declared.Plan.{Plan}
+use Rattle.plan.proofs.Laws.Findings.{clean_number}
 use Rattle.plan.proofs.Laws.FileRefusals.{answered}
 use Rattle.plan.proofs.Laws.Entries.{file_shaped}
 use Rattle.plan.proofs.Laws.IdlePlan.{idle-shaped}
@@ -28,12 +29,12 @@ use Rattle.calls.specs.Promises.Files.{EveryFile, EveryView, LoadWidths}
 -- the number tells whether the file is accepted
 module _ (file : List ℕ) where
   pub load_accepted : (load_of file).number ≡ 0 → accepted file ≡ true
-  unfolding load_of accepted is_clean
-  load_accepted e = eq-eqb (number_of (finding_of file)) 0 e
+  unfolding load_of accepted
+  load_accepted e = rw (clean_number (finding_of file)) (eq-eqb (number_of (finding_of file)) 0 e)
 
   pub load_refused : ((load_of file).number ≡ 0 → ⊥) → accepted file ≡ false
-  unfolding load_of accepted is_clean
-  load_refused e = ne_eqb (number_of (finding_of file)) 0 e
+  unfolding load_of accepted
+  load_refused e = rw (clean_number (finding_of file)) (ne_eqb (number_of (finding_of file)) 0 e)
 
   -- what holds of the start of an accepted file's plan and of the idle state holds of the state that is loaded
   pub load_either : (P : State → Type 0) → (accepted file ≡ true → P (start_state (plan_in file))) → P idle_state → P (load_of file).state

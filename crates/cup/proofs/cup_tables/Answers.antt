@@ -1,43 +1,16 @@
 -- The tables of a sound state are those that its test hands on, and what a change of each source reaches.
-use Rattle.std.specs.Prelude.{◌≡◌, true}
-use Rattle.std.proofs.Common.{sym, ◌∙◌, arith}
-use borrow.Author.Tests.{not-true, not-false}
-use Rattle.plan.proofs.Laws.CountLimits.{count-limits}
 use Rattle.machine.proofs.Laws.SoundTest.{sound_means}
-use Rattle.machine.specs.declared.State.{State}
-use Rattle.machine.specs.Sound.{Sound}
-use Rattle.reach.specs.Table.{reach_table}
-use Rattle.reach.proofs.Laws.Reached.{table_wired, table_linked}
-use Rattle.soundness.proofs.Laws.Answers.{sound_told}
-use Rattle.soundness.specs.Testing.{tested_of}
-use Rattle.soundness.specs.declared.Tested.{Tested}
+use Rattle.reach.proofs.Laws.Reached.{table_ready}
+use Rattle.soundness.proofs.Laws.Answers.{some_told, none_told}
 use Rattle.cup.proofs.Laws.Tables.{tables_none, tables_are}
 use Rattle.cup.proofs.cup_tables.Goals as goal
 
-sound_by : (st : State) {t : Tested} → t ≡ tested_of st → t.sound ≡ true → Sound st
-sound_by st answer found = (sound_means st).0 (sym (sound_told st answer) ∙ found)
-
-pub returns-then-not-test : goal.returns-then-not-test
-returns-then-not-test c =
-    let answer = c.test_state-test.ensures in
-    tables_none c.args.state answer (sym (sound_told c.args.state answer) ∙ not-true _ c.if-not-test.true)
-
-pub overflow_add-counts : goal.overflow_add-counts
-overflow_add-counts c =
-    let st = c.args.state in
-    let sound = sound_by st c.test_state-test.ensures (not-false _ c.if-not-test.false) in
-    let limits = count-limits st.plan sound.plan.counts in
-    record { fits = omega (arith, limits.n, limits.m) }
-
 pub reach_table-reach-requires : goal.reach_table-reach-requires
 reach_table-reach-requires c =
-    let st = c.args.state in
-    let sound = sound_by st c.test_state-test.ensures (not-false _ c.if-not-test.false) in
-    ((count-limits st.plan sound.plan.counts).k, table_wired st.plan sound.plan, table_linked st.plan sound.plan)
+    let st = c.args.state in table_ready st.plan ((sound_means st).0 (some_told st c.in-Some.ensures).0).plan
 
 pub returns : goal.returns
-unfolding reach_table
-returns c =
-    let st = c.args.state in
-    let answer = c.test_state-test.ensures in
-    tables_are st answer (sym (sound_told st answer) ∙ not-false _ c.if-not-test.false) c.reach_table-reach.ensures
+returns c = tables_are c.args.state c.in-Some.ensures c.reach_table-reach.ensures
+
+pub returns-in_default : goal.returns-in_default
+returns-in_default c = tables_none c.args.state (none_told c.args.state c.in_default.ensures)

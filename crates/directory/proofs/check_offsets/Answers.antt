@@ -14,7 +14,7 @@ use Rattle.directory.proofs.check_offsets.Goals as goal
 
 pub loop-section-init : goal.loop-section-init
 unfolding required_offset
-loop-section-init c = (omega arith, every-none _, refl)
+loop-section-init c = (every-none _, refl)
 
 pub returns-then-offset-start : goal.returns-then-offset-start
 unfolding offsets_kept
@@ -30,7 +30,7 @@ loop-section-preserved c =
     let b = c.loop-section in
     let file = c.args.file.now in
     let same = eq-eqb (offset_in file b.section) (required_offset file b.section) (omega arith) in
-    (omega arith, every_more _ b.invariant.1 same, rw add-one (omega arith))
+    (every_more _ b.invariant.0 same, rw add-one (omega arith))
 
 -- behind the last section every offset is right, and `start` is where the file is to end
 ended : (c : After-loop-section) → let file = c.args.file.now in
@@ -39,7 +39,7 @@ unfolding offsets_kept
 ended c =
     let b = c.loop-section in
     let is : b.section ≡ sections = omega arith in
-    rw (← is, b.invariant.1, b.invariant.2)
+    rw (← is, b.invariant.0, b.invariant.1)
 
 pub returns-then-file-start : goal.returns-then-file-start
 returns-then-file-start c = sym (rw (ended (goal.at.returns-then-file-start c).After-loop-section, eq-eqb _ _ c.if-file-start.true))

@@ -1,37 +1,18 @@
--- A section that fails decides; at the end all have passed.
-use borrow.Author.Rules.{rules}
-use native.Mathlib.Omega.{arith}
-use mathlib.Core.Path.{◌≡◌, sym}
+-- The sections one after the other.
+use Rattle.std.proofs.Common.{◌≡◌, ◌∙◌, sym, rules, tests}
 use Rattle.plan.specs.Numbers.{sections}
 use Rattle.plan.specs.Format.{count_in}
 use Rattle.plan.specs.Tests.{sizes_kept}
-use Rattle.entryrules.proofs.Laws.Testing.{every-none, every_more, every_fails, true_by_answer, false_by_answer}
-use Rattle.directory.proofs.check_sizes.Invariants.{sized}
+use Rattle.entryrules.proofs.Laws.Testing.{all_below}
+use Rattle.directory.proofs.check_sizes.Goals.{After-all}
 use Rattle.directory.proofs.check_sizes.Goals as goal
 
-pub loop-section-init : goal.loop-section-init
-loop-section-init c = (search rules, every-none _)
-
-pub returns-then-not-size_kept : goal.returns-then-not-size_kept
+asked : (c : After-all) → c.all.result ≡ sizes_kept c.args.file.now
 unfolding sizes_kept count_in
-returns-then-not-size_kept c =
-    let b = c.loop-section in
-    let file = c.args.file.now in
-    let size = c.length_in.ensures.answer in
-    let fails = false_by_answer c.size_kept.ensures c.if-not-size_kept.true in
-    sym (rw (every_fails (sized file) sections b.section (omega arith) (rw (← size) fails)))
+asked c = all_below _ sections _ _ _ c.all.result c.all.ensures.ran (search rules) (λ x b q k. (search rules, search (rules, tests)))
 
-pub loop-section-preserved : goal.loop-section-preserved
-unfolding count_in
-loop-section-preserved c =
-    let b = c.loop-section in
-    let size = c.length_in.ensures.answer in
-    let passes = true_by_answer c.size_kept.ensures c.if-not-size_kept.false in
-    (omega arith, every_more _ b.invariant.1 (rw (← size) passes))
+pub returns-then-all : goal.returns-then-all
+returns-then-all c = rw (sym (asked (goal.at.returns-then-all c).After-all) ∙ c.if-all.true) (search rules)
 
-pub returns : goal.returns
-unfolding sizes_kept
-returns c =
-    let b = c.loop-section in
-    let is : b.section ≡ sections = omega arith in
-    sym (rw (← is, b.invariant.1))
+pub returns-else-all : goal.returns-else-all
+returns-else-all c = rw (sym (asked (goal.at.returns-else-all c).After-all) ∙ c.if-all.false) (search rules)

@@ -17,6 +17,7 @@ use Rattle.machine.proofs.Laws.Soundness.{instant-sound}
 use Rattle.machine.proofs.Laws.SoundTest.{clauses_words}
 use Rattle.machine.proofs.Laws.Status.{paused_true, is_paused_lem, true_paused}
 use Rattle.machine.specs.declared.Clocks.{Clocks}
+use Rattle.machine.specs.declared.Motion.{Motion}
 use Rattle.machine.specs.declared.Running.{Running}
 use Rattle.machine.specs.declared.Engine.{Engine}
 use Rattle.machine.specs.declared.Status.TheVariants.{Paused}
@@ -26,37 +27,35 @@ use Rattle.rates.specs.Links.{ranges_of}
 use Rattle.reach.specs.Table.{reach_table}
 use Rattle.engine.specs.Ahead.{ahead_of}
 use Rattle.steps.specs.Events.{put_at}
-use Rattle.instant.specs.Lent.{running_of, InstantReady}
+use Rattle.moves.specs.Motion.{motion_of}
+use Rattle.instant.specs.Instants.{running_of, InstantReady}
 use Rattle.engine.specs.RunAnswer.{ended_of}
-use Rattle.engine.proofs.Laws.Aheads.{ahead_is}
+use Rattle.engine.proofs.Laws.Aheads.{lies_ahead, ahead_is}
 use Rattle.steps.proofs.Laws.Buffers.{put-none, put-append, length-put}
 use Rattle.engine.specs.declared.ahead.Ahead.{Ahead}
 use Rattle.engine.specs.declared.runs.Ended.{Ended}
 
--- what lies ahead of the figures r
-abbrev pub ahead_at : Plan → Running → Ahead
-ahead_at p r = ahead_of p.horizon p.counts.n p.counts.commands p.commands.ticks r.x r.s r.l r.d r.clocks.next
-
 -- ---- outputs and input values that are read out of the values of sources
-pub figures-read : (counts : Counts) (x s : List ℤ) (l d : List ℕ) (values : List ℤ) (clocks : Clocks) {q u : List ℤ}
+pub figures-read : (counts : Counts) (m : Motion) (values : List ℤ) (clocks : Clocks) {q u : List ℤ}
     → q ≡ outputs_in counts.n values → u ≡ inputs_in counts.n counts.m values
-    → ◌≡◌ {A = Running} (record { x = x; q = q; s = s; l = l; d = d; inputs = u; clocks = clocks }) (running_of counts x s l d values clocks)
-figures-read counts x s l d values clocks e f = rw (e, f)
+    → ◌≡◌ {A = Running} (record { x = m.x; q = q; s = m.s; l = m.l; d = m.d; inputs = u; clocks = clocks }) (running_of counts m values clocks)
+figures-read counts m values clocks e f = rw (e, f)
 
 -- those of the figures r, from the values of all sources by r
 pub running_read : (p : Plan) (r : Running) → RunningWidths r → SoundRunning p r → {values : List ℤ} → values ≡ values_of p r.q r.inputs
-    → r ≡ running_of p.counts r.x r.s r.l r.d values r.clocks
+    → r ≡ running_of p.counts (motion_of r) values r.clocks
 running_read p r shaped ok {values} e =
-    figures-read p.counts r.x r.s r.l r.d values r.clocks
+    figures-read p.counts (motion_of r) values r.clocks
     (sym (rw e (outputs_read p ok.plan r.q r.inputs shaped.q ok.held.unused_outputs)))
     (sym (rw e (inputs_read p ok.plan r.q r.inputs shaped.inputs ok.held.unused-inputs)))
 
 module _ (p : Plan) (engine : Engine) (budget : ℕ) (first : Running) (buffer₀ : List ℕ) where
   -- after `taken` instants: what is left of the run ends where the whole run ends, and its events go behind byte `end`
-  pub record Progress (r : Running) (values : List ℤ) (end taken : ℕ) (buffer : List ℕ) : Type 0 where
+  pub record Progress (r : Running) (values : List ℤ) (ahead : Ahead) (end taken : ℕ) (buffer : List ℕ) : Type 0 where
     pub shaped : RunningWidths r
     pub sound : SoundRunning p r
     pub values_are : values ≡ values_of p r.q r.inputs
+    pub ahead_is : ahead ≡ lies_ahead p r
     pub figures : after_run p engine (budget - taken) r ≡ after_run p engine budget first
     pub bytes : put_at buffer end (events_of_run p engine (budget - taken) r) ≡ put_at buffer₀ 0 (events_of_run p engine budget first)
     pub ends : end + length (events_of_run p engine (budget - taken) r) ≡ length (events_of_run p engine budget first)
@@ -64,16 +63,17 @@ module _ (p : Plan) (engine : Engine) (budget : ℕ) (first : Running) (buffer�
     pub room : end + room_of p (budget - taken) ≤ length buffer
 
 -- before the first instant
-pub begun : (p : Plan) (engine : Engine) (budget : ℕ) (r : Running) (buffer : List ℕ) {values : List ℤ} → RunningWidths r → SoundRunning p r
-    → values ≡ values_of p r.q r.inputs → room_of p budget ≤ length buffer
-    → let first = running_of p.counts r.x r.s r.l r.d values r.clocks in Progress p engine budget first buffer first values 0 0 buffer
-begun p engine budget r buffer {values} shaped ok values_are room =
+pub begun : (p : Plan) (engine : Engine) (budget : ℕ) (r : Running) (buffer : List ℕ) {values : List ℤ} {ahead : Ahead} → RunningWidths r → SoundRunning p r
+    → values ≡ values_of p r.q r.inputs → ahead ≡ ahead_of p (motion_of r) r.clocks.next → room_of p budget ≤ length buffer
+    → let first = running_of p.counts (motion_of r) values r.clocks in Progress p engine budget first buffer first values ahead 0 0 buffer
+begun p engine budget r buffer {values} {ahead} shaped ok values_are known room =
     let all : budget - 0 ≡ budget = omega arith in
-    subst (λ (first : Running). Progress p engine budget first buffer first values 0 0 buffer) (running_read p r shaped ok values_are)
+    subst (λ (first : Running). Progress p engine budget first buffer first values ahead 0 0 buffer) (running_read p r shaped ok values_are)
     (record {
       shaped = shaped;
       sound = ok;
       values_are = values_are;
+      ahead_is = known ∙ ahead_is p r;
       figures = rw all;
       bytes = rw all;
       ends = rw all (omega arith);
@@ -82,10 +82,10 @@ begun p engine budget r buffer {values} shaped ok values_are room =
     })
 
 module _ {p : Plan} {engine : Engine} {budget : ℕ} {first : Running} {buffer₀ : List ℕ} {r : Running}
-    {values : List ℤ} {end taken : ℕ} {buffer : List ℕ} {ahead : Ahead}
-    (now : Progress p engine budget first buffer₀ r values end taken buffer) (ahead-known : ahead ≡ ahead_at p r) where
+    {values : List ℤ} {ahead : Ahead} {end taken : ℕ} {buffer : List ℕ}
+    (now : Progress p engine budget first buffer₀ r values ahead end taken buffer) where
   status_is : ahead.status ≡ status_of p r
-  status_is = rw (ahead-known, ahead_is p r)
+  status_is = rw now.ahead_is
 
   -- ---- one more instant
   module _ (more : taken < budget) (yes : is_paused ahead.status ≡ true) where
@@ -106,8 +106,8 @@ module _ {p : Plan} {engine : Engine} {budget : ℕ} {first : Running} {buffer�
           shaped = now.shaped;
           sound = clauses_words p r now.sound;
           paused = paused;
-          tick = rw (ahead-known, ahead_is p r);
-          due-set = rw (ahead-known, ahead_is p r);
+          tick = rw now.ahead_is;
+          due-set = rw now.ahead_is;
           ranges_are = ranges_are;
           reach_is = reach_is;
           values_are = now.values_are;
@@ -120,13 +120,13 @@ module _ {p : Plan} {engine : Engine} {budget : ℕ} {first : Running} {buffer�
     room_then = omega (arith, instant-bytes p r, rw left at now.room)
 
     module _ {r' : Running} (taken_is : r' ≡ instant p engine r) where
-      sound_then : SoundRunning p r'
+      pub sound_then : SoundRunning p r'
       sound_then = rw taken_is (instant-sound p r now.sound paused engine)
 
-      pub advanced : {values' : List ℤ} {end' : ℕ} {buffer' : List ℕ} → values' ≡ values_of p r'.q r'.inputs
-          → buffer' ≡ put_at buffer end (events_of p r) → end' ≡ end + length (events_of p r)
-          → Progress p engine budget first buffer₀ r' values' end' (taken + 1) buffer'
-      advanced values_are buffer-is end_is =
+      pub advanced : {values' : List ℤ} {ahead' : Ahead} {end' : ℕ} {buffer' : List ℕ} → values' ≡ values_of p r'.q r'.inputs
+          → ahead' ≡ ahead_of p (motion_of r') r'.clocks.next → buffer' ≡ put_at buffer end (events_of p r) → end' ≡ end + length (events_of p r)
+          → Progress p engine budget first buffer₀ r' values' ahead' end' (taken + 1) buffer'
+      advanced values_are known buffer-is end_is =
           let next = run-taken p engine (budget - (taken + 1)) r paused_now in
           let rest = events_of_run p engine (budget - (taken + 1)) (instant p engine r) in
           let same_length = length-put buffer end (events_of p r) (omega (arith, room_then)) in
@@ -134,6 +134,7 @@ module _ {p : Plan} {engine : Engine} {budget : ℕ} {first : Running} {buffer�
             shaped = rw taken_is (instant-shaped p engine r);
             sound = sound_then;
             values_are = values_are;
+            ahead_is = known ∙ ahead_is p r';
             figures = rw (taken_is, ← next.0, ← left) now.figures;
             bytes =
                 rw (buffer-is, end_is, taken_is, put-append buffer end (events_of p r) (omega (arith, room_then)) rest, ← next.1, ← left)

@@ -1,10 +1,8 @@
 -- Laws: what a comparison in the code says, as the value of the test that a definition makes. A signed local z is seen as `rd z`, the
--- number read back from its bits, which is z since z fits. `search (rules, comparing)` proves a return: it rewrites each test of the
--- contract's definition by the comparison that was made before the return.
+-- number read back from its bits, which is z since z fits. Assumes nothing.
 use Rattle.std.specs.Prelude.{ℤ, pos, negsuc, neg_ℤ, eqb, Bool, true, false, not, ◌≡◌, ℕ, suc, ◌+◌}
 use Rattle.std.specs.Int.Signed.{lt_z, le_z}
-use Rattle.std.proofs.Common.{lt-ltb, le-ltb, le-leb, eq-eqb, ne_eqb, sym, ap, ◌∙◌, add-zero, arith, SFits, of_z, to_z-of_z}
-use Rattle.std.proofs.lemmas.Bool.{lt-leb}
+use Rattle.std.proofs.Common.{ne_eqb, sym, ap, ◌∙◌, add-zero, arith, SFits, of_z, to_z-of_z}
 use Rattle.std.proofs.Math.Bool.{not-not}
 use Rattle.std.specs.Int.{w64}
 use Rattle.integers.specs.Parts.{∣◌∣}
@@ -34,8 +32,6 @@ pub zero_bits : (z : ℤ) → SFits w64 z → eqb ∣ z ∣ 0 ≡ eqb (of_z w64 
 zero_bits (pos n) f = rw add-zero
 zero_bits (negsuc n) f =
     ne_eqb (0 + suc n) 0 (λ e. omega arith) ∙ sym (ne_eqb (of_z w64 (negsuc n)) 0 (λ e. omega (arith, f.sfits)))
-
-pub ruleset comparing = (less, not_less, within-less, within_not_less, zero_bits, lt-ltb, le-ltb, le-leb, lt-leb, eq-eqb, ne_eqb)
 
 -- ---- `value_within_m` was called with z and answered r
 pub answered : {z : ℤ} {r : Bool} → SFits w64 z → r ≡ within M (rd z) → r ≡ within M z

@@ -8,3 +8,5 @@ use Rattle.plan.proofs.Laws.Layout.{each_section}
 -- an entry has bytes, so a length can be divided by it
 pub size-positive : (k : ℕ) → k < sections → 0 < nat_at entry_sizes k
 size-positive = each_section (λ k. 0 < nat_at entry_sizes k) (omega arith) (omega arith) (omega arith) (omega arith) (omega arith)
+
+pub ruleset sizes = (size-positive)

@@ -31,6 +31,7 @@ use Rattle.machine.proofs.Laws.InstantFigures.{x_then}
 use Rattle.machine.proofs.Laws.OutcomeEvents.{outcome_is}
 use Rattle.machine.proofs.Laws.Unreached.{source_kept}
 use Rattle.machine.proofs.Laws.Soundness.{Takes, Lawful, takes_next, lawful_then}
+use Rattle.machine.specs.declared.Motion.{Motion}
 use Rattle.machine.specs.declared.Running.{Running}
 use Rattle.machine.specs.declared.Engine.{Engine}
 use Rattle.machine.specs.declared.Engine.TheVariants.{Lazy, Eager}
@@ -45,8 +46,8 @@ use Rattle.reach.proofs.Laws.Reached as reaching
 use Rattle.steps.specs.Entries.{after_entries, after_entries_from, EntriesInRange}
 use Rattle.steps.specs.Outputs.{after_output}
 use Rattle.steps.specs.Events.{events_in, EventsReady}
-use Rattle.moves.specs.Motion.{motion, after_move, AllMovable}
-use Rattle.instant.specs.Lent.{running_of, moved_set, InstantReady}
+use Rattle.moves.specs.Motion.{motion_of, after_move, AllMovable}
+use Rattle.instant.specs.Instants.{running_of, moved_set, InstantReady}
 use Rattle.steps.proofs.Laws.Commands.{CommandsObeyed, commands_obeyed, commands_in_range}
 use Rattle.steps.proofs.Laws.Outputs.{outputs_are, values_full, values_kept}
 use Rattle.steps.proofs.Laws.EventBytes.{events_are, events-ready}
@@ -198,7 +199,7 @@ module _ (p : Plan) (r : Running) {t due : ℕ} {ranges reach : List ℕ} {value
             (λ j l. rw (input_at_lem j l) (input-size lawful.held j l))
         go false e = rw (node_at_lem i (ltb-false i (p.counts.n + p.counts.m) e)) (old_sized i)
 
-    pub nodes-ready_then : NodesReady p.nodes.a p.nodes.b p.nodes.lows p.nodes.highs v2 (p.counts.n + p.counts.m) p.counts.k
+    pub nodes-ready_then : NodesReady p.nodes v2 (p.counts.n + p.counts.m) p.counts.k
     nodes-ready_then = nodes-ready p rules v2 sized
 
     -- ---- 3. and 4.
@@ -216,7 +217,7 @@ module _ (p : Plan) (r : Running) {t due : ℕ} {ranges reach : List ℕ} {value
       pub nodes-below : nodes < 2 ^ p.counts.k
       nodes-below = rw nodes_then (mask_of_lt _ p.counts.k)
 
-      module _ {v3 : List ℤ} (worked : v3 ≡ each (node_step p.nodes.kinds p.nodes.a p.nodes.b p.nodes.lows p.nodes.highs (p.counts.n + p.counts.m)) (has nodes) 32 v2) where
+      module _ {v3 : List ℤ} (worked : v3 ≡ each (node_step p.nodes (p.counts.n + p.counts.m)) (has nodes) 32 v2) where
         values_then : v3 ≡ values_of p q u
         values_then =
             worked
@@ -273,16 +274,16 @@ module _ (p : Plan) (r : Running) {t due : ℕ} {ranges reach : List ℕ} {value
               go Lazy = rw (woken-set, reached_then) (mask_of_or awake (reached p changing) p.counts.n)
               go Eager = refl
 
-          stored : Stored p r t o (moves p engine r.d t) (motion r.x r.s r.l r.d)
+          stored : Stored p r t o (moves p engine r.d t) (motion_of r)
           stored = own-stored p r sound shaped t (omega (arith, takes.after)) takes.least o at_position (moves p engine r.d t)
 
-          pub moves-ready : AllMovable p.integrators.quanta p.links.sources p.links.coefficients ranges t v3 moved (motion r.x r.s r.l r.d)
+          pub moves-ready : AllMovable p ranges t v3 moved (motion_of r)
           moves-ready =
               rw (ready.ranges_are, moved_then)
-              (all_movable p r sound t o lawful v3 value_then_lem (moves p engine r.d t) (motion r.x r.s r.l r.d) stored sized_then)
+              (all_movable p r sound t o lawful v3 value_then_lem (moves p engine r.d t) (motion_of r) stored sized_then)
 
-          module _ {x s : List ℤ} {l d : List ℕ}
-              (move : motion x s l d ≡ each (after_move p.integrators.quanta p.links.sources p.links.coefficients ranges t v3) (has moved) 32 (motion r.x r.s r.l r.d))
+          module _ {m : Motion}
+              (move : m ≡ each (after_move p ranges t v3) (has moved) 32 (motion_of r))
               {grown : ℕ} (counted : grown ≡ count_of (has moved) 32) where
             count_then : grown ≡ count_of (moves p engine r.d t) p.counts.n
             count_then = counted ∙ rw moved_then (count_of_mask (moves p engine r.d t) p.counts.n 32 limits.n)
@@ -290,25 +291,15 @@ module _ (p : Plan) (r : Running) {t due : ℕ} {ranges reach : List ℕ} {value
             abbrev then : Running
             then = instant_by p r t (moves p engine r.d t)
 
-            figures_then_lem : motion x s l d ≡ motion then.x then.s then.l then.d
+            figures_then_lem : m ≡ motion_of then
             figures_then_lem =
                 move
                 ∙ rw (ready.ranges_are, moved_then)
-                (moved-figures p r sound t o lawful v3 value_then_lem (moves p engine r.d t) (motion r.x r.s r.l r.d) stored _)
+                (moved-figures p r sound t o lawful v3 value_then_lem (moves p engine r.d t) (motion_of r) stored _)
 
             pub running_then : ◌≡◌ {A = Running}
-                (running_of p.counts x s l d v3 (record { clock = t; next = next; instants = r.clocks.instants + 1; updates = r.clocks.updates + grown }))
+                (running_of p.counts m v3 (record { clock = t; next = next; instants = r.clocks.instants + 1; updates = r.clocks.updates + grown }))
                 (instant p engine r)
             unfolding instant figures_after
             running_then =
-                rw (
-                  ap (λ m. m.x) figures_then_lem,
-                  ap (λ m. m.s) figures_then_lem,
-                  ap (λ m. m.l) figures_then_lem,
-                  ap (λ m. m.d) figures_then_lem,
-                  outputs_then,
-                  inputs_then_lem,
-                  next_then,
-                  count_then,
-                  ready.tick,
-                )
+                rw (figures_then_lem, outputs_then, inputs_then_lem, next_then, count_then, ready.tick)

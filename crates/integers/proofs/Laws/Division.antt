@@ -1,9 +1,10 @@
 -- Laws: division that rounds towards minus infinity, and division of naturals that rounds up, each with the law that determines it.
-use Rattle.std.specs.Prelude.{ℤ, pos, negsuc, ◌+ℤ◌, ◌*ℤ◌, ◌≤ℤ◌, ◌<ℤ◌, ◌≡◌, ℕ, ◌+◌, ◌-◌, ◌*◌, ◌/◌, ◌≤◌, ◌<◌}
+use Rattle.std.specs.Prelude.{ℤ, pos, negsuc, ◌+ℤ◌, ◌*ℤ◌, ◌≤ℤ◌, ◌<ℤ◌, ◌≡◌, refl, ℕ, ◌+◌, ◌-◌, ◌*◌, ◌/◌, ◌≤◌, ◌<◌}
 use Rattle.std.specs.Int.Signed.{mag_shr, ≤ℤ_refl}
 use Rattle.std.proofs.Common.{arith, mul-le-mul_right, le_antisymm, SFits}
 use Rattle.std.proofs.Math.Nat.{mul-div-le, lt-mul-div-succ, lt_of_mul-lt-mul_left, div-le_of_le-mul}
-use Rattle.std.specs.Int.{w64}
+use Rattle.std.proofs.lemmas.Grind.{div_ceil_times}
+use Rattle.std.specs.Int.{w64, int_div_euclid, div_ceil}
 use mir.ValLaws.{sfits_le}
 use Rattle.integers.specs.Parts.{positive_part, negative_part, ∣◌∣}
 use Rattle.integers.proofs.Laws.Parts.{sum, prod, mult, self, zs}
@@ -16,6 +17,11 @@ use Rattle.integers.specs.Division.{floor_div, ceil_div, Ceil}
 pub record Floor (v : ℤ) (k : ℕ) (r : ℤ) : Type 0 where
   pub below : k * positive_part r + negative_part v ≤ positive_part v + k * negative_part r
   pub above : positive_part v + k * negative_part r < k * positive_part r + k + negative_part v
+
+-- the library's quotient whose remainder is not negative
+pub floor_euclid : (v : ℤ) (k : ℕ) → int_div_euclid v (pos k) ≡ floor_div v k
+floor_euclid (pos a) k = refl
+floor_euclid (negsuc a) k = refl
 
 pub floor : (v : ℤ) (k : ℕ) → 0 < k → Floor v k (floor_div v k)
 floor (pos a) k h = omega (arith, mul-div-le a k, lt-mul-div-succ a h)
@@ -80,3 +86,8 @@ ceil_most a b p = ceil_least a (ceil a b p) (omega (arith, mul-le-mul_right a p)
 -- by sums of which none is above a
 pub ceil_less-one : (a b : ℕ) → 0 < b → 1 ≤ a → (a - 1) / b + 1 ≡ ceil_div a b
 ceil_less-one a b p h = ceil_unique p (omega (arith, mul-div-le (a - 1) b, lt-mul-div-succ (a - 1) p))
+
+-- the library's quotient
+pub div_ceil_is : (a b : ℕ) → 0 < b → div_ceil a b ≡ ceil_div a b
+div_ceil_is a b p =
+    let bounds = div_ceil_times a b p in ceil_unique p (record { enough = omega (arith, bounds); less = omega (arith, bounds) })

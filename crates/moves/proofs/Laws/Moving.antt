@@ -3,16 +3,18 @@
 use Rattle.std.specs.Prelude.{◌≡◌, List, ℕ, ◌-◌, ◌^◌, ◌<◌, ℤ, pos, ◌+ℤ◌, ◌*ℤ◌, eqb, length, set}
 use Rattle.std.proofs.Math.Path.{ap}
 use Rattle.std.proofs.Common.{sym, ◌∙◌, arith}
-use Rattle.std.proofs.Math.Bool.{not, not-not, and-eq-true_iff}
+use Rattle.std.proofs.Math.Bool.{not, not-not}
 use Rattle.std.proofs.Math.ListN.{length-set}
 use Rattle.std.proofs.Math.Seq.{get_or-set_same, get_or-set_other}
-use Rattle.std.proofs.lemmas.Bool.{eqb-false}
-use Rattle.bitset.specs.Mask.{has, lowest_of, rest_of}
+use Rattle.std.proofs.lemmas.Bool.{eqb-false, and_parts}
+use Rattle.bitset.specs.Mask.{lowest_of, rest_of}
 use Rattle.bitset.proofs.Laws.Visiting.{has-lowest, has_rest}
 use Rattle.plan.specs.Lists.{nat_at, int_at}
+use Rattle.plan.specs.declared.Plan.{Plan}
 use Rattle.machine.specs.Due.{due_tick}
+use Rattle.machine.specs.declared.Motion.{Motion}
 use Rattle.timing.specs.Ticks.{upper_in, lower_in}
-use Rattle.moves.specs.Motion.{Motion, motion, position_then, slope_from, due_from, after_move, Movable, AllMovable}
+use Rattle.moves.specs.Motion.{position_then, slope_from, due_from, after_move, Movable, AllMovable}
 
 -- the figures of one integrator
 pub record Figures : Type 0 where
@@ -31,9 +33,9 @@ pub record Full (m : Motion) : Type 0 where
   pub l : length m.l ≡ 32
   pub d : length m.d ≡ 32
 
-module _ (quanta : List ℤ) (sources : List ℕ) (coefficients : List ℤ) (ranges : List ℕ) (t : ℕ) (values : List ℤ) where
+module _ (p : Plan) (ranges : List ℕ) (t : ℕ) (values : List ℤ) where
   abbrev move : ℕ → Motion → Motion
-  move = after_move quanta sources coefficients ranges t values
+  move = after_move p ranges t values
 
   -- what the move makes of integrator i's figures
   unfoldable pub moved_figures : ℕ → Figures → Figures
@@ -41,19 +43,19 @@ module _ (quanta : List ℤ) (sources : List ℕ) (coefficients : List ℤ) (ran
       let xThen = f.x +ℤ f.s *ℤ pos (t - f.l) in
       record {
         x = xThen;
-        s = slope_from quanta sources coefficients ranges t values i;
+        s = slope_from p ranges t values i;
         l = t;
-        d = due_from quanta sources coefficients ranges t values i xThen;
+        d = due_from p ranges t values i xThen;
       }
 
   -- stored one by one
   pub move_stores : (j : ℕ) (m : Motion) {xThen slope : ℤ} {due : ℕ}
-      → xThen ≡ position_then quanta sources coefficients ranges t values j m
-      → slope ≡ slope_from quanta sources coefficients ranges t values j
-      → due ≡ due_tick t xThen (upper_in values quanta j) (lower_in values quanta j) slope
-      → motion (set m.x j xThen) (set m.s j slope) (set m.l j t) (set m.d j due) ≡ move j m
+      → xThen ≡ position_then p ranges t values j m
+      → slope ≡ slope_from p ranges t values j
+      → due ≡ due_tick t xThen (upper_in values p.integrators.quanta j) (lower_in values p.integrators.quanta j) slope
+      → record m { x = set m.x j xThen; s = set m.s j slope; l = set m.l j t; d = set m.d j due } ≡ move j m
   unfolding after_move due_from
-  move_stores j m p s d = rw (d, p, s)
+  move_stores j m x s d = rw (d, x, s)
 
   pub move_full : (j : ℕ) (m : Motion) → Full m → Full (move j m)
   unfolding after_move
@@ -81,15 +83,15 @@ module _ (quanta : List ℤ) (sources : List ℕ) (coefficients : List ℤ) (ran
 
   -- ---- a turn of the loop over a mask
   module _ {left : ℕ} (some : 0 < left) (wide : left < 2 ^ 32) (m : Motion)
-      (all : AllMovable quanta sources coefficients ranges t values left m) where
-    pub movable_lowest : Movable quanta sources coefficients ranges t values (lowest_of 32 left) m
+      (all : AllMovable p ranges t values left m) where
+    pub movable_lowest : Movable p ranges t values (lowest_of 32 left) m
     movable_lowest = all (lowest_of 32 left) (has-lowest 32 left some wide)
 
-    pub movable_rest : AllMovable quanta sources coefficients ranges t values (rest_of left) (move (lowest_of 32 left) m)
+    pub movable_rest : AllMovable p ranges t values (rest_of left) (move (lowest_of 32 left) m)
     unfolding position_then
     movable_rest i h =
         let j = lowest_of 32 left in
-        let both = (and-eq-true_iff (has left i) (not (eqb i j))).0 (sym (has_rest 32 left i some wide) ∙ h) in
+        let both = and_parts _ _ (rw (has_rest 32 left i some wide) at h) in
         let kept = move_others j i m (eqb-false i j (sym (not-not (eqb i j)) ∙ ap not both.1)) in
         let old = all i both.0 in
         let kept-x : int_at (move j m).x i ≡ int_at m.x i = ap (λ (f : Figures). f.x) kept in

@@ -6,26 +6,21 @@ use mir.Val.{SFits}
 use mir.Facts.{to_z-of_z}
 use Rattle.integers.proofs.Laws.Signed64.{rd}
 use Rattle.plan.specs.Lists.{int_at}
-use Rattle.timing.proofs.Laws.Arithmetic.{upper_made, lower_made, upper-read, lower-read}
-use Rattle.moves.specs.Motion.{motion, position_then, slope_from}
+use Rattle.timing.proofs.Laws.Arithmetic.{upper-read, lower-read}
+use Rattle.moves.specs.Motion.{position_then, slope_from}
 use Rattle.moves.proofs.Laws.Moving.{move_stores}
-use Rattle.moves.proofs.move_one.Goals.{Start, After-position-x_then, After-rate-slope}
+use Rattle.moves.proofs.move_one.Goals.{Start, After-position_at-x_then, After-rate-slope}
 use Rattle.moves.proofs.move_one.Goals as goal
 
 -- where the integrator is at t, and its new slope
-x_then : (c : After-position-x_then) → let a = c.args in
-    rd c.position-x_then.result
-    ≡ position_then a.quanta.now a.sources.now a.coefficients.now a.ranges.now a.t a.values.now a.i
-    (motion a.x.now a.s.now a.l.now a.d.now)
+x_then : (c : After-position_at-x_then) → let a = c.args in
+    rd c.position_at-x_then.result
+    ≡ position_then a.plan.now a.ranges.now a.t a.values.now a.i a.motion.now
 unfolding position_then
-x_then c =
-    let a = c.args in
-    let x : SFits w64 (int_at a.x.now a.i) = record { sfits = search rules } in
-    let s : SFits w64 (int_at a.s.now a.i) = record { sfits = search rules } in
-    to_z-of_z {w = w64} (sfits_of c.position-x_then.type_inv) ∙ (rw (to_z-of_z x, to_z-of_z s) at c.position-x_then.ensures)
+x_then c = to_z-of_z {w = w64} (sfits_of c.position_at-x_then.type_inv) ∙ c.position_at-x_then.ensures
 
 slope : (c : After-rate-slope) → let a = c.args in
-    rd c.rate-slope.result ≡ slope_from a.quanta.now a.sources.now a.coefficients.now a.ranges.now a.t a.values.now a.i
+    rd c.rate-slope.result ≡ slope_from a.plan.now a.ranges.now a.t a.values.now a.i
 unfolding slope_from
 slope c = to_z-of_z {w = w64} (sfits_of c.rate-slope.type_inv) ∙ c.rate-slope.ensures
 
@@ -33,20 +28,14 @@ slope c = to_z-of_z {w = w64} (sfits_of c.rate-slope.type_inv) ∙ c.rate-slope.
 output : (c : Start) → SFits w64 (int_at c.args.values.now c.args.i)
 output c = record { sfits = search rules }
 
-quantum : (c : Start) → SFits w64 (int_at c.args.quanta.now c.args.i)
+quantum : (c : Start) → SFits w64 (int_at c.args.plan.now.integrators.quanta c.args.i)
 quantum c = record { sfits = search rules }
-
-pub overflow_add-upper : goal.overflow_add-upper
-overflow_add-upper c = let s = (goal.at.overflow_add-upper c).Start in upper_made c.requires.level (output s) (quantum s)
-
-pub overflow_sub-lower : goal.overflow_sub-lower
-overflow_sub-lower c = let s = (goal.at.overflow_sub-lower c).Start in lower_made c.requires.level (output s) (quantum s)
 
 pub due_tick-requires : goal.due_tick-requires
 due_tick-requires c =
     let at = goal.at.due_tick-requires c in let s = at.Start in let level = c.requires.level in
     rw (
-      x_then at.After-position-x_then,
+      x_then at.After-position_at-x_then,
       slope at.After-rate-slope,
       upper-read level (output s) (quantum s),
       lower-read level (output s) (quantum s),
@@ -55,6 +44,6 @@ due_tick-requires c =
 pub returns : goal.returns
 returns c =
     let at = goal.at.returns c in let s = at.Start in let a = c.args in let level = c.requires.level in
-    move_stores a.quanta.now a.sources.now a.coefficients.now a.ranges.now a.t a.values.now a.i
-    (motion a.x.now a.s.now a.l.now a.d.now) (x_then at.After-position-x_then) (slope at.After-rate-slope)
+    move_stores a.plan.now a.ranges.now a.t a.values.now a.i
+    a.motion.now (x_then at.After-position_at-x_then) (slope at.After-rate-slope)
     (rw (upper-read level (output s) (quantum s), lower-read level (output s) (quantum s)) at c.due_tick.ensures)

@@ -1,5 +1,5 @@
 -- Laws: the refusals 1 to 9 of a file: what the number and the entry mean, and the rules that an accepted file keeps. Assumes nothing.
-use Rattle.std.specs.Prelude.{◌≡◌, Bool, List, eqb}
+use Rattle.std.specs.Prelude.{◌≡◌, Bool, List, eqb, Ok}
 use Rattle.std.proofs.Math.Path.{refl}
 use Rattle.std.proofs.Math.Bool.{true, false}
 use Prim.Native.Nat.{ℕ, zero, suc, ◌≤◌, ◌<◌}
@@ -11,16 +11,15 @@ use Rattle.plan.specs.Numbers.{sections, largest_counts}
 use Rattle.plan.specs.Lists.{nat_at, table, every}
 use Rattle.plan.specs.Format.{count_in, plan_in}
 use Rattle.plan.specs.Tests.{long_enough, offsets_kept, sizes_kept, count_list}
-use Rattle.plan.specs.Refusals.{number_of, entry_of, is_clean, or_else}
+use Rattle.plan.specs.Refusals.{refusal_number, refusal_entry, Finding, number_of, entry_of, or_else}
 use Rattle.plan.specs.Refusals.{commands_finding, plan_finding, finding_of, accepted}
 use Rattle.plan.specs.Rules.{CountsRule, OffsetRule, SizeRule, PlanRules, rule_entries, Rule, Holds, Answered}
 use Rattle.plan.specs.declared.Plan.{Plan}
-use Rattle.plan.specs.declared.Finding.{Finding}
-use Rattle.plan.specs.declared.Finding.TheVariants.{Clean, Short, Offsets, Sizes}
+use Rattle.plan.specs.declared.Refusal.TheVariants.{Short, Offsets, Sizes}
 use Rattle.plan.proofs.Laws.Rows.{table_at}
 use Rattle.plan.proofs.Laws.Searches.{every_true}
 use Rattle.plan.proofs.Laws.FileTests.{long_kept, offsets_kept_lem, sizes_kept_lem}
-use Rattle.plan.proofs.Laws.Findings.{Judged, clean, faulty, judged_one, first_clean, first_faulty, none-next}
+use Rattle.plan.proofs.Laws.Findings.{Judged, clean, faulty, judged_one, clean_number, first_clean, first_faulty, none-next}
 use Rattle.plan.proofs.Laws.PlanRefusals.{horizon_judged, integrators_judged, inputs_judged, nodes_judged, links_judged, commands_judged}
 
 module _ (file : List ℕ) where
@@ -34,7 +33,7 @@ module _ (file : List ℕ) where
     broken : 0 < number_of f → Rule file (number_of f) (entry_of f) → ⊥
 
   -- no rule has a number above 9
-  tried_none : Tried 10 Clean
+  tried_none : Tried 10 (Ok tt)
   unfolding number_of entry_of
   tried_none = record {
     known = omega arith;
@@ -77,7 +76,7 @@ module _ (file : List ℕ) where
   })
 
   tried_all : Tried 1 (finding_of file)
-  unfolding finding_of plan_finding number_of entry_of
+  unfolding finding_of plan_finding refusal_number refusal_entry
   tried_all =
       tried_next 1 (omega arith) (judged_one 1 (omega arith) 0 (long_enough file) Short (long_kept file) refl refl)
       (tried_next 2 (omega arith) (judged_one 2 (omega arith) 0 (offsets_kept file) Offsets (offsets_kept_lem file) refl refl)
@@ -156,8 +155,8 @@ module _ (file : List ℕ) where
   -- an accepted file keeps every rule
   module _ (yes : accepted file ≡ true) where
     holds : (k : ℕ) → Holds file k
-    unfolding accepted is_clean
-    holds = (answered.accepts (eqb-true (number_of (finding_of file)) 0 yes)).0
+    unfolding accepted
+    holds = (answered.accepts (eqb-true (number_of (finding_of file)) 0 (rw (clean_number (finding_of file)) at yes))).0
 
     pub accepted-offsets : OffsetRule file
     accepted-offsets = holds 2 0 (omega arith)

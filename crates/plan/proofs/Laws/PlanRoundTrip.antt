@@ -1,5 +1,5 @@
 -- Laws: a plan that keeps the rules is what its file is read as, and nothing is found wrong with that file. Assumes nothing.
-use Rattle.std.specs.Prelude.{◌≡◌, refl, true, List, ℕ, ◌+◌, ◌*◌, ◌≤◌, ◌<◌, ℤ, negsuc, ◌≤ℤ◌, length}
+use Rattle.std.specs.Prelude.{◌≡◌, refl, true, List, ℕ, ◌+◌, ◌*◌, ◌≤◌, ◌<◌, ℤ, negsuc, ◌≤ℤ◌, length, Ok, Err}
 use Rattle.std.proofs.Math.Path.{ap}
 use Rattle.std.proofs.Common.{◌∙◌, arith}
 use Rattle.std.proofs.lemmas.Bool.{false≢true}
@@ -15,14 +15,12 @@ use Rattle.plan.specs.Tests.{count_list}
 use Rattle.plan.specs.Rules.{Within, PlanRules}
 use Rattle.plan.specs.Unused.{PlanUnusedZero}
 use Rattle.plan.specs.Encoding.{integrator_words, input_words, node_words, link_words, command_words, encode}
-use Rattle.plan.specs.Refusals.{number_of, is_clean, or_else, plan_finding, finding_of}
+use Rattle.plan.specs.Refusals.{Finding, is_clean, or_else, plan_finding, finding_of}
 use Rattle.plan.proofs.Laws.Rows.{row_ext, row_all}
 use Rattle.plan.proofs.Laws.Layout.{entry_widths, entry_words, section_words, entry_read}
 use Rattle.plan.proofs.Laws.Small.{small_at, signed_size, coefficient-within, node-limits, entry-small}
 use Rattle.plan.proofs.Laws.HeaderRoundTrip.{horizon_back, count_back, section_back, long_enough_lem, offsets_back, sizes_back}
 use Rattle.plan.specs.declared.Plan.{Plan}
-use Rattle.plan.specs.declared.Finding.{Finding}
-use Rattle.plan.specs.declared.Finding.TheVariants.{Clean, Short, Offsets, Sizes, Horizon, Integrator, Input, Node, Link, Command}
 
 -- ---- signed numbers, and those that are not, are read as they were written
 signed_read : (z : ℤ) → Within M z → signed_of 4 (word_of z) ≡ z
@@ -34,18 +32,10 @@ unsigned_read (pos n) h = refl
 unsigned_read (negsuc n) h = absurd (omega (arith, zs))
 
 -- what is no finding
-clean_only : (f : Finding) → is_clean f ≡ true → f ≡ Clean
-unfolding is_clean number_of
-clean_only Clean e = refl
-clean_only Short e = absurd (false≢true e)
-clean_only Offsets e = absurd (false≢true e)
-clean_only Sizes e = absurd (false≢true e)
-clean_only Horizon e = absurd (false≢true e)
-clean_only (Integrator i) e = absurd (false≢true e)
-clean_only (Input j) e = absurd (false≢true e)
-clean_only (Node j) e = absurd (false≢true e)
-clean_only (Link i) e = absurd (false≢true e)
-clean_only (Command i) e = absurd (false≢true e)
+clean_only : (f : Finding) → is_clean f ≡ true → f ≡ Ok tt
+unfolding is_clean
+clean_only (Ok u) e = refl
+clean_only (Err r) e = absurd (false≢true e)
 
 module _ (p : Plan) (r : PlanRules p) (u : PlanUnusedZero p) (s : PlanWidths p) where
   -- one column: its words stand for the entries of an array
@@ -97,8 +87,8 @@ module _ (p : Plan) (r : PlanRules p) (u : PlanUnusedZero p) (s : PlanWidths p) 
 
   -- what is found wrong with the file is what is found wrong with the plan
   pub finding_back : finding_of (encode p) ≡ plan_finding p
-  unfolding finding_of or_else is_clean number_of
+  unfolding finding_of or_else
   finding_back = rw (long_enough_lem p r, offsets_back p r, sizes_back p r, plan_back)
 
-  pub clean_back : is_clean (plan_finding p) ≡ true → finding_of (encode p) ≡ Clean
+  pub clean_back : is_clean (plan_finding p) ≡ true → finding_of (encode p) ≡ Ok tt
   clean_back e = finding_back ∙ clean_only (plan_finding p) e

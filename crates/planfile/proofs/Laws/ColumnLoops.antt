@@ -38,3 +38,5 @@ module _ (wide size : ℕ) (part : List ℕ) (column i : ℕ) {at : ℕ} {xs : L
       → set xs i (to_z w64 x) ≡ unsigneds_of wide size (i + 1) part column
   unsigneds_turn e r p =
       column_turn (pos 0) unsigned_word wide size part column i e (to_z_pos w64 (omega arith) ∙ ap pos r.0) p
+
+pub ruleset columns = (column_none, column_turn, signeds_turn, unsigneds_turn)

@@ -1,5 +1,5 @@
 -- Laws: the plan writer: every number of a plan that keeps the rules fits a word, and the file grows section by section. Assumes nothing.
-use Rattle.std.specs.Prelude.{◌≡◌, refl, ℕ, ◌+◌, ◌≤◌, ◌<◌, ℤ, length, get_or, drop}
+use Rattle.std.specs.Prelude.{◌≡◌, refl, ℕ, ◌+◌, ◌≤◌, ◌<◌, ℤ, Some, None, length, get_or, drop}
 use Rattle.std.proofs.Common.{◌∙◌}
 use mathlib.Core.List.{List, ◌∷◌, ◌++◌, append-nil}
 use native.Mathlib.Omega.{arith}
@@ -18,7 +18,6 @@ use Rattle.plan.proofs.Laws.Small.{signed_size, coefficient-within, quantum-with
 use Rattle.plan.specs.declared.Plan.{Plan}
 use Rattle.sectionwriters.specs.Entries.{Unsigned32, Signed32}
 use Rattle.planwriter.specs.Plans.{plan_written, written_buffer}
-use Rattle.planwriter.specs.declared.PlanWritten.TheVariants.{Short, Length}
 use Rattle.words.proofs.Laws.Putting.{behind, back, length_behind}
 use Rattle.sectionwriters.proofs.Laws.Writing.{BeginsWith, begun_of, turn}
 
@@ -132,14 +131,14 @@ module _ (p : Plan) (old : List ℕ) {size : ℕ} (e : size ≡ offset_from (cou
       record { room = omega arith; begun = begun_of (rw append-nil q) (omega arith) }
 
   -- the whole file
-  pub filed : {s : List ℕ} → WrittenUpTo p old sections s → (Length size ≡ plan_written p (length old)) × (s ≡ written_buffer p old)
+  pub filed : {s : List ℕ} → WrittenUpTo p old sections s → (Some size ≡ plan_written p (length old)) × (s ≡ written_buffer p old)
   unfolding plan_written written_buffer
   filed g =
       let b = le-leb (file_length p) (length old) g.room in
       (rw (b, length_of_lem), rw b (g.begun.words ∙ rw (← words_to_lem p) (file_written p old)))
 
   -- a buffer that is too short
-  pub short : length old < size → (Short ≡ plan_written p (length old)) × (old ≡ written_buffer p old)
+  pub short : length old < size → (None ≡ plan_written p (length old)) × (old ≡ written_buffer p old)
   unfolding plan_written written_buffer
   short h =
       let f = length_of_lem in

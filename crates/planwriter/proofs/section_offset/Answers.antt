@@ -1,12 +1,11 @@
 -- A section more is added; the limits of the counts keep the sum small.
-use mathlib.Core.Path.{◌≡◌, sym, ap, ◌∙◌}
+use mathlib.Core.Path.{sym}
 use native.Mathlib.Omega.{arith}
-use Rattle.plan.specs.Encoding.{offset_from}
 use Rattle.planwriter.proofs.Laws.Header.{offset-none, offset_more, offset_limit, length_limit}
 use Rattle.planwriter.proofs.section_offset.Goals as goal
 
 pub loop-i-init : goal.loop-i-init
-loop-i-init c = (omega arith, sym (offset-none c.args.counts.now))
+loop-i-init c = sym (offset-none c.args.counts.now)
 
 pub section_length-offset-requires : goal.section_length-offset-requires
 section_length-offset-requires c = (omega arith, c.requires.1)
@@ -19,11 +18,4 @@ overflow_add-offset c =
 
 pub loop-i-preserved : goal.loop-i-preserved
 loop-i-preserved c =
-    let more = offset_more c.args.counts.now c.loop-i.i in
-    (omega arith, omega arith)
-
-pub returns : goal.returns
-returns c =
-    let b = c.loop-i in
-    let e : b.i ≡ c.args.section = omega arith in
-    b.invariant.1 ∙ ap (offset_from c.args.counts.now) e
+    let more = offset_more c.args.counts.now c.loop-i.i in omega arith

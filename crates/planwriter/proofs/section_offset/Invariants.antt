@@ -1,11 +1,7 @@
 -- The loop's invariant: the offset is that of section i.
 use mathlib.Core.Path.{◌≡◌}
-use Prim.Native.Nat.{◌-◌, ◌≤◌}
 use Rattle.plan.specs.Encoding.{offset_from}
 use Rattle.planwriter.proofs.section_offset.Given as goal
 
 abbrev pub invariant-loop-i : goal.invariant-loop-i
-invariant-loop-i l = (l.i ≤ l.section) × (l.offset ≡ offset_from l.counts l.i)
-
-abbrev pub decreases-loop-i : goal.decreases-loop-i
-decreases-loop-i l = l.section - l.i
+invariant-loop-i l = l.offset ≡ offset_from l.counts l.i

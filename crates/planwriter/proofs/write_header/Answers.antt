@@ -13,6 +13,6 @@ pub returns : goal.returns
 returns c =
     let a = c.args in
     let old = a.buffer.now in
-    let first = (more (begin old) a.horizon c.write_u32.ensures).words in
+    let first = (more (begin old) a.horizon (rw c.from.ensures at c.write_u32.ensures)).words in
     let h = c.requires.0 in
     written-part (a.horizon ∷ []) (joined (pair_entry a.counts.now) sections) old 4 first refl (omega arith) c.write_pairs.ensures

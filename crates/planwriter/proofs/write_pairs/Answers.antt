@@ -5,11 +5,11 @@ use native.Mathlib.Omega.{arith}
 use Rattle.plan.specs.Encoding.{pair_entry}
 use Rattle.planwriter.proofs.Laws.Header.{offset_limit, length_limit}
 use Rattle.words.proofs.Laws.Putting.{length_behind}
-use Rattle.sectionwriters.proofs.Laws.Writing.{none, all, entry}
+use Rattle.sectionwriters.proofs.Laws.Writing.{none, entry}
 use Rattle.planwriter.proofs.write_pairs.Goals as goal
 
 pub loop-section-init : goal.loop-section-init
-loop-section-init c = let a = c.args in (omega arith, none (pair_entry a.counts.now) a.buffer.now)
+loop-section-init c = let a = c.args in none (pair_entry a.counts.now) a.buffer.now
 
 pub section_offset-offset-requires : goal.section_offset-offset-requires
 section_offset-offset-requires c = (omega arith, c.requires.1)
@@ -31,11 +31,4 @@ loop-section-preserved c =
     let offset = c.section_offset-offset.ensures in
     let size = c.section_length-size.ensures in
     let e = rw (offset, size) at c.write_pair.ensures in
-    let more = entry (pair_entry a.counts.now) 2 (λ _. refl) a.buffer.now b.section (8 * b.section) b.invariant.1 (omega arith) (omega arith) e in
-    (omega arith, more)
-
-pub returns : goal.returns
-returns c =
-    let a = c.args in
-    let b = c.loop-section in
-    all (pair_entry a.counts.now) a.buffer.now b.invariant.0 c.loop-section-test.false b.invariant.1
+    entry (pair_entry a.counts.now) 2 (λ _. refl) a.buffer.now b.section (8 * b.section) b.invariant (omega arith) (omega arith) e

@@ -1,13 +1,8 @@
 -- The loop's invariant: the pairs of the sections below this one are written, and the rest is as it was.
-use Prim.Native.Nat.{◌-◌, ◌≤◌}
-use Rattle.plan.specs.Numbers.{sections}
 use Rattle.plan.specs.Lists.{joined}
 use Rattle.plan.specs.Encoding.{pair_entry}
 use Rattle.sectionwriters.proofs.Laws.Writing.{BeginsWith}
 use Rattle.planwriter.proofs.write_pairs.Given as goal
 
 abbrev pub invariant-loop-section : goal.invariant-loop-section
-invariant-loop-section l = (l.section ≤ sections) × BeginsWith (joined (pair_entry l.counts) l.section) l.initial.buffer l.buffer
-
-abbrev pub decreases-loop-section : goal.decreases-loop-section
-decreases-loop-section l = sections - l.section
+invariant-loop-section l = BeginsWith (joined (pair_entry l.counts) l.section) l.initial.buffer l.buffer

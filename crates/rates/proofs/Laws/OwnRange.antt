@@ -25,10 +25,7 @@ use Rattle.machine.proofs.Laws.Held.{slope_is}
 use Rattle.rates.specs.Links.{first_link, ranges_of, term, sum_from, range_rate, RateReady, RatesReady}
 use Rattle.rates.proofs.Laws.Ranges.{first_link_lem, first-most, first_ascends}
 
--- of a plan: link e's term, and where integrator i's range begins
-abbrev term_of : Plan → List ℤ → ℕ → ℤ
-term_of p values = term p.links.sources p.links.coefficients values
-
+-- where integrator i's range begins
 abbrev begin : Plan → ℕ → ℕ
 begin p i = first_link p.links.targets p.counts.links i
 
@@ -47,11 +44,11 @@ module _ (p : Plan) (q u : List ℤ) (i : ℕ) where
   -- all are the integrator's
   sum-own : (values : List ℤ) (a d : ℕ) → ((e : ℕ) → a ≤ e → e < a + d → nat_at p.links.targets e ≡ i)
       → ((e : ℕ) → e < a + d → int_at values (nat_at p.links.sources e) ≡ value_of p q u (nat_at p.links.sources e))
-      → sum_over p q u i (a + d) ≡ sum_over p q u i a +ℤ sum_from (term_of p values) a d
+      → sum_over p q u i (a + d) ≡ sum_over p q u i a +ℤ sum_from (term p.links values) a d
   unfolding sum_over sum_from
   sum-own values a zero h v = let s = sum_over p q u i a in rw add-zero (omega (arith, zs, sum s (pos 0)))
   sum-own values a (suc d) h v =
-      let x = sum_over p q u i a in let y = sum_from (term_of p values) a d in let z = term_of p values (a + d) in
+      let x = sum_over p q u i a in let y = sum_from (term p.links values) a d in let z = term p.links values (a + d) in
       let own = eq-eqb (nat_at p.links.targets (a + d)) i (h (a + d) (omega arith) (omega arith)) in
       let more : x +ℤ y +ℤ z ≡ x +ℤ (y +ℤ z) = omega (arith, zs, sum x y, sum (x +ℤ y) z, sum y z, sum x (y +ℤ z)) in
       rw (add-suc, own, sum-own values a d (λ e b l. h e b (omega arith)) (λ e l. v e (omega arith)), ← v (a + d) (omega arith)) more
@@ -82,13 +79,13 @@ module _ (p : Plan) (rules : PlanRules p) where
   unfolding ranges_of
   ranges_at i h = row_at 0 33 (p.counts.n + 1) (first_link p.links.targets p.counts.links) i (omega (arith, count-limits p rules.counts)) (omega arith)
 
-  pub own-rated : (values : List ℤ) → ((i : ℕ) → ∣ int_at values i ∣ ≤ M) → RatesReady p.counts.n p.links.sources p.links.coefficients (ranges_of p) values
+  pub own-rated : (values : List ℤ) → ((i : ℕ) → ∣ int_at values i ∣ ≤ M) → RatesReady p.counts.n p.links (ranges_of p) values
   own-rated values sized i h = rw (ranges_at i (omega arith), ranges_at (i + 1) (omega arith)) rated
     where
       last : (e : ℕ) → e < begin p (i + 1) → e < p.counts.links
       last e l = omega (arith, first-most p.links.targets p.counts.links (i + 1))
 
-      rated : RateReady p.links.sources p.links.coefficients values (begin p i) (begin p (i + 1))
+      rated : RateReady p.links values (begin p i) (begin p (i + 1))
       rated =
           record {
             order = first_ascends p.links.targets p.counts.links i;
@@ -100,7 +97,7 @@ module _ (p : Plan) (rules : PlanRules p) where
 
   -- ---- the rate
   module _ (values q u : List ℤ) (same : (i : ℕ) → i < p.counts.n + p.counts.m + p.counts.k → int_at values i ≡ value_of p q u i) where
-    own-sum : (i : ℕ) → sum_from (term_of p values) (begin p i) (begin p (i + 1) - begin p i) ≡ sum_over p q u i p.counts.links
+    own-sum : (i : ℕ) → sum_from (term p.links values) (begin p i) (begin p (i + 1) - begin p i) ≡ sum_over p q u i p.counts.links
     unfolding sum_over
     own-sum i = sym (behind ∙ within ∙ ahead)
       where
@@ -121,30 +118,30 @@ module _ (p : Plan) (rules : PlanRules p) where
             let all : b + (p.counts.links - b) ≡ p.counts.links = omega (arith, most) in
             rw all at (sum_past p q u i b (p.counts.links - b) (λ e h l t. omega (arith, from (i + 1) e h (omega (arith, most)))))
 
-        within : sum_over p q u i b ≡ sum_over p q u i a +ℤ sum_from (term_of p values) a (b - a)
+        within : sum_over p q u i b ≡ sum_over p q u i a +ℤ sum_from (term p.links values) a (b - a)
         within =
             let all : a + (b - a) ≡ b = omega (arith, ab) in
             rw all at (sum-own p q u i values a (b - a)
             (λ e h l. omega (arith, ab, from i e h (omega (arith, ab, most)), before (i + 1) e (omega (arith, ab))))
             (λ e l. same (nat_at p.links.sources e) (rules.links e (omega (arith, ab, most))).source))
 
-        ahead : sum_over p q u i a +ℤ sum_from (term_of p values) a (b - a) ≡ sum_from (term_of p values) a (b - a)
+        ahead : sum_over p q u i a +ℤ sum_from (term p.links values) a (b - a) ≡ sum_from (term p.links values) a (b - a)
         ahead =
-            let s = sum_from (term_of p values) a (b - a) in let all : 0 + a ≡ a = omega arith in
+            let s = sum_from (term p.links values) a (b - a) in let all : 0 + a ≡ a = omega arith in
             let none : sum_over p q u i a ≡ pos 0 = rw all at (sum_past p q u i 0 a (λ e h l t. omega (arith, before i e (omega arith)))) in
             rw none (omega (arith, zs, sum (pos 0) s))
 
     own-rate : (i : ℕ) → i < p.counts.n
-        → range_rate p.links.sources p.links.coefficients values (nat_at (ranges_of p) i) (nat_at (ranges_of p) (i + 1)) ≡ rate_of p q u i
+        → range_rate p.links values (nat_at (ranges_of p) i) (nat_at (ranges_of p) (i + 1)) ≡ rate_of p q u i
     unfolding range_rate rate_of
     own-rate i h = rw (ranges_at i (omega arith), ranges_at (i + 1) (omega arith)) (ap floor65536 (own-sum i))
 
   -- ---- the slopes, by what is held
   module _ (values : List ℤ) (h : Held) (same : (i : ℕ) → i < p.counts.n + p.counts.m + p.counts.k → int_at values i ≡ value_of p h.q h.inputs i) where
     pub own-slope : (i : ℕ) → i < p.counts.n
-        → range_rate p.links.sources p.links.coefficients values (nat_at (ranges_of p) i) (nat_at (ranges_of p) (i + 1)) ≡ slope_of p h i
+        → range_rate p.links values (nat_at (ranges_of p) i) (nat_at (ranges_of p) (i + 1)) ≡ slope_of p h i
     own-slope i l = own-rate values h.q h.inputs same i l ∙ sym (slope_is p h i)
 
-    pub own_slopes : row (pos 0) 32 p.counts.n (λ i. range_rate p.links.sources p.links.coefficients values (nat_at (ranges_of p) i) (nat_at (ranges_of p) (i + 1)))
+    pub own_slopes : row (pos 0) 32 p.counts.n (λ i. range_rate p.links values (nat_at (ranges_of p) i) (nat_at (ranges_of p) (i + 1)))
         ≡ row (pos 0) 32 p.counts.n (slope_of p h)
     own_slopes = row_ext (pos 0) 32 p.counts.n _ _ own-slope

@@ -1,5 +1,5 @@
 -- Laws: the search for the first link of an integrator, and that the search for the next one goes on from there. Assumes nothing.
-use Rattle.std.specs.Prelude.{◌≡◌, refl, Bool, true, false, List}
+use Rattle.std.specs.Prelude.{◌≡◌, refl, Bool, true, false, List, Option, Some, None, MatchOption, unwrap_or}
 use Prim.Native.Nat.{ℕ, suc, ◌+◌, ◌-◌, ◌≤◌, ◌<◌}
 use native.Mathlib.Omega.{arith}
 use Rattle.std.proofs.Math.Dec.{leb}
@@ -25,6 +25,17 @@ module _ (test : ℕ → Bool) (i n : ℕ) where
   pub first-end : n ≤ i → i ≡ first_from test i (n - i)
   unfolding first_from
   first-end h = let none : n - i ≡ 0 = omega arith in rw none
+
+-- what `find` answers over the numbers from `from` on
+pub found : (test : ℕ → Bool) (from n : ℕ) (r : Option ℕ) → from ≤ n
+    → MatchOption r ((k : ℕ) → from ≤ k → k < n → test k ≡ false)
+    (λ i. (from ≤ i) × (i < n) × (test i ≡ true) × ((k : ℕ) → from ≤ k → k < i → test k ≡ false))
+    → unwrap_or r n ≡ first_from test from (n - from)
+found test from n None l none =
+    first_unique test from (n - from) n
+    (record { from = l; most = omega arith; earlier = λ k h b. none k h b; passes = λ h. absurd (omega arith) })
+found test from n (Some i) l (h, b, pass, before) =
+    first_unique test from (n - from) i (record { from = h; most = omega arith; earlier = before; passes = λ _. pass })
 
 module _ (targets : List ℕ) (links : ℕ) where
   pub first_link_lem : (i : ℕ) → First (λ e. leb i (nat_at targets e)) 0 links (first_link targets links i)

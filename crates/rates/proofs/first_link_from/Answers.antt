@@ -1,25 +1,13 @@
--- A link below the target is passed; at the first other one, or behind the last link, the search ends.
-use mathlib.Core.Path.{refl, ◌∙◌}
-use native.Mathlib.Omega.{arith}
-use borrow.Author.Tests.{lt-leb, le-leb}
+-- The first link whose target is not below i.
+use Rattle.std.proofs.Common.{◌≡◌, true, false, leb, rules, tests}
+use Rattle.std.proofs.lemmas.Iterator.{first_from_Range}
 use Rattle.plan.specs.Lists.{nat_at}
-use Rattle.rates.proofs.Laws.Ranges.{first_on, first_here, first-end}
+use Rattle.rates.proofs.Laws.Ranges.{found}
 use Rattle.rates.proofs.first_link_from.Goals as goal
 
-pub loop-e-init : goal.loop-e-init
-loop-e-init c = (omega arith, refl)
-
-pub loop-e-preserved : goal.loop-e-preserved
-loop-e-preserved c =
-    let l = c.loop-e in let a = c.args in
-    let below = lt-leb a.i (nat_at a.targets.now l.e) c.if-targets-e.true in
-    (omega arith, first_on _ l.e a.links (omega arith) below ∙ l.invariant.1)
-
-pub returns-else-targets-e : goal.returns-else-targets-e
-returns-else-targets-e c =
-    let l = c.loop-e in let a = c.args in
-    let found = le-leb a.i (nat_at a.targets.now l.e) c.if-targets-e.false in
-    first_here _ l.e a.links (omega arith) found ∙ l.invariant.1
-
-pub returns-after-loop-e : goal.returns-after-loop-e
-returns-after-loop-e c = let l = c.loop-e in first-end _ l.e c.args.links (omega arith) ∙ l.invariant.1
+pub returns : goal.returns
+returns c =
+    let a = c.args in let targets = a.links.now.targets in
+    rw c.unwrap_or.ensures (found (λ e. leb a.i (nat_at targets e)) a.from a.count c.find.result c.requires.0
+    (first_from_Range _ _ _ _ (λ e. leb a.i (nat_at targets e) ≡ true) (λ e. leb a.i (nat_at targets e) ≡ false) c.find.ensures.ran
+    (λ x q k. search (rules, tests)) (λ x q k. (search rules, search (rules, tests)))))

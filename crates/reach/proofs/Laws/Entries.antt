@@ -3,7 +3,7 @@
 use Rattle.std.specs.Prelude.{◌≡◌, Bool, cond, not, ◌&&◌, ◌||◌, set, replicate}
 use Rattle.std.proofs.Math.Path.{refl, sym, ap}
 use Rattle.std.proofs.Common.{◌∙◌, arith, get_or-set_same, get_or-set_other, eq-eqb, ne_eqb}
-use Rattle.std.proofs.Math.Bool.{true, false, or-false, or_assoc, and-false}
+use Rattle.std.proofs.Math.Bool.{true, false, or-false, or_assoc, and-false, and-or_distrib_left, and-or_distrib_right}
 use mathlib.Core.List.{List}
 use Prim.Native.Nat.{ℕ, zero, suc, ◌+◌, ◌<◌}
 use Rattle.std.proofs.Math.Dec.{eqb}
@@ -12,6 +12,7 @@ use Rattle.std.proofs.lemmas.List.{get_or-replicate}
 use Rattle.bitset.specs.Mask.{has, each, union}
 use Rattle.bitset.proofs.Laws.Bits.{has-none, has_or, has_with}
 use Rattle.plan.specs.Lists.{nat_at, some}
+use Rattle.plan.specs.declared.Nodes.{Nodes}
 use Rattle.reach.specs.Table.{marked, added_to, added_to_operands, entries_of, OperandsReady}
 use Rattle.reach.proofs.Laws.Some.{some_ext, some-none, some_also}
 
@@ -45,17 +46,13 @@ unfolding in_entries
 entries_none sources b =
     some-none _ 64 (λ i h. rw (get_or-replicate {A = ℕ} 64 i 0 0 h, has-none b) (and-false (sources i)))
 
-and_over : (a b c : Bool) → (a && (b || c)) ≡ ((a && b) || (a && c))
-and_over true b c = refl
-and_over false b c = refl
-
 -- an entry stored anew, which has the bit also if c
 stored : (table : List ℕ) (sources : ℕ → Bool) (b a v : ℕ) (c : Bool) → length table ≡ 64 → a < 64 → has v b ≡ (has (nat_at table a) b || c)
     → in_entries (set table a v) sources b ≡ (in_entries table sources b || (sources a && c))
 unfolding in_entries
 stored table sources b a v c len h e =
     some_also _ (λ i. sources i && has (nat_at table i) b) (sources a && c) a 64 h
-    (rw (get_or-set_same table a v 0 (omega arith), e) (and_over (sources a) (has (nat_at table a) b) c))
+    (rw (get_or-set_same table a v 0 (omega arith), e) (and-or_distrib_left (sources a) (has (nat_at table a) b) c))
     (λ i ne. rw (get_or-set_other table a i v 0 ne))
 
 module _ (place bit : ℕ → ℕ) (table : List ℕ) where
@@ -86,36 +83,32 @@ with_source table sources b a c h out =
     some_also _ (λ i. sources i && has (nat_at table i) b) (c && has (nat_at table a) b) a 64 h (rw (eq-eqb a a refl, out)) (λ i ne. rw (ne_eqb i a ne))
 
 -- ---- a node's entry added to those of the operands that it uses
-module _ (kinds a b : List ℕ) (base : ℕ) where
-  pub operands-length : (j : ℕ) (table : List ℕ) → length (added_to_operands kinds a b base j table) ≡ length table
+module _ (nodes : Nodes) (base : ℕ) where
+  pub operands-length : (j : ℕ) (table : List ℕ) → length (added_to_operands nodes base j table) ≡ length table
   unfolding added_to_operands
-  operands-length j table = go (eqb (nat_at kinds j) 2) _ _ (simp length-set) (simp length-set)
+  operands-length j table = go (eqb (nat_at nodes.kinds j) 2) _ _ (simp length-set) (simp length-set)
     where
       go : (two : Bool) (x y : List ℕ) → length x ≡ length table → length y ≡ length table → length (cond two x y) ≡ length table
       go true x y e f = e
       go false x y e f = f
 
   -- the same as looking at node j too: it is one of the sources if an operand that it uses is
-  pub operands-entries : (k : ℕ) → OperandsReady a b base k
+  pub operands-entries : (k : ℕ) → OperandsReady nodes base k
       → (table : List ℕ) (sources : ℕ → Bool) (bit j : ℕ) → length table ≡ 64 → j < k → sources (base + j) ≡ false
-      → in_entries (added_to_operands kinds a b base j table) sources bit
+      → in_entries (added_to_operands nodes base j table) sources bit
       ≡ in_entries table
-      (λ i. cond (eqb i (base + j)) (sources (nat_at a j) || (not (eqb (nat_at kinds j) 2) && sources (nat_at b j))) (sources i)) bit
+      (λ i. cond (eqb i (base + j)) (sources (nat_at nodes.a j) || (not (eqb (nat_at nodes.kinds j) 2) && sources (nat_at nodes.b j))) (sources i)) bit
   unfolding added_to_operands
   operands-entries k wired table sources bit j len h out =
-      let l = nat_at a j in let r = nat_at b j in let entry = nat_at table (base + j) in let left = added_to table l entry in
+      let l = nat_at nodes.a j in let r = nat_at nodes.b j in let entry = nat_at table (base + j) in let left = added_to table l entry in
       let one = added_entries table sources bit l entry len (omega (arith, wired.room, wired.a-below j h)) in
       let two = added_entries left sources bit r entry (length-set table l _ ∙ len) (omega (arith, wired.room, wired.b-below j h)) in
-      go (eqb (nat_at kinds j) 2) left (added_to left r entry) (in_entries table sources bit) (sources l) (sources r) (has entry bit) one
+      go (eqb (nat_at nodes.kinds j) 2) left (added_to left r entry) (in_entries table sources bit) (sources l) (sources r) (has entry bit) one
       (two ∙ ap (λ x. x || (sources r && has entry bit)) one)
       ∙ sym (with_source table sources bit (base + j) _ (omega (arith, wired.room)) out)
     where
       joins : (a l r e : Bool) → ((a || (l && e)) || (r && e)) ≡ (a || ((l || r) && e))
-      joins true l r e = refl
-      joins false true true true = refl
-      joins false true true false = refl
-      joins false true false e = or-false e
-      joins false false r e = refl
+      joins a l r e = or_assoc a (l && e) (r && e) ∙ ap (λ x. a || x) (sym (and-or_distrib_right l r e))
 
       go : (two : Bool) (x y : List ℕ) (a l r e : Bool) → in_entries x sources bit ≡ (a || (l && e))
           → in_entries y sources bit ≡ ((a || (l && e)) || (r && e)) → in_entries (cond two x y) sources bit ≡ (a || ((l || (not two && r)) && e))

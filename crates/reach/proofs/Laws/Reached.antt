@@ -14,7 +14,7 @@ use Rattle.plan.specs.Rules.{PlanRules}
 use Rattle.plan.proofs.Laws.CountLimits.{count-limits}
 use Rattle.plan.specs.declared.Plan.{Plan}
 use Rattle.machine.specs.Reach.{is_commanded, changes_by, depends_with, link_reaches, reached}
-use Rattle.reach.specs.Table.{link_entries, own_entries, followed_down, table_from, reach_table, entries_of, LinksReady, OperandsReady}
+use Rattle.reach.specs.Table.{link_entries, own_entries, followed_down, reach_table, entries_of, LinksReady, OperandsReady, TableReady}
 use Rattle.reach.proofs.Laws.Some.{some_ext, some-none, some_only}
 use Rattle.reach.proofs.Laws.Masks.{mask_is, has-low, joined_is}
 use Rattle.reach.proofs.Laws.Entries.{in_entries, entries_of-has, entries_ext, entries_none, marked-length, marked-entries}
@@ -34,7 +34,7 @@ exchanged c x y = go (eqb x y) refl
 
 module _ (p : Plan) (rules : PlanRules p) where
   -- ---- what `reach_table` asks; kind 2's B is 0, and there is an integrator 0
-  pub table_wired : OperandsReady p.nodes.a p.nodes.b (p.counts.n + p.counts.m) p.counts.k
+  pub table_wired : OperandsReady p.nodes (p.counts.n + p.counts.m) p.counts.k
   table_wired =
       record {
         room = omega (arith, count-limits p rules.counts);
@@ -46,7 +46,7 @@ module _ (p : Plan) (rules : PlanRules p) where
       below j h true e = omega (arith, (count-limits p rules.counts).n-least, (rules.nodes j h).unused (eqb-true (nat_at p.nodes.kinds j) 2 e))
       below j h false e = (rules.nodes j h).b-below (eqb-false (nat_at p.nodes.kinds j) 2 e)
 
-  pub table_linked : LinksReady p.links.targets p.links.sources p.counts.links
+  pub table_linked : LinksReady p.links p.counts.links
   table_linked =
       let counts = count-limits p rules.counts in
       record {
@@ -55,15 +55,18 @@ module _ (p : Plan) (rules : PlanRules p) where
         source = λ e h. omega (arith, counts, (rules.links e h).source);
       }
 
+  pub table_ready : TableReady p
+  table_ready = record { few = (count-limits p rules.counts).k; operands = table_wired; links = table_linked }
+
   -- ---- before any entry is added to its operands'
   abbrev own : List ℕ
-  own = own_entries (p.counts.n + p.counts.m) (link_entries p.links.targets p.links.sources p.counts.links) p.counts.k
+  own = own_entries (p.counts.n + p.counts.m) (link_entries p.links p.counts.links) p.counts.k
 
-  linked_length : length (link_entries p.links.targets p.links.sources p.counts.links) ≡ 64
+  linked_length : length (link_entries p.links p.counts.links) ≡ 64
   linked_length = marked-length (nat_at p.links.sources) (nat_at p.links.targets) (replicate 64 0) p.counts.links ∙ length-replicate {A = ℕ} 64 0
 
   own-length : length own ≡ 64
-  own-length = marked-length (λ j. p.counts.n + p.counts.m + j) (λ j. 32 + j) (link_entries p.links.targets p.links.sources p.counts.links) p.counts.k ∙ linked_length
+  own-length = marked-length (λ j. p.counts.n + p.counts.m + j) (λ j. 32 + j) (link_entries p.links p.counts.links) p.counts.k ∙ linked_length
 
   module _ (chosen : ℕ → Bool) where
     abbrev link_has : ℕ → ℕ → Bool
@@ -75,7 +78,7 @@ module _ (p : Plan) (rules : PlanRules p) where
     -- a bit is a link's or a node's
     own-has : (b : ℕ) → in_entries own chosen b ≡ (some (link_has b) p.counts.links || some (node_has b) p.counts.k)
     own-has b =
-        marked-entries (λ j. p.counts.n + p.counts.m + j) (λ j. 32 + j) (link_entries p.links.targets p.links.sources p.counts.links) chosen b p.counts.k linked_length
+        marked-entries (λ j. p.counts.n + p.counts.m + j) (λ j. 32 + j) (link_entries p.links p.counts.links) chosen b p.counts.k linked_length
         (λ j h. omega (arith, table_wired.room))
         ∙ ap (λ x. x || some (node_has b) p.counts.k)
         (marked-entries (nat_at p.links.sources) (nat_at p.links.targets) (replicate 64 0) chosen b p.counts.links (length-replicate {A = ℕ} 64 0)
@@ -120,13 +123,13 @@ module _ (p : Plan) (rules : PlanRules p) where
 
     -- with j nodes' entries added to their operands', the sources that change have what all that depend on them have without
     followed_has : (j b : ℕ) (table : List ℕ) → j ≤ p.counts.k → length table ≡ 64
-        → in_entries (followed_down p.nodes.kinds p.nodes.a p.nodes.b (p.counts.n + p.counts.m) j table) changed b
+        → in_entries (followed_down p.nodes (p.counts.n + p.counts.m) j table) changed b
         ≡ in_entries table (depends j) b
     unfolding followed_down depends_with
     followed_has zero b table h len = refl
     followed_has (suc j) b table h len =
-        followed_has j b _ (omega arith) (operands-length p.nodes.kinds p.nodes.a p.nodes.b (p.counts.n + p.counts.m) j table ∙ len)
-        ∙ operands-entries p.nodes.kinds p.nodes.a p.nodes.b (p.counts.n + p.counts.m) p.counts.k table_wired table (depends j) b j len h
+        followed_has j b _ (omega arith) (operands-length p.nodes (p.counts.n + p.counts.m) j table ∙ len)
+        ∙ operands-entries p.nodes (p.counts.n + p.counts.m) p.counts.k table_wired table (depends j) b j len h
         (not_yet j (p.counts.n + p.counts.m + j) (omega arith))
 
     not_reached : (i : ℕ) → p.counts.n ≤ i → reached p changed i ≡ false
@@ -148,7 +151,7 @@ module _ (p : Plan) (rules : PlanRules p) where
               has-high _ (p.counts.n + p.counts.m) i (mask_of_lt changed (p.counts.n + p.counts.m)) h ∙ sym (inside i h)
 
       entries-has : (b : ℕ) → has entries b ≡ in_entries own (depends p.counts.k) b
-      unfolding reach_table table_from
+      unfolding reach_table
       entries-has b =
           entries_of-has (reach_table p) mask b ∙ entries_ext (reach_table p) (has mask) changed b mask_has
           ∙ followed_has p.counts.k b own (omega arith) own-length

@@ -1,8 +1,8 @@
 -- Laws: "some index below n passes": it goes by the test's answers, and is known where the test passes at one index at most. Assumes
 -- nothing.
-use Rattle.std.specs.Prelude.{◌≡◌, refl, Bool, true, false, ◌||◌, ℕ, zero, suc, ◌<◌}
+use Rattle.std.specs.Prelude.{◌≡◌, refl, Bool, false, ◌||◌, ℕ, zero, suc, ◌<◌}
 use Rattle.std.proofs.Common.{sym, ap, ap₂, ◌∙◌, arith}
-use Rattle.std.proofs.Math.Bool.{or-false, or_assoc}
+use Rattle.std.proofs.Math.Bool.{or_assoc, or_comm}
 use Rattle.plan.specs.Lists.{some}
 use Rattle.plan.proofs.Laws.Searches.{below_suc}
 
@@ -17,10 +17,7 @@ some-none f zero e = refl
 some-none f (suc n) e = ap₂ ◌||◌ (some-none f n (λ i h. e i (omega arith))) (e n (omega arith))
 
 or_last : (a b c : Bool) → ((a || c) || b) ≡ ((a || b) || c)
-or_last true b c = refl
-or_last false true true = refl
-or_last false true false = refl
-or_last false false c = or-false c
+or_last a b c = or_assoc a c b ∙ ap (λ x. a || x) (or_comm c b) ∙ sym (or_assoc a b c)
 
 -- two tests that differ at a alone, where one of them passes also if c
 pub some_also : (f g : ℕ → Bool) (c : Bool) (a n : ℕ) → a < n → f a ≡ (g a || c) → ((i : ℕ) → (i ≡ a → ⊥) → f i ≡ g i)

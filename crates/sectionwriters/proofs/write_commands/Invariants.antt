@@ -1,12 +1,8 @@
 -- The loop's invariant: the first e entries are written, and the rest is as it was.
-use Prim.Native.Nat.{◌-◌, ◌≤◌}
 use Rattle.plan.specs.Lists.{joined}
 use Rattle.plan.specs.Encoding.{triple_entry}
 use Rattle.sectionwriters.proofs.Laws.Writing.{BeginsWith}
 use Rattle.sectionwriters.proofs.write_commands.Given as goal
 
 abbrev pub invariant-loop-e : goal.invariant-loop-e
-invariant-loop-e l = (l.e ≤ l.commands) × BeginsWith (joined (triple_entry l.ticks l.inputs l.values) l.e) l.initial.buffer l.buffer
-
-abbrev pub decreases-loop-e : goal.decreases-loop-e
-decreases-loop-e l = l.commands - l.e
+invariant-loop-e l = BeginsWith (joined (triple_entry l.commands.ticks l.commands.inputs l.commands.values) l.e) l.initial.buffer l.buffer

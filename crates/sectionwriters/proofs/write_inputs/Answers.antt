@@ -4,11 +4,11 @@ use Prim.Native.Nat.{◌*◌}
 use native.Mathlib.Omega.{arith}
 use Rattle.plan.specs.Encoding.{input_entry}
 use Rattle.words.proofs.Laws.Putting.{length_behind}
-use Rattle.sectionwriters.proofs.Laws.Writing.{rd_at, rd_small, none, all, entry}
+use Rattle.sectionwriters.proofs.Laws.Writing.{rd_at, rd_small, none, entry}
 use Rattle.sectionwriters.proofs.write_inputs.Goals as goal
 
 pub loop-j-init : goal.loop-j-init
-loop-j-init c = (omega arith, none _ c.args.buffer.now)
+loop-j-init c = none _ c.args.buffer.now
 
 pub write_input-requires : goal.write_input-requires
 write_input-requires c =
@@ -23,10 +23,4 @@ loop-j-preserved c =
     let b = c.loop-j in
     let h = c.loop-j-test.true in
     let e = rw (rd_at c.requires.fitting b.j h) at c.write_input.ensures in
-    let more = entry (input_entry c.args.firsts.now) 1 (λ _. refl) c.args.buffer.now b.j (4 * b.j) b.invariant.1 (omega arith) (omega arith) e in
-    (omega arith, more)
-
-pub returns : goal.returns
-returns c =
-    let b = c.loop-j in
-    all _ c.args.buffer.now b.invariant.0 c.loop-j-test.false b.invariant.1
+    entry (input_entry c.args.inputs.now.firsts) 1 (λ _. refl) c.args.buffer.now b.j (4 * b.j) b.invariant (omega arith) (omega arith) e

@@ -4,11 +4,11 @@ use Prim.Native.Nat.{◌*◌}
 use native.Mathlib.Omega.{arith}
 use Rattle.plan.specs.Encoding.{integrator_entry}
 use Rattle.words.proofs.Laws.Putting.{length_behind}
-use Rattle.sectionwriters.proofs.Laws.Writing.{rd_at, rd_small, none, all, entry}
+use Rattle.sectionwriters.proofs.Laws.Writing.{rd_at, rd_small, none, entry}
 use Rattle.sectionwriters.proofs.write_integrators.Goals as goal
 
 pub loop-i-init : goal.loop-i-init
-loop-i-init c = (omega arith, none _ c.args.buffer.now)
+loop-i-init c = none _ c.args.buffer.now
 
 pub write_integrator-requires : goal.write_integrator-requires
 write_integrator-requires c =
@@ -23,10 +23,4 @@ loop-i-preserved c =
     let b = c.loop-i in
     let h = c.loop-i-test.true in
     let e = rw (rd_at c.requires.fitting.0 b.i h, rd_at c.requires.fitting.1 b.i h) at c.write_integrator.ensures in
-    let more = entry (integrator_entry c.args.starts.now c.args.quanta.now) 2 (λ _. refl) c.args.buffer.now b.i (8 * b.i) b.invariant.1 (omega arith) (omega arith) e in
-    (omega arith, more)
-
-pub returns : goal.returns
-returns c =
-    let b = c.loop-i in
-    all _ c.args.buffer.now b.invariant.0 c.loop-i-test.false b.invariant.1
+    entry (integrator_entry c.args.integrators.now.starts c.args.integrators.now.quanta) 2 (λ _. refl) c.args.buffer.now b.i (8 * b.i) b.invariant (omega arith) (omega arith) e

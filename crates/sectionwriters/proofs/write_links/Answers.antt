@@ -4,11 +4,11 @@ use Prim.Native.Nat.{◌*◌}
 use native.Mathlib.Omega.{arith}
 use Rattle.plan.specs.Encoding.{triple_entry}
 use Rattle.words.proofs.Laws.Putting.{length_behind}
-use Rattle.sectionwriters.proofs.Laws.Writing.{rd_at, rd_small, none, all, entry}
+use Rattle.sectionwriters.proofs.Laws.Writing.{rd_at, rd_small, none, entry}
 use Rattle.sectionwriters.proofs.write_links.Goals as goal
 
 pub loop-e-init : goal.loop-e-init
-loop-e-init c = (omega arith, none _ c.args.buffer.now)
+loop-e-init c = none _ c.args.buffer.now
 
 pub write_triple-requires : goal.write_triple-requires
 write_triple-requires c =
@@ -23,10 +23,4 @@ loop-e-preserved c =
     let b = c.loop-e in
     let h = c.loop-e-test.true in
     let e = rw (rd_at c.requires.fitting.2 b.e h) at c.write_triple.ensures in
-    let more = entry (triple_entry c.args.targets.now c.args.sources.now c.args.coefficients.now) 3 (λ _. refl) c.args.buffer.now b.e (12 * b.e) b.invariant.1 (omega arith) (omega arith) e in
-    (omega arith, more)
-
-pub returns : goal.returns
-returns c =
-    let b = c.loop-e in
-    all _ c.args.buffer.now b.invariant.0 c.loop-e-test.false b.invariant.1
+    entry (triple_entry c.args.links.now.targets c.args.links.now.sources c.args.links.now.coefficients) 3 (λ _. refl) c.args.buffer.now b.e (12 * b.e) b.invariant (omega arith) (omega arith) e

@@ -4,11 +4,11 @@ use Prim.Native.Nat.{◌*◌}
 use native.Mathlib.Omega.{arith}
 use Rattle.plan.specs.Encoding.{node_entry}
 use Rattle.words.proofs.Laws.Putting.{length_behind}
-use Rattle.sectionwriters.proofs.Laws.Writing.{rd_at, rd_small, none, all, entry}
+use Rattle.sectionwriters.proofs.Laws.Writing.{rd_at, rd_small, none, entry}
 use Rattle.sectionwriters.proofs.write_nodes.Goals as goal
 
 pub loop-j-init : goal.loop-j-init
-loop-j-init c = (omega arith, none _ c.args.buffer.now)
+loop-j-init c = none _ c.args.buffer.now
 
 pub write_node-requires : goal.write_node-requires
 write_node-requires c =
@@ -23,10 +23,4 @@ loop-j-preserved c =
     let b = c.loop-j in
     let h = c.loop-j-test.true in
     let e = rw (rd_at c.requires.fitting.3 b.j h, rd_at c.requires.fitting.4 b.j h) at c.write_node.ensures in
-    let more = entry (node_entry c.args.kinds.now c.args.a.now c.args.b.now c.args.lows.now c.args.highs.now) 5 (λ _. refl) c.args.buffer.now b.j (20 * b.j) b.invariant.1 (omega arith) (omega arith) e in
-    (omega arith, more)
-
-pub returns : goal.returns
-returns c =
-    let b = c.loop-j in
-    all _ c.args.buffer.now b.invariant.0 c.loop-j-test.false b.invariant.1
+    entry (node_entry c.args.nodes.now.kinds c.args.nodes.now.a c.args.nodes.now.b c.args.nodes.now.lows c.args.nodes.now.highs) 5 (λ _. refl) c.args.buffer.now b.j (20 * b.j) b.invariant (omega arith) (omega arith) e

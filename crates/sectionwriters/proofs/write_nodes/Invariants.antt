@@ -1,12 +1,8 @@
 -- The loop's invariant: the first j entries are written, and the rest is as it was.
-use Prim.Native.Nat.{◌-◌, ◌≤◌}
 use Rattle.plan.specs.Lists.{joined}
 use Rattle.plan.specs.Encoding.{node_entry}
 use Rattle.sectionwriters.proofs.Laws.Writing.{BeginsWith}
 use Rattle.sectionwriters.proofs.write_nodes.Given as goal
 
 abbrev pub invariant-loop-j : goal.invariant-loop-j
-invariant-loop-j l = (l.j ≤ l.k) × BeginsWith (joined (node_entry l.kinds l.a l.b l.lows l.highs) l.j) l.initial.buffer l.buffer
-
-abbrev pub decreases-loop-j : goal.decreases-loop-j
-decreases-loop-j l = l.k - l.j
+invariant-loop-j l = BeginsWith (joined (node_entry l.nodes.kinds l.nodes.a l.nodes.b l.nodes.lows l.nodes.highs) l.j) l.initial.buffer l.buffer

@@ -1,31 +1,23 @@
--- A refused file gives its finding's number and entry and the idle state; an accepted one has a plan that keeps the rules, which starts.
-use mathlib.Core.Path.{sym, ◌∙◌}
+-- A refused file gives its refusal's number and entry and the idle state; an accepted one has a plan that keeps the rules, which starts.
+use Rattle.std.proofs.Common.{refl}
 use Rattle.plan.proofs.Laws.FileRefusals.{accepted-rules}
-use Rattle.entryrules.proofs.Laws.ChecksInOrder.{not_clean_else}
-use Rattle.planfile.proofs.Laws.Reading.{reading_finding, reading_plan, reading_accepts, reading_refuses}
+use Rattle.planfile.proofs.Laws.Reading.{reading_clean, reading_plan, reading_accepts, reading_finding}
 use Rattle.machine.specs.Start.{start_state}
-use Rattle.simulator.proofs.Laws.Answers.{load_refused, load_accepted}
+use Rattle.simulator.proofs.Laws.Answers.{load_refused_with, load_accepted}
 use Rattle.simulator.proofs.load.Goals as goal
-
-pub returns-in_default : goal.returns-in_default
-returns-in_default c =
-    let file = c.args.file.now in
-    let reading = c.read_plan-reading.ensures in
-    let finding = reading_finding file reading in
-    let refused = reading_refuses file reading (not_clean_else _ c.in_default.not-Clean) in
-    rw (c.number_of-number.ensures, c.entry_of-entry.ensures, c.idle-state.ensures, finding) (load_refused file refused)
 
 pub start-run-requires : goal.start-run-requires
 start-run-requires c =
     let file = c.args.file.now in
-    let reading = c.read_plan-reading.ensures in
-    let clean = c.in-Clean.is in
-    rw (reading_plan file reading clean) (accepted-rules file (reading_accepts file reading clean))
+    rw (reading_plan file c.in-Ok.ensures refl) (accepted-rules file (reading_accepts file c.in-Ok.ensures refl))
 
-pub returns : goal.returns
+pub returns-in-Ok : goal.returns-in-Ok
 unfolding start_state
-returns c =
+returns-in-Ok c =
     let file = c.args.file.now in
-    let reading = c.read_plan-reading.ensures in
-    let clean = c.in-Clean.is in
-    rw (c.start-run.ensures, reading_plan file reading clean) (load_accepted file (sym (reading_finding file reading) ∙ clean))
+    rw (c.start-run.ensures, reading_plan file c.in-Ok.ensures refl) (load_accepted file (reading_clean file c.in-Ok.ensures refl))
+
+pub returns-in-Err : goal.returns-in-Err
+returns-in-Err c =
+    let file = c.args.file.now in
+    rw (c.number.ensures, c.entry.ensures, c.idle.ensures) (load_refused_with file (reading_finding file c.in-Err.ensures refl))

@@ -1,11 +1,9 @@
--- Where the finding is clean the file is accepted, and its directory keeps its rules.
-use native.Mathlib.Omega.{arith}
-use mathlib.Core.Path.{sym, ◌∙◌}
+-- Where nothing is found the file is accepted, and its directory keeps its rules.
+use Rattle.std.proofs.Common.{sym, ◌∙◌, refl, arith}
 use Rattle.plan.proofs.Laws.View.{view-shown, view-refused, view-above, start-shown, start-refused, start-above}
 use Rattle.directory.proofs.Laws.Directory.{directory_accepted}
-use Rattle.entryrules.proofs.Laws.ChecksInOrder.{not_clean_else}
 use Rattle.directory.proofs.Laws.Pointers.{further-none}
-use Rattle.planfile.proofs.Laws.Reading.{finding_accepts, finding_refuses}
+use Rattle.planfile.proofs.Laws.Reading.{finding_accepts, refusal_refuses}
 use Rattle.simulator.proofs.section.Goals as goal
 
 pub returns-then-number-ge-SECTIONS : goal.returns-then-number-ge-SECTIONS
@@ -19,7 +17,7 @@ returns-then-number-ge-SECTIONS c =
 pub returns-in_default : goal.returns-in_default
 returns-in_default c =
     let a = c.args in
-    let refuses = finding_refuses a.file.now c.finding_of-found.ensures (not_clean_else _ c.in_default.not-Clean) in
+    let refuses = refusal_refuses a.file.now c.in_default.ensures refl in
     record {
       answer = sym (view-refused a.file.now a.number refuses);
       place = rw (start-refused a.file.now a.number refuses) (further-none a.file.ref_ptr);
@@ -28,13 +26,13 @@ returns-in_default c =
 pub section_in-requires : goal.section_in-requires
 section_in-requires c =
     let a = c.args in
-    let accepts = finding_accepts a.file.now c.finding_of-found.ensures c.in-Clean.is in
+    let accepts = finding_accepts a.file.now c.in-Ok.ensures refl in
     (directory_accepted a.file.now accepts, omega arith)
 
 pub returns : goal.returns
 returns c =
     let a = c.args in
-    let accepts = finding_accepts a.file.now c.finding_of-found.ensures c.in-Clean.is in
+    let accepts = finding_accepts a.file.now c.in-Ok.ensures refl in
     let shown = view-shown a.file.now a.number accepts (omega arith) in
     let start = start-shown a.file.now a.number accepts (omega arith) in
     record { answer = c.section_in.ensures.answer ∙ sym shown; place = rw start c.section_in.ensures.place }

@@ -1,14 +1,14 @@
 -- Laws: the tests of a plan in the order of the code, section by section. That they pass just where the plan keeps all its rules and all its
 -- unused entries are 0, which the definition tests one after the other, goes by what both mean. Assumes nothing.
-use Rattle.std.specs.Prelude.{◌≡◌, Bool, true, false, List, [], ◌∷◌, ◌+◌}
+use Rattle.std.specs.Prelude.{◌≡◌, Bool, true, false, ◌&&◌, List, [], ◌∷◌, ◌+◌, Ok}
 use Rattle.std.proofs.Common.{sym, ap, ◌∙◌, lit<}
-use Rattle.plan.specs.Lists.{every}
-use Rattle.plan.specs.Tests.{horizon_kept, counts_kept, integrator_kept, input_kept, node_kept, link_limits_kept, link_ordered, command_limits_kept, command_ordered}
-use Rattle.plan.specs.Refusals.{number_of, is_clean, integrators_finding, inputs_finding, nodes_finding, links_finding, commands_finding}
+use Rattle.plan.specs.Numbers.{sections}
+use Rattle.plan.specs.Lists.{every, nat_at}
+use Rattle.plan.specs.Tests.{horizon_kept, count_list, count_kept, counts_kept, integrator_kept, input_kept, node_kept, link_limits_kept, link_ordered, command_limits_kept, command_ordered}
+use Rattle.plan.specs.Refusals.{Finding, is_clean, integrators_finding, inputs_finding, nodes_finding, links_finding, commands_finding}
 use Rattle.plan.specs.declared.Plan.{Plan}
-use Rattle.plan.specs.declared.Finding.{Finding}
-use Rattle.plan.specs.declared.Finding.TheVariants.{Clean}
 use Rattle.plan.proofs.Laws.TestMeanings.{both}
+use Rattle.plan.proofs.Laws.CountLimits.{CountLimits, count-limits}
 use Rattle.plan.proofs.Laws.PlanTests.{horizon_kept_lem, counts_kept_lem}
 use Rattle.plan.proofs.Laws.Findings.{clean_means}
 use Rattle.plan.proofs.Laws.PlanRefusals.{integrators_judged, inputs_judged, nodes_judged, links_judged, commands_judged}
@@ -18,9 +18,9 @@ use Rattle.machine.proofs.Laws.SoundTest.{plan_means}
 use Rattle.unusedentries.proofs.Laws.EarlyReturns.{passes, same_tests}
 use Rattle.soundplan.specs.Sections.{integrators_kept, inputs_kept, nodes_kept, links_kept, commands_kept}
 
--- ---- what a section's check has found, taken apart by `let Finding::Clean = found else`
-pub clean : {found right : Finding} → found ≡ right → found ≡ Clean → is_clean right ≡ true
-unfolding is_clean number_of
+-- ---- what a section's check has found
+pub clean : {found right : Finding} → found ≡ right → found ≡ Ok tt → is_clean right ≡ true
+unfolding is_clean
 clean result e = ap is_clean (sym result ∙ e)
 
 pub faulty : {found right : Finding} → found ≡ right → is_clean found ≡ false → is_clean right ≡ false
@@ -28,6 +28,15 @@ faulty result e = sym (ap is_clean result) ∙ e
 
 -- ---- the order of the code
 module _ (p : Plan) where
+  -- the test of the counts, in a list as the code has them
+  abbrev pub limited : Bool
+  limited = every (λ section. count_kept section (nat_at (p.counts.n ∷ p.counts.m ∷ p.counts.k ∷ p.counts.links ∷ p.counts.commands ∷ []) section)) sections
+
+  -- behind it the counts are inside their limits
+  pub limits : limited ≡ true → CountLimits p
+  unfolding counts_kept count_list
+  limits e = count-limits p ((counts_kept_lem p).0 e)
+
   abbrev pub plan_clauses : List Bool
   plan_clauses =
       counts_kept p
@@ -94,3 +103,16 @@ module _ (p : Plan) where
           (((r.commands, u.ticks), u.inputs), u.values),
         ),
       )
+
+  -- the same as one condition, as the code has it
+  pub plan_tests : plan_sound p ≡ (
+      limited
+      && horizon_kept p.horizon
+      && integrators_kept p.counts.n p.integrators.starts p.integrators.quanta
+      && inputs_kept p.counts.m p.inputs.firsts
+      && nodes_kept (p.counts.n + p.counts.m) p.counts.k p.nodes.kinds p.nodes.a p.nodes.b p.nodes.lows p.nodes.highs
+      && links_kept p.counts.n (p.counts.n + p.counts.m + p.counts.k) p.counts.links p.links.targets p.links.sources p.links.coefficients
+      && commands_kept p.horizon p.counts.m p.counts.commands p.commands.ticks p.commands.inputs p.commands.values
+      )
+  unfolding passes every counts_kept count_list
+  plan_tests = sym section_tests

@@ -9,14 +9,12 @@ use Rattle.plan.proofs.Laws.CountLimits.{count-limits}
 use Rattle.plan.proofs.Laws.TestMeanings.{within-size}
 use Rattle.plan.proofs.Laws.Rows.{table_ext, row_at, row_ext, row_none}
 use Rattle.plan.specs.declared.Plan.{Plan}
-use Rattle.machine.specs.Due.{due_tick}
 use Rattle.machine.specs.Next.{next_command}
 use Rattle.machine.specs.Held.{running_by}
 use Rattle.machine.specs.Start.{start_slope, start_due, start_of}
 use Rattle.machine.specs.declared.Running.{Running}
-use Rattle.timing.specs.Ticks.{upper_in, lower_in}
 use Rattle.timing.proofs.Laws.Dues.{level-ready-start, due-ready-start, due_is_start}
-use Rattle.starts.specs.Starting.{StartsReady}
+use Rattle.starts.specs.Starting.{first_due, StartsReady}
 
 -- an array of zeros, however many entries are used
 zeros : (w k : ℕ) → replicate {A = ℕ} w 0 ≡ row 0 w k (λ i. 0)
@@ -40,13 +38,10 @@ module _ (p : Plan) (rules : PlanRules p) where
     slope_at : (i : ℕ) → i < p.counts.n → int_at s i ≡ start_slope p i
     slope_at i h = rw slopes (row_at (pos 0) 32 p.counts.n (start_slope p) i (count-limits p rules.counts).n h)
 
-    pub start_dues_ready : StartsReady p.counts.n p.integrators.starts p.integrators.quanta s
+    pub start_dues_ready : StartsReady p.counts.n p.integrators s
     start_dues_ready i h = record { level = level-ready-start p i rules h; due = rw (slope_at i h) (due-ready-start p i rules h) }
 
-    pub start_dues : {d : List ℕ}
-        → d ≡ row 0 32 p.counts.n (λ i. due_tick 0 (int_at p.integrators.starts i) (upper_in p.integrators.starts p.integrators.quanta i)
-        (lower_in p.integrators.starts p.integrators.quanta i) (int_at s i))
-        → d ≡ row 0 32 p.counts.n (start_due p)
+    pub start_dues : {d : List ℕ} → d ≡ row 0 32 p.counts.n (first_due p.integrators s) → d ≡ row 0 32 p.counts.n (start_due p)
     start_dues e = e ∙ row_ext 0 32 p.counts.n _ _ (λ i h. rw (slope_at i h) (due_is_start p i))
 
 -- ---- the whole

@@ -3,7 +3,7 @@
 use Rattle.std.specs.Prelude.{◌≡◌, refl, Bool, true, false, cond, ℕ, zero, suc, ◌+◌, ◌^◌, ◌≤◌, ◌<◌, ℤ, length}
 use Rattle.std.proofs.Math.Path.{sym}
 use Rattle.std.proofs.Common.{ap, ◌∙◌, arith, length-append}
-use Rattle.std.proofs.Math.Bool.{and-eq-true_iff}
+use Rattle.std.proofs.lemmas.Bool.{and_parts}
 use mathlib.Core.List.{List, [], ◌++◌, append_assoc, append-nil}
 use Rattle.std.specs.Int.Signed.{mag}
 use Rattle.bitset.specs.Mask.{has, each, lowest_of, rest_of}
@@ -46,7 +46,7 @@ module _ (t : ℕ) (values : List ℤ) where
 
 -- what is in the rest of a mask is in the mask
 rest_within : (m : ℕ) → 0 < m → m < 2 ^ 64 → (i : ℕ) → has (rest_of m) i ≡ true → has m i ≡ true
-rest_within m p h i e = ((and-eq-true_iff (has m i) _).0 (sym (has_rest 64 m i p h) ∙ e)).0
+rest_within m p h i e = (and_parts _ _ (rw (has_rest 64 m i p h) at e)).0
 
 -- The loop over the mask m, which began at byte `at` of s: the sources in `left` are left, for byte `end` of r on.
 pub record Writing (t : ℕ) (values : List ℤ) (m at : ℕ) (s : List ℕ) (left end : ℕ) (r : List ℕ) : Type 0 where
@@ -56,54 +56,53 @@ pub record Writing (t : ℕ) (values : List ℤ) (m at : ℕ) (s : List ℕ) (le
   pub place : end + length (events_in t left values) ≡ at + length (events_in t m values)
   pub bytes : put_at r end (events_in t left values) ≡ put_at s at (events_in t m values)
 
-module _ {t : ℕ} {values : List ℤ} {m at : ℕ} {s : List ℕ} where
-  pub begun : m < 2 ^ 64 → EventsReady t m values at (length s) → Writing t values m at s m at s
-  begun h ready = record { fits = h; size = refl; ready = ready; place = refl; bytes = refl }
+pub begun : {t : ℕ} {values : List ℤ} {m at : ℕ} {s : List ℕ} → m < 2 ^ 64 → EventsReady t m values at (length s) → Writing t values m at s m at s
+begun h ready = record { fits = h; size = refl; ready = ready; place = refl; bytes = refl }
 
-  module _ {left end : ℕ} {r : List ℕ} (w : Writing t values m at s left end r) where
-    -- none is left
-    pub finished : left ≡ 0 → (end ≡ at + length (events_in t m values)) × (r ≡ put_at s at (events_in t m values))
-    finished e =
-        let none = events-none t values left e in
-        (omega (arith, w.place, ap length none), sym (put-none r end) ∙ rw none at w.bytes)
+module _ {t : ℕ} {values : List ℤ} {m at : ℕ} {s : List ℕ} {left end : ℕ} {r : List ℕ} (w : Writing t values m at s left end r) where
+  -- none is left
+  pub finished : left ≡ 0 → (end ≡ at + length (events_in t m values)) × (r ≡ put_at s at (events_in t m values))
+  finished e =
+      let none = events-none t values left e in
+      (omega (arith, w.place, ap length none), sym (put-none r end) ∙ rw none at w.bytes)
 
-    -- a turn: source i is written
-    module _ (p : 0 < left) {i : ℕ} (lowest : i ≡ lowest_of 64 left) where
-      one_more : events_in t left values ≡ event_of t values i ++ events_in t (rest_of left) values
-      one_more = rw lowest (events-first t values left p w.fits)
+  -- a turn: source i is written
+  module _ (p : 0 < left) {i : ℕ} (lowest : i ≡ lowest_of 64 left) where
+    one_more : events_in t left values ≡ event_of t values i ++ events_in t (rest_of left) values
+    one_more = rw lowest (events-first t values left p w.fits)
 
-      length-one : length (event_of t values i) ≡ 12
-      length-one = length-event t i (int_at values i)
+    length-one : length (event_of t values i) ≡ 12
+    length-one = length-event t i (int_at values i)
 
-      length-left : length (events_in t left values) ≡ 12 + length (events_in t (rest_of left) values)
-      length-left = rw (one_more, length-append, length-one)
+    length-left : length (events_in t left values) ≡ 12 + length (events_in t (rest_of left) values)
+    length-left = rw (one_more, length-append, length-one)
 
-      pub room : end + 12 ≤ length r
-      room = omega (arith, w.size, w.ready.room, length-left)
+    pub room : end + 12 ≤ length r
+    room = omega (arith, w.size, w.ready.room, length-left)
 
-      pub source_lt : i < 64
-      source_lt = rw lowest (lowest_lt 64 left p w.fits)
+    pub source_lt : i < 64
+    source_lt = rw lowest (lowest_lt 64 left p w.fits)
 
-      pub value-small : mag (int_at values i) < 2 ^ 31
-      value-small =
-          let there : has left i ≡ true = rw lowest (has-lowest 64 left p w.fits) in
-          omega (arith, size_mag (int_at values i), w.ready.sized i there)
+    pub value-small : mag (int_at values i) < 2 ^ 31
+    value-small =
+        let there : has left i ≡ true = rw lowest (has-lowest 64 left p w.fits) in
+        omega (arith, size_mag (int_at values i), w.ready.sized i there)
 
-      behind : put_at (put_at r end (event_of t values i)) (end + 12) (events_in t (rest_of left) values) ≡ put_at r end (events_in t left values)
-      behind =
-          rw (one_more, ← put-append r end (event_of t values i) (omega (arith, room)) (events_in t (rest_of left) values), length-one)
+    behind : put_at (put_at r end (event_of t values i)) (end + 12) (events_in t (rest_of left) values) ≡ put_at r end (events_in t left values)
+    behind =
+        rw (one_more, ← put-append r end (event_of t values i) (omega (arith, room)) (events_in t (rest_of left) values), length-one)
 
-      pub turn : {rest : ℕ} {u : List ℕ} → rest ≡ rest_of left → u ≡ put_at r end (event_of t values i)
-          → Writing t values m at s rest (end + 12) u
-      turn others now =
-          rw (others, now)
-          (record {
-            fits = omega (arith, rest_lt left p, w.fits);
-            size = length-put r end (event_of t values i) (omega (arith, length-one, room)) ∙ w.size;
-            ready = record {
-              room = omega (arith, w.ready.room, length-left);
-              sized = λ k h. w.ready.sized k (rest_within left p w.fits k h);
-            };
-            place = omega (arith, w.place, length-left);
-            bytes = behind ∙ w.bytes;
-          })
+    pub turn : {rest : ℕ} {u : List ℕ} → rest ≡ rest_of left → u ≡ put_at r end (event_of t values i)
+        → Writing t values m at s rest (end + 12) u
+    turn others now =
+        rw (others, now)
+        (record {
+          fits = omega (arith, rest_lt left p, w.fits);
+          size = length-put r end (event_of t values i) (omega (arith, length-one, room)) ∙ w.size;
+          ready = record {
+            room = omega (arith, w.ready.room, length-left);
+            sized = λ k h. w.ready.sized k (rest_within left p w.fits k h);
+          };
+          place = omega (arith, w.place, length-left);
+          bytes = behind ∙ w.bytes;
+        })

@@ -1,4 +1,4 @@
--- Laws: the tables made of the columns of a plan that keeps its rules, with outputs and input values within ±M, are the plan's.
+-- Laws: the tables worked out of a plan that keeps its rules, with outputs and input values within ±M, are the plan's.
 -- Assumes nothing.
 use Rattle.std.specs.Prelude.{◌≡◌, ℕ, ◌≤◌, ◌<◌}
 use Rattle.std.proofs.Common.{◌∙◌}
@@ -11,29 +11,22 @@ use Rattle.plan.specs.declared.Plan.{Plan}
 use Rattle.machine.specs.Held.{Held}
 use Rattle.values.specs.Sources.{values_of}
 use Rattle.values.proofs.Laws.SourceValues.{nodes-ready, first-sized, values_at, values-sized, all-nodes}
-use Rattle.rates.specs.Links.{ranges_of}
 use Rattle.rates.proofs.Laws.OwnRange.{own-rated, own_slopes}
 use Rattle.tables.specs.Columns.{plan_tables, tables_by, TablesReady}
 use Rattle.tables.specs.declared.Tables.{Tables}
 
 module _ (p : Plan) (rules : PlanRules p) (h : Held) where
   pub tables_are : {t : Tables}
-      → t ≡ tables_by p.counts p.nodes.kinds p.nodes.a p.nodes.b p.nodes.lows p.nodes.highs
-      p.links.targets p.links.sources p.links.coefficients h.q h.inputs
+      → t ≡ tables_by p h.q h.inputs
       → t ≡ plan_tables p h
-  unfolding ranges_of
   tables_are e =
       e ∙ rw (all-nodes p h.q h.inputs rules, own_slopes p rules (values_of p h.q h.inputs) h (values_at p h.q h.inputs rules))
 
   pub tables_ready : ((i : ℕ) → i < p.counts.n → ∣ int_at h.q i ∣ ≤ M) → ((j : ℕ) → j < p.counts.m → ∣ int_at h.inputs j ∣ ≤ M)
-      → TablesReady p.counts p.nodes.kinds p.nodes.a p.nodes.b p.nodes.lows p.nodes.highs
-      p.links.targets p.links.sources p.links.coefficients h.q h.inputs
-  unfolding ranges_of
+      → TablesReady p h.q h.inputs
   tables_ready outputs inputs =
       let c = count-limits p rules.counts in record {
-        n = c.n;
-        m = c.m;
         links = c.links;
-        nodes = nodes-ready p rules _ (first-sized p h.q h.inputs rules outputs inputs);
+        sources = record { n = c.n; m = c.m; nodes = nodes-ready p rules _ (first-sized p h.q h.inputs rules outputs inputs) };
         rates = rw (all-nodes p h.q h.inputs rules) (own-rated p rules _ (values-sized p h.q h.inputs rules outputs inputs));
       }

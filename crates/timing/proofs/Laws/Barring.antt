@@ -1,7 +1,7 @@
 -- Laws: the search for the lowest integrator that bars an instant, by the lowest and the rest of the mask of the due ones. Assumes nothing.
-use Rattle.std.specs.Prelude.{◌≡◌, Bool, ◌&&◌, List, ℕ, ◌-◌, ◌^◌, ◌≤◌, ◌<◌, ℤ, pos, neg_ℤ, ◌+ℤ◌, ◌*ℤ◌, ltb}
+use Rattle.std.specs.Prelude.{◌≡◌, Bool, ◌&&◌, List, ℕ, ◌-◌, ◌^◌, ◌≤◌, ◌<◌, ℤ, pos, neg_ℤ, ◌+ℤ◌, ◌*ℤ◌}
 use Rattle.std.proofs.Math.Path.{refl}
-use Rattle.std.proofs.Common.{sym, ◌∙◌, true≢false, arith, lt_of_lt_of_le, pow_mono, eqb-true, ltb-true, ltb-false}
+use Rattle.std.proofs.Common.{sym, ◌∙◌, arith, lt_of_lt_of_le, pow_mono, eqb-true}
 use Rattle.std.proofs.Math.Bool.{true, false, not, and-eq-true_iff}
 use Rattle.std.specs.Int.Signed.{lt_z}
 use Rattle.std.proofs.Math.Dec.{eqb}
@@ -9,8 +9,8 @@ use Rattle.integers.proofs.Laws.Parts.{neg, tight, zs}
 use Rattle.integers.specs.Range.{within}
 use Rattle.integers.proofs.Laws.Range.{within_true, within_false}
 use Rattle.bitset.specs.Mask.{has, lowest_of, rest_of}
-use Rattle.bitset.proofs.Laws.Bits.{has-none, has-high}
-use Rattle.bitset.proofs.Laws.Visiting.{has-lowest, below-lowest, has_rest}
+use Rattle.bitset.proofs.Laws.Bits.{has-none}
+use Rattle.bitset.proofs.Laws.Visiting.{lowest-below, has-lowest, below-lowest, has_rest}
 use Rattle.plan.specs.Numbers.{M}
 use Rattle.plan.specs.Lists.{nat_at, int_at, first_from}
 use Rattle.plan.proofs.Laws.Searches.{first_unique, first_ext}
@@ -36,14 +36,6 @@ module _ {n left : ℕ} (some : 0 < left) (below : left < 2 ^ n) (few : n ≤ 32
   wide : left < 2 ^ 32
   wide = lt_of_lt_of_le below (pow_mono few)
 
-  -- it is an integrator of the plan
-  pub lowest-below : lowest_of 32 left < n
-  lowest-below = go (ltb (lowest_of 32 left) n) refl
-    where
-      go : (b : Bool) → ltb (lowest_of 32 left) n ≡ b → lowest_of 32 left < n
-      go true e = ltb-true _ n e
-      go false e = absurd (true≢false (sym (has-lowest 32 left some wide) ∙ has-high left n _ below (ltb-false _ n e)))
-
   module _ (t : ℕ) (x s : List ℤ) (l : List ℕ) where
     -- it bars the instant
     pub bars-lowest : within M (value_at t x s l (lowest_of 32 left)) ≡ false → lowest_of 32 left ≡ first_from (bars_in t left x s l) 0 n
@@ -52,7 +44,7 @@ module _ {n left : ℕ} (some : 0 < left) (below : left < 2 ^ n) (few : n ≤ 32
         first_unique _ 0 n (lowest_of 32 left)
         (record {
           from = omega arith;
-          most = omega (arith, lowest-below);
+          most = omega (arith, lowest-below 32 n left some below few);
           earlier = λ i h k. rw (below-lowest 32 left i k);
           passes = λ h. rw (has-lowest 32 left some wide, e);
         })

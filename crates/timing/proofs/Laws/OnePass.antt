@@ -42,19 +42,21 @@ module _ (d : List ℕ) (first i : ℕ) where
   sooner_alone h =
       let now : after ≡ here = omega (arith, least_then, h) in
       let one = rw (none_sooner d here i (omega (arith, h))) at (mask_of_in (is_due d here) i (eq-eqb here here refl)) in
-      rw (now, lt-ltb here before h, eq-eqb here here refl, one)
+      let tick : min before here ≡ here = omega (arith, h) in
+      rw (now, tick, lt-ltb here before h, eq-eqb here here refl, one)
 
   beside_others : here ≡ before → sooner_of (soonest_at d i before) i here ≡ soonest_at d (i + 1) after
   unfolding is_due sooner_of
   beside_others h =
-      let now : after ≡ before = omega (arith, least_then, h) in
-      rw (now, le-ltb here before (omega (arith, h)), eq-eqb here before h, mask_of_in (is_due d before) i (eq-eqb here before h))
+      let now : after ≡ before = omega (arith, least_then, h) in let tick : min before here ≡ before = omega (arith, h) in
+      rw (now, tick, le-ltb here before (omega (arith, h)), eq-eqb here before h, mask_of_in (is_due d before) i (eq-eqb here before h))
 
   later_than_others : before < here → sooner_of (soonest_at d i before) i here ≡ soonest_at d (i + 1) after
   unfolding is_due sooner_of
   later_than_others h =
       let now : after ≡ before = omega (arith, least_then, h) in let other = ne_eqb here before (λ e. omega (arith, h, e)) in
-      rw (now, le-ltb here before (omega (arith, h)), other, mask_of_out (is_due d before) i other)
+      let tick : min before here ≡ before = omega (arith, h) in
+      rw (now, tick, le-ltb here before (omega (arith, h)), other, mask_of_out (is_due d before) i other)
 
   pub one_more : sooner_of (soonest_at d i before) i here ≡ soonest_at d (i + 1) after
   one_more = go (ltb here before) refl (eqb here before) refl

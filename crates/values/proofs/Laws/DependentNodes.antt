@@ -26,7 +26,7 @@ module _ (p : Plan) (rules : PlanRules p) (changed : ℕ → Bool) (q u q₀ u�
   base = p.counts.n + p.counts.m
 
   abbrev step : ℕ → List ℤ → List ℤ
-  step = node_step p.nodes.kinds p.nodes.a p.nodes.b p.nodes.lows p.nodes.highs base
+  step = node_step p.nodes base
 
   abbrev depends : ℕ → Bool
   depends j = depends_with p changed p.counts.k (base + j)

@@ -7,6 +7,7 @@ use Rattle.std.proofs.lemmas.Bool.{eqb-false}
 use Rattle.integers.specs.Parts.{∣◌∣}
 use Rattle.plan.specs.Numbers.{M}
 use Rattle.plan.specs.Lists.{int_at}
+use Rattle.plan.specs.declared.Nodes.{Nodes}
 use Rattle.machine.proofs.Laws.Sizes.{node-size}
 use Rattle.values.specs.Sources.{node_from, node_step, NodesReady}
 
@@ -20,15 +21,15 @@ set_holds P xs n v z new old i = go (eqb i n) refl (ltb n (length xs)) refl
     go true e false f = rw (set_out xs n v (ltb-false n (length xs) f)) (old i)
     go false e d f = rw (get_or-set_other xs n i v z (eqb-false i n e)) (old i)
 
-module _ (kinds a b : List ℕ) (lows highs : List ℤ) (base j : ℕ) (values : List ℤ) where
+module _ (nodes : Nodes) (base j : ℕ) (values : List ℤ) where
   abbrev then : List ℤ
-  then = node_step kinds a b lows highs base j values
+  then = node_step nodes base j values
 
   pub step-length : length then ≡ length values
   unfolding node_step
   step-length = length-set values (base + j) _
 
-  pub step-own : base + j < length values → int_at then (base + j) ≡ node_from kinds a b lows highs base j values
+  pub step-own : base + j < length values → int_at then (base + j) ≡ node_from nodes base j values
   unfolding node_step
   step-own h = get_or-set_same values (base + j) _ (pos 0) h
 
@@ -36,7 +37,7 @@ module _ (kinds a b : List ℕ) (lows highs : List ℤ) (base j : ℕ) (values :
   unfolding node_step
   step_other i n = get_or-set_other values (base + j) i _ (pos 0) n
 
-  pub step-ready : (k : ℕ) → j < k → NodesReady a b lows highs values base k → NodesReady a b lows highs then base k
+  pub step-ready : (k : ℕ) → j < k → NodesReady nodes values base k → NodesReady nodes then base k
   unfolding node_step node_from
   step-ready k h r =
       record {

@@ -43,7 +43,7 @@ operands-below p rules j h = go (count-limits p rules.counts) (rules.nodes j h) 
 
 -- ---- what the code asks
 pub nodes-ready : (p : Plan) → PlanRules p → (values : List ℤ) → ((i : ℕ) → ∣ int_at values i ∣ ≤ M)
-    → NodesReady p.nodes.a p.nodes.b p.nodes.lows p.nodes.highs values (p.counts.n + p.counts.m) p.counts.k
+    → NodesReady p.nodes values (p.counts.n + p.counts.m) p.counts.k
 nodes-ready p rules values sized =
     record {
       few = (count-limits p rules.counts).k;
@@ -93,7 +93,7 @@ module _ (p : Plan) (q u : List ℤ) (rules : PlanRules p) where
   base = p.counts.n + p.counts.m
 
   abbrev step : ℕ → List ℤ → List ℤ
-  step = node_step p.nodes.kinds p.nodes.a p.nodes.b p.nodes.lows p.nodes.highs base
+  step = node_step p.nodes base
 
   -- a node's value by those of its operands
   node_by_operands : (j : ℕ) → j < p.counts.k
@@ -128,14 +128,14 @@ module _ (p : Plan) (q u : List ℤ) (rules : PlanRules p) where
     unfolding node_from
     worked j now h v =
         record {
-          entries = step-length _ _ _ _ _ base j now ∙ v.entries;
+          entries = step-length _ base j now ∙ v.entries;
           below = λ i l. ⊎_elim
-              (λ (e : i ≡ base + j). rw e (step-own _ _ _ _ _ base j now (omega (arith, v.entries, room p rules)) ∙ own))
-              (λ (b : i < base + j). step_other _ _ _ _ _ base j now i (λ e. omega arith) ∙ v.below i b) (eq-or-lt_of_le (omega arith));
-          above = λ i l. step_other _ _ _ _ _ base j now i (λ e. omega arith) ∙ v.above i (omega arith);
+              (λ (e : i ≡ base + j). rw e (step-own _ base j now (omega (arith, v.entries, room p rules)) ∙ own))
+              (λ (b : i < base + j). step_other _ base j now i (λ e. omega arith) ∙ v.below i b) (eq-or-lt_of_le (omega arith));
+          above = λ i l. step_other _ base j now i (λ e. omega arith) ∙ v.above i (omega arith);
         }
       where
-        own : node_from p.nodes.kinds p.nodes.a p.nodes.b p.nodes.lows p.nodes.highs base j now ≡ value_of p q u (base + j)
+        own : node_from p.nodes base j now ≡ value_of p q u (base + j)
         own =
             let b = operands-below p rules j h in
             ap₂ (λ a b. node_value (nat_at p.nodes.kinds j) a b (int_at p.nodes.lows j) (int_at p.nodes.highs j)) (v.below (nat_at p.nodes.a j) b.0)

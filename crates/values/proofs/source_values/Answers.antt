@@ -8,11 +8,11 @@ use Rattle.values.proofs.source_values.Goals as goal
 
 pub work_out_nodes-requires : goal.work_out_nodes-requires
 work_out_nodes-requires c =
-    rw (c.all.ensures, c.output_and_input_values-values.ensures) (mask_of_lt (λ _. true) c.args.k, c.requires.2)
+    rw (c.all.ensures, c.output_and_input_values-values.ensures) (mask_of_lt (λ _. true) c.args.plan.now.counts.k, c.requires.nodes)
 
 pub returns : goal.returns
 returns c =
-    let few = c.requires.2.few in
+    let few = c.requires.nodes.few in
     c.work_out_nodes.ensures
     ∙ rw (c.all.ensures, c.output_and_input_values-values.ensures)
-    (each_mask _ (λ _. true) c.args.k 32 _ (omega arith))
+    (each_mask _ (λ _. true) c.args.plan.now.counts.k 32 _ (omega arith))

@@ -1,4 +1,4 @@
--- The operands and limits are within ±M, so they fit and `node_value` may be called.
+-- The operands and limits are within ±M, so they fit and are read back from their bits.
 use borrow.Author.Rules.{rules, sfits_of}
 use mathlib.Core.Path.{◌≡◌}
 use Prim.Native.Nat.{ℕ}
@@ -18,18 +18,14 @@ module _ (s : Start) where
   value : (i : ℕ) → rd (int_at s.args.values.now i) ≡ int_at s.args.values.now i
   value i = to_z-of_z (fits_size (int_at s.args.values.now i) M (s.requires.1.sized i) tt)
 
-  low : rd (int_at s.args.lows.now j) ≡ int_at s.args.lows.now j
-  low = to_z-of_z (fits_size (int_at s.args.lows.now j) M (s.requires.1.low j s.requires.0) tt)
+  low : rd (int_at s.args.nodes.now.lows j) ≡ int_at s.args.nodes.now.lows j
+  low = to_z-of_z (fits_size (int_at s.args.nodes.now.lows j) M (s.requires.1.low j s.requires.0) tt)
 
-  high : rd (int_at s.args.highs.now j) ≡ int_at s.args.highs.now j
-  high = to_z-of_z (fits_size (int_at s.args.highs.now j) M (s.requires.1.high j s.requires.0) tt)
-
-pub node_value-value-requires : goal.node_value-value-requires
-node_value-value-requires c =
-    let s : Start = search rules in simp (value s) (s.requires.1.sized _, s.requires.1.sized _)
+  high : rd (int_at s.args.nodes.now.highs j) ≡ int_at s.args.nodes.now.highs j
+  high = to_z-of_z (fits_size (int_at s.args.nodes.now.highs j) M (s.requires.1.high j s.requires.0) tt)
 
 pub returns : goal.returns
 unfolding node_step node_from
 returns c =
     let s : Start = search rules in
-    rw (to_z-of_z (sfits_of c.node_value-value.type_inv), c.node_value-value.ensures) (simp (value s, low s, high s))
+    rw (to_z-of_z (sfits_of c.node_value.type_inv), c.node_value.ensures) (simp (value s, low s, high s))

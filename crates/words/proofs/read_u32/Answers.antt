@@ -1,9 +1,7 @@
--- The four bytes, weighed by the powers of 256, are the number of width 4. Each byte is below 256, so no sum wraps.
-use native.Mathlib.Numerals.{towards_numerals}
-use native.Mathlib.Omega.{arith}
-use Rattle.words.specs.Word.{number_at}
+-- std's number of four bytes is the number of width 4.
+use Rattle.std.proofs.Common.{◌∙◌}
+use Rattle.words.proofs.Laws.Library.{from_le}
 use Rattle.words.proofs.read_u32.Goals as goal
 
-pub returns : goal.returns
-unfolding number_at
-returns c = simp towards_numerals (omega arith)
+pub returns-clause-answer : goal.returns-clause-answer
+returns-clause-answer c = c.from.ensures ∙ c.from_le_bytes.ensures ∙ from_le c.args.bytes.now c.args.at

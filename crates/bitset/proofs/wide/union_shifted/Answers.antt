@@ -10,4 +10,5 @@ pub returns : goal.returns
 unfolding union_shifted
 returns c =
     let a = c.args in
-    ap (λ x. bit_or x a.low) (shl_exact 32 a.n 64 (omega arith) (omega arith)) ∙ or_shifted a.high a.n a.low c.requires.1
+    rw (c.from.ensures, c.from-2.ensures)
+    (ap (λ x. bit_or x a.low) (shl_exact 32 a.n 64 (omega arith) (omega arith)) ∙ or_shifted a.high a.n a.low c.requires.1)

@@ -1,9 +1,8 @@
 -- What the call says of the entry decides the turn.
 use borrow.Author.Rules.{rules}
-use mathlib.Core.Path.{◌≡◌, refl}
+use mathlib.Core.Path.{◌≡◌}
 use native.Mathlib.Omega.{arith}
 use Rattle.plan.specs.Lists.{int_at}
-use Rattle.plan.specs.Refusals.{number_of, is_clean}
 use Rattle.planrules.specs.Checks.{input_at}
 use Rattle.entryrules.proofs.Laws.Testing.{element, true_by_answer, false_by_answer}
 use Rattle.planrules.proofs.Laws.Findings.{begin, passed, found, none}
@@ -11,20 +10,19 @@ use Rattle.planrules.proofs.checks.check_inputs.Goals.{After-value_within_m}
 use Rattle.planrules.proofs.checks.check_inputs.Goals as goal
 
 pub loop-j-init : goal.loop-j-init
-loop-j-init c = begin _
+loop-j-init c = begin
 
 -- what the call has said of the entry
 answer : (c : After-value_within_m) → let a = c.args in
-    c.value_within_m.result ≡ input_at a.firsts.now c.loop-j.j
+    c.value_within_m.result ≡ input_at a.inputs.now.firsts c.loop-j.j
 answer c =
-    let firsts = element {z = int_at c.args.firsts.now c.loop-j.j} (search rules) in
+    let firsts = element {z = int_at c.args.inputs.now.firsts c.loop-j.j} (search rules) in
     rw firsts at c.value_within_m.ensures
 
 pub returns-then-not-value_within_m : goal.returns-then-not-value_within_m
-unfolding number_of is_clean
 returns-then-not-value_within_m c =
     let told = answer (goal.at.returns-then-not-value_within_m c).After-value_within_m in
-    found c.loop-j.invariant (omega arith) (λ e. refl) (false_by_answer told c.if-not-value_within_m.true)
+    found c.loop-j.invariant (omega arith) (false_by_answer told c.if-not-value_within_m.true)
 
 pub loop-j-preserved : goal.loop-j-preserved
 loop-j-preserved c =

@@ -3,8 +3,5 @@
 use Rattle.steps.proofs.Laws.EventTurns.{Writing}
 use Rattle.steps.proofs.events.write_events.Given as goal
 
-abbrev pub invariant-loop-left : goal.invariant-loop-left
-invariant-loop-left l = Writing l.t l.values l.changed l.at l.initial.buffer l.left l.end l.buffer
-
-abbrev pub decreases-loop-left : goal.decreases-loop-left
-decreases-loop-left l = l.left
+abbrev pub invariant-loop-source : goal.invariant-loop-source
+invariant-loop-source l = Writing l.t l.values l.changed l.at l.initial.buffer l.source-iterator.left l.end l.buffer

@@ -1,15 +1,8 @@
--- Setting the outputs that are left ends where setting all of the mask ends.
-use mathlib.Core.Path.{◌≡◌}
-use Prim.Native.Nat.{◌^◌, ◌<◌}
-use Rattle.bitset.specs.Mask.{has, each}
-use Rattle.timing.specs.Status.{DuePositionsReady}
+-- The outputs of those that have been taken are set.
+use Rattle.bitset.proofs.Laws.Visiting.{Walking}
 use Rattle.steps.specs.Outputs.{after_output}
 use Rattle.steps.proofs.outputs.set_outputs.Given as goal
 
-abbrev pub invariant-loop-left : goal.invariant-loop-left
-invariant-loop-left l =
-    let f = after_output l.t l.x l.s l.l in
-    (l.left < 2 ^ 32) × DuePositionsReady l.t l.left l.x l.s l.l × (each f (has l.left) 32 l.values ≡ each f (has l.due) 32 l.initial.values)
-
-abbrev pub decreases-loop-left : goal.decreases-loop-left
-decreases-loop-left l = l.left
+abbrev pub invariant-loop-i : goal.invariant-loop-i
+invariant-loop-i l =
+    let m = l.motion in Walking (after_output l.t m.x m.s m.l) 32 l.due l.initial.values l.i-iterator.left l.values

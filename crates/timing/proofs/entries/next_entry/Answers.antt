@@ -1,29 +1,25 @@
--- The loop ends at the first entry above the clock, or behind the last entry.
-use borrow.Author.Count.{below_more}
-use borrow.Author.Rules.{rules}
-use mathlib.Core.Path.{◌≡◌, refl}
-use mathlib.Core.Bool.{true}
-use Prim.Native.Nat.{◌<◌}
-use native.Mathlib.Omega.{arith}
+-- The first command above the clock, or the count where there is none.
+use Rattle.std.proofs.Common.{◌≡◌, refl, arith, rules, tests}
+use Rattle.std.specs.Prelude.{ℕ, List, true, Option, Some, None, MatchOption, unwrap_or, ◌≤◌, ◌<◌}
+use Rattle.std.proofs.lemmas.Iterator.{first_from_Range}
 use Rattle.plan.specs.Lists.{nat_at}
 use Rattle.machine.specs.Entries.{next_entry}
 use Rattle.machine.proofs.Laws.Entries.{next_is}
-use Rattle.timing.proofs.entries.next_entry.Goals.{At-loop-e}
 use Rattle.timing.proofs.entries.next_entry.Goals as goal
 
--- the entry at which the loop ends is above the clock, or none is left
-ended : (c : At-loop-e) → let a = c.args in let e = c.loop-e.e in
-    (e < a.count → a.clock < nat_at a.ticks.now e) → e ≡ next_entry a.ticks.now (λ e. true) a.count a.clock
-ended c above = next_is _ _ _ _ _ c.loop-e.invariant.0 (λ i h n. omega (arith, c.loop-e.invariant.1 i h, n.0)) (λ h. (above h, refl))
+-- what `find` answers over the numbers below the count
+next_found : (ticks : List ℕ) (count clock : ℕ) (r : Option ℕ)
+    → MatchOption r ((k : ℕ) → 0 ≤ k → k < count → nat_at ticks k ≤ clock)
+    (λ i. (0 ≤ i) × (i < count) × (clock < nat_at ticks i) × ((k : ℕ) → 0 ≤ k → k < i → nat_at ticks k ≤ clock))
+    → unwrap_or r count ≡ next_entry ticks (λ e. true) count clock
+next_found ticks count clock None none =
+    next_is _ _ _ _ count (omega arith) (λ k h n. omega (arith, none k (omega arith) h, n.0)) (λ h. absurd (omega arith))
+next_found ticks count clock (Some i) (l, h, later, before) =
+    next_is _ _ _ _ i (omega (arith, h)) (λ k h n. omega (arith, before k (omega arith) h, n.0)) (λ _. (later, refl))
 
-pub loop-e-init : goal.loop-e-init
-loop-e-init c = (omega arith, λ i h. absurd (omega arith))
-
-pub loop-e-preserved : goal.loop-e-preserved
-loop-e-preserved c = let l = c.loop-e in (omega arith, below_more _ l.e l.invariant.1 c.if-ticks-e.true)
-
-pub returns-else-ticks-e : goal.returns-else-ticks-e
-returns-else-ticks-e c = let s : At-loop-e = search rules in ended s (λ h. c.if-ticks-e.false)
-
-pub returns-after-loop-e : goal.returns-after-loop-e
-returns-after-loop-e c = let s : At-loop-e = search rules in ended s (λ h. absurd (omega arith))
+pub returns : goal.returns
+returns c =
+    let a = c.args in let ticks = a.commands.now.ticks in
+    rw c.unwrap_or.ensures (next_found ticks a.count a.clock c.find.result
+    (first_from_Range _ _ _ _ (λ e. a.clock < nat_at ticks e) (λ e. nat_at ticks e ≤ a.clock) c.find.ensures.ran
+    (λ x q k. search (rules, tests)) (λ x q k. (search rules, search (rules, tests)))))

@@ -5,9 +5,7 @@ use Rattle.plan.specs.Lists.{first_from}
 use Rattle.timing.specs.Status.{bars_in, DuePositionsReady}
 use Rattle.timing.proofs.status.lowest_barring.Given as goal
 
-abbrev pub invariant-loop-left : goal.invariant-loop-left
-invariant-loop-left l =
-    (l.left < 2 ^ l.n) × DuePositionsReady l.t l.left l.x l.s l.l × (first_from (bars_in l.t l.left l.x l.s l.l) 0 l.n ≡ first_from (bars_in l.t l.due l.x l.s l.l) 0 l.n)
-
-abbrev pub decreases-loop-left : goal.decreases-loop-left
-decreases-loop-left l = l.left
+abbrev pub invariant-loop-i : goal.invariant-loop-i
+invariant-loop-i l =
+    let left = l.i-iterator.left in let m = l.motion in
+    (left < 2 ^ l.n) × DuePositionsReady l.t left m.x m.s m.l × (first_from (bars_in l.t left m.x m.s m.l) 0 l.n ≡ first_from (bars_in l.t l.fn.due m.x m.s m.l) 0 l.n)

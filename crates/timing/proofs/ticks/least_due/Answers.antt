@@ -1,30 +1,19 @@
 -- Each turn takes in four due ticks more, or one.
-use mathlib.Core.Path.{◌≡◌, refl, sym, ap, ◌∙◌}
+use mathlib.Core.Path.{◌≡◌, refl, sym, ◌∙◌}
+use Prim.Native.Nat.{◌+◌, ◌*◌}
 use native.Mathlib.Omega.{arith}
 use Rattle.machine.specs.Next.{least_due}
-use Rattle.machine.proofs.Laws.Next.{least-most}
 use Rattle.timing.proofs.Laws.LeastDue.{one-due_more, four_dues_more}
 use Rattle.timing.proofs.ticks.least_due.Goals as goal
 
-pub loop-i-init : goal.loop-i-init
+pub loop-k-init : goal.loop-k-init
 unfolding least_due
-loop-i-init c = (omega arith, refl)
+loop-k-init c = refl
+
+pub loop-k-preserved : goal.loop-k-preserved
+loop-k-preserved c =
+    let l = c.loop-k in let next : 4 * (l.k + 1) ≡ 4 * l.k + 4 = omega arith in
+    c.earliest_of_four-least.ensures ∙ rw (l.invariant, next) (sym (four_dues_more _ (4 * l.k)))
 
 pub loop-i-preserved : goal.loop-i-preserved
-loop-i-preserved c =
-    let l = c.loop-i in
-    (omega arith, c.earliest_of_four-least.ensures ∙ rw l.invariant.1 (sym (four_dues_more _ l.i)))
-
-pub loop-i-2-init : goal.loop-i-2-init
-loop-i-2-init c = c.loop-i.invariant
-
-pub loop-i-2-preserved : goal.loop-i-2-preserved
-loop-i-2-preserved c =
-    let l = c.loop-i-2 in
-    (omega arith, c.earlier-least.ensures ∙ rw (l.invariant.1, c.wide.ensures) (sym (one-due_more _ l.i)))
-
-pub overflow_cast-result : goal.overflow_cast-result
-overflow_cast-result c = omega (arith, least-most c.args.d.now c.loop-i-2.i)
-
-pub returns : goal.returns
-returns c = let e : c.loop-i-2.i ≡ c.args.n = omega arith in c.loop-i-2.invariant.1 ∙ ap (least_due _) e
+loop-i-preserved c = let l = c.loop-i in c.min-least.ensures ∙ rw l.invariant (sym (one-due_more _ l.i))

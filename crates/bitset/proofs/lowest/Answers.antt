@@ -1,8 +1,0 @@
--- `bitset::lowest` meets its contract. Assumes nothing.
-use native.Mathlib.Nat.{lt_of_le_of_lt}
-use native.Mathlib.Omega.{arith}
-use lib.Count.{trailing_le}
-use Rattle.bitset.proofs.lowest.Goals as goal
-
-pub overflow_cast-result : goal.overflow_cast-result
-overflow_cast-result c = record { fits = lt_of_le_of_lt (trailing_le 32 _) (omega arith) }

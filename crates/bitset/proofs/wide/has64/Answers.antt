@@ -1,8 +1,0 @@
--- `bitset::wide::has64` meets its contract: its body is the definition. Assumes nothing.
-use mathlib.Core.Path.{refl}
-use Rattle.bitset.specs.Mask.{has}
-use Rattle.bitset.proofs.wide.has64.Goals as goal
-
-pub returns : goal.returns
-unfolding has
-returns c = refl

@@ -1,5 +1,0 @@
--- the number falls to its tenth
-use Rattle.listingtext.proofs.+write_number.Given as goal
-
-abbrev pub decreases-write_number : goal.decreases-write_number
-decreases-write_number l = l.number
