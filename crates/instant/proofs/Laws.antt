@@ -1,2 +1,3 @@
 -- What is proved of these definitions.
 pub mod Instants
+pub mod Unread

@@ -27,6 +27,26 @@ running_of counts motion values clocks =
     running_by (record { q = q; inputs = u; next = clocks.next; instants = clocks.instants }) motion.x motion.s motion.l motion.d
     clocks.clock clocks.updates
 
+-- what an instant does not read of a plan; of the links' targets it has the tables
+pub record Unread : Type 0 where
+  pub horizon : ℕ
+  pub starts : List ℤ
+  pub firsts : List ℤ
+  pub targets : List ℕ
+
+-- the plan with these in place of its own
+abbrev pub with_unread : (p : Plan) (unread : Unread) → Plan
+with_unread p unread =
+    record {
+      horizon = unread.horizon;
+      counts = p.counts;
+      integrators = record { starts = unread.starts; quanta = p.integrators.quanta };
+      inputs = record { firsts = unread.firsts };
+      nodes = p.nodes;
+      links = record { targets = unread.targets; sources = p.links.sources; coefficients = p.links.coefficients };
+      commands = p.commands;
+    }
+
 -- "The lazy engine moves those due or reached, the eager engine all", on masks
 unfoldable pub moved_set : (engine : Engine) (n due reached : ℕ) → ℕ
 moved_set Lazy n due reached = union due reached
@@ -52,3 +72,14 @@ pub record InstantTaken (engine : Engine) (p : Plan) (r : Running) (buffer : Lis
   pub sources : values' ≡ values_of p r'.q r'.inputs
   pub bytes : buffer' ≡ put_at buffer at (events_of p r)
   pub place : end ≡ at + length (events_of p r)
+
+-- Of the plan just some parts are read, and `plan` makes it whole with what is not read. Asked is that the instant is ready with some plan that has the
+-- parts that are read; what it leaves holds with every one with which it is ready.
+pub record SomePlanReady (plan : Unread → Plan) (ranges reach : List ℕ) (t due : ℕ) (r : Running) (values : List ℤ) (at size : ℕ) : Type 0 where
+  pub unread : Unread
+  pub ready : InstantReady (plan unread) ranges reach t due r values at size
+
+pub record EveryPlanTaken (engine : Engine) (plan : Unread → Plan) (ranges reach : List ℕ) (t due : ℕ) (r : Running) (values : List ℤ) (buffer : List ℕ) (at : ℕ)
+    (r' : Running) (values' : List ℤ) (buffer' : List ℕ) (end : ℕ) : Type 0 where
+  pub taken : (unread : Unread) → InstantReady (plan unread) ranges reach t due r values at (length buffer)
+      → InstantTaken engine (plan unread) r buffer at r' values' buffer' end

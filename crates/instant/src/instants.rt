@@ -1,7 +1,7 @@
 // "One instant", steps 1 to 6.
 ghost use Rattle.std.specs.Prelude.{◌≡◌, ◌≤◌, length};
 ghost use Rattle.plan.specs.Numbers.{most_integrators};
-ghost use Rattle.instant.specs.Instants.{running_of, moved_set, InstantReady, InstantTaken};
+ghost use Rattle.instant.specs.Instants.{with_unread, running_of, moved_set, SomePlanReady, EveryPlanTaken};
 
 use bitset::{Mask, all, count, union_shifted};
 use machine::{Clocks, Engine, Motion};
@@ -49,9 +49,13 @@ pub fn take_instant(
     buffer: &mut [u8],
     at: usize,
 ) -> Taken
-    requires { InstantReady plan.now ranges.now reach.now t due (running_of plan.now.counts motion.old values.old clocks) values.old at (length buffer.old) }
-    ensures { InstantTaken engine plan.now (running_of plan.now.counts motion.old values.old clocks) buffer.old at
-        (running_of plan.now.counts motion.new values.new result.clocks) values.new buffer.new result.end }
+    requires { SomePlanReady (with_unread plan.now) ranges.now reach.now t due (running_of plan.now.counts motion.old values.old clocks) values.old
+        at (length buffer.old) }
+    ensures { EveryPlanTaken engine (with_unread plan.now) ranges.now reach.now t due
+        (running_of plan.now.counts motion.old values.old clocks) values.old
+        buffer.old at
+        (running_of plan.now.counts motion.new values.new result.clocks) values.new
+        buffer.new result.end }
 {
     let Counts {
         n,

@@ -3,12 +3,33 @@
 
 ghost use Rattle.std.specs.Prelude.{◌≡◌, ◌≤◌, IfOk, length};
 ghost use Rattle.plan.specs.Numbers.{listing_input};
-ghost use Rattle.listingturns.specs.Turns.{event_space};
+ghost use Rattle.listingturns.specs.Turns.{event_space, text_space};
 
-use listingturns::{EVENT_SPACE, Text, Turn, begin, take_turn};
+use listingturns::{EVENT_SPACE, TEXT_SPACE, Turn, begin, take_turn};
 use plan::LISTING_INPUT;
 use std::io;
 use std::io::Read;
+
+// The bytes that are read: one more than the longest file that is accepted.
+fn file_space() -> [u8; LISTING_INPUT]
+    ensures { listing_input ≡ length result }
+{
+    [0; LISTING_INPUT]
+}
+
+// The events of 64 instants: 64 × 40 × 12 bytes.
+fn event_space() -> [u8; EVENT_SPACE]
+    ensures { event_space ≡ length result }
+{
+    [0; EVENT_SPACE]
+}
+
+// Their lines and the end line: 64 × 40 × 26 + 40 characters.
+fn text_space() -> [u8; TEXT_SPACE]
+    ensures { text_space ≡ length result }
+{
+    [0; TEXT_SPACE]
+}
 
 // Reads until the buffer is full or the input ends, and answers how many bytes stand at the buffer's start. A loop, since `read` may answer less,
 // std's `read_exact` fails on a shorter input, and `read_to_end` wants a heap.
@@ -26,17 +47,20 @@ fn read_full(input: &mut impl Read, buffer: &mut [u8]) -> io::Result<usize>
     Ok(done)
 }
 
-// One byte more than the longest file that is accepted is read. A read or a write that fails ends the program with its error.
+// A read or a write that fails ends the program with its error.
 fn main(rt: HostRuntime) -> io::Result<()> {
-    let mut file = [0; LISTING_INPUT];
+    let mut file = file_space();
     let got = read_full(&mut rt.stdin(), &mut file)?;
-    let mut events = [0; EVENT_SPACE];
-    let mut text = Text::new();
-    let mut turn = begin(&file[..got], &mut text);
-    rt.write_all(text.as_str().as_bytes())?;
+    let mut records = event_space();
+    let events: &mut [u8] = &mut records;
+    let mut lines = text_space();
+    let text: &mut [u8] = &mut lines;
+    let (size, mut turn) = begin(&file[..got], text);
+    rt.write_all(&text[..size])?;
     while let Turn::More(state) = turn {
-        turn = take_turn(state, &mut events, &mut text);
-        rt.write_all(text.as_str().as_bytes())?;
+        let (size, next) = take_turn(state, events, text);
+        rt.write_all(&text[..size])?;
+        turn = next;
     }
     Ok(())
 }

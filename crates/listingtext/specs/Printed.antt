@@ -1,4 +1,4 @@
--- Model of the code: text in a buffer, what a caller that hands on bytes says of the text that it writes there.
+-- Model of the code: text in a buffer, what the contracts of this crate say.
 use Rattle.std.specs.Prelude.{◌≡◌, List, ◌++◌, ℕ, ◌+◌, length, take, drop}
 
 -- the answer is the text's length, and the buffer's first bytes are the text; the later ones keep their value

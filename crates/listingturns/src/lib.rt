@@ -8,7 +8,6 @@ ghost use Rattle.machine.specs.declared.Engine.TheVariants.{Lazy};
 ghost use Rattle.calls.specs.Calls.{written_over, ran_events};
 ghost use Rattle.listingturns.specs.Turns.{event_space, text_space, refusal_space, turn_text, turn_of, begin_text, begin_of};
 
-use arrayvec::ArrayString;
 use listingtext::{write_end, write_lines, write_refusal};
 use machine::State;
 use plan::{ACCEPTED, EVENT_BYTES, INPUTS, INTEGRATORS, LISTING_BUDGET, PAUSED};
@@ -26,54 +25,52 @@ const END_LINE_BYTES: usize = 40;
 pub const TEXT_SPACE: usize = LISTING_BUDGET as usize * (INTEGRATORS + INPUTS) * EVENT_LINE_BYTES
     + END_LINE_BYTES;
 
-pub type Text = ArrayString<TEXT_SPACE>;
-
-// What is answered of a turn: the state behind it, for one turn more or the last one.
+// What follows a turn: one turn more or none, from the state behind it.
 #[derive(Clone, Copy)]
 pub enum Turn {
     More(State),
     Last(State),
 }
 
-// Before the first turn: "a declined plan prints "refused", number, entry", and no turn follows.
-pub fn begin<const N: usize>(file: &[u8], text: &mut ArrayString<N>) -> Turn
-    requires { refusal_space ≤ N }
-    ensures answer { result ≡ begin_of file.now }
-    ensures text { text.new.bytes ≡ begin_text file.now }
+// Before the first turn: "a declined plan prints "refused", number, entry", and no turn follows. Answers how long the text is, too.
+pub fn begin(file: &[u8], text: &mut [u8]) -> (usize, Turn)
+    requires { refusal_space ≤ length text.old }
+    ensures size { result.0 ≡ length (begin_text file.now) }
+    ensures answer { result.1 ≡ begin_of file.now }
+    ensures text { text.new ≡ written_over (begin_text file.now) text.old }
 {
-    text.clear();
     let loaded = load(file);
     let state = loaded.state;
     if loaded.number == ACCEPTED {
-        return Turn::More(state);
+        return (0, Turn::More(state));
     }
-    write_refusal(text, loaded.number as u64, loaded.entry as u64);
-    Turn::Last(state)
+    let size = write_refusal(text, loaded.number as u64, loaded.entry as u64);
+    (size, Turn::Last(state))
 }
 
 // One run: "prints each event as tick, source, value", and where the status is 1 or 2 "then "end", status, clock, instants, updates". A
-// sound state and this room suffice for the run to be accepted and for the text to fit.
-pub fn take_turn<const N: usize>(state: State, events: &mut [u8], text: &mut ArrayString<N>) -> Turn
+// sound state and these lengths suffice for the run to be accepted and for the text to fit. Answers how long the text is, too.
+pub fn take_turn(state: State, events: &mut [u8], text: &mut [u8]) -> (usize, Turn)
     requires sound { Sound state }
-    requires room { (event_space ≤ length events.old) × (text_space ≤ N) }
-    ensures answer { result ≡ turn_of state }
+    requires room { (event_space ≤ length events.old) × (text_space ≤ length text.old) }
+    ensures size { result.0 ≡ length (turn_text state) }
+    ensures answer { result.1 ≡ turn_of state }
     ensures events { events.new ≡ written_over (ran_events Lazy state listing_budget) events.old }
-    ensures text { text.new.bytes ≡ turn_text state }
+    ensures text { text.new ≡ written_over (turn_text state) text.old }
 {
-    text.clear();
     let ran = run_lazy(state, LISTING_BUDGET, events);
-    write_lines(text, &events[..ran.written]);
+    let lines = write_lines(text, events, ran.written / EVENT_BYTES);
     let state_after = ran.state;
     if ran.status == PAUSED {
-        return Turn::More(state_after);
+        return (lines, Turn::More(state_after));
     }
     let clock = state_after.run.clocks.clock as u64;
-    write_end(
-        text,
+    let end = write_end(
+        &mut text[lines..],
         ran.status as u64,
         clock,
         state_after.run.clocks.instants,
         state_after.run.clocks.updates,
     );
-    Turn::Last(state_after)
+    (lines + end, Turn::Last(state_after))
 }

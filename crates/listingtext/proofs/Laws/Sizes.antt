@@ -1,6 +1,6 @@
 -- Laws: how long the lines are at most, from the digits of their numbers. Assumes nothing.
 use Rattle.std.specs.Prelude.{List, [], ◌∷◌, ◌++◌, ℕ, zero, suc, ◌+◌, ◌*◌, ◌^◌, ◌≤◌, ◌<◌, ℤ, pos, negsuc, nat_abs, length}
-use Rattle.std.proofs.Common.{arith, length-append, append_assoc}
+use Rattle.std.proofs.Common.{arith, length-append}
 use Rattle.std.specs.Int.Signed.{mag}
 use Rattle.words.specs.Word.{Bytes, word, signed_word}
 use Rattle.words.proofs.Laws.Reading.{number_lt}
@@ -86,6 +86,3 @@ refusal_most number entry n e =
       length-field 0 number space n,
       length-field 2 entry newline e,
     )
-
--- how the length of text behind text is found, and that only the order of the parts counts
-pub ruleset parts = (length-append, append_assoc)

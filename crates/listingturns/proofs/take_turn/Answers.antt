@@ -1,41 +1,41 @@
 -- The run is accepted, its lines are written, and behind the last of them the end line.
-use Rattle.std.proofs.Common.{◌∙◌, sym, arith, length-take-le}
-use Rattle.listingturns.proofs.Laws.Answers.{ran-bytes, ran-inside, lines_ready, turn_paused, end-ready, turn_stopped}
+use Rattle.listingturns.proofs.Laws.Answers.{lines_inside, turn_paused, paused_written, end-room, turn_stopped, stopped_written}
 use Rattle.listingturns.proofs.take_turn.Goals as goal
 
-pub slice_bounds-write_lines-end : goal.slice_bounds-write_lines-end
-slice_bounds-write_lines-end g c =
+pub write_lines-lines-requires : goal.write_lines-lines-requires
+write_lines-lines-requires c =
+    let a = c.args in
+    let r = c.requires in
     let ran = c.run_lazy-ran.ensures in
-    ran-inside c.args.state c.requires.sound c.args.events.now c.requires.room.0 ran.answer ran.buffer
-
-pub slice_bounds-write_lines-end-2 : goal.slice_bounds-write_lines-end-2
-slice_bounds-write_lines-end-2 g c =
-    let ran = c.run_lazy-ran.ensures in
-    let inside = ran-inside c.args.state c.requires.sound c.args.events.now c.requires.room.0 ran.answer ran.buffer in
-    sym (length-take-le c.run_lazy-ran.result.written c.run_lazy-ran.new.buffer inside)
-
-pub write_lines-requires : goal.write_lines-requires
-write_lines-requires g c =
-    let ran = c.run_lazy-ran.ensures in
-    rw c.clear.ensures (omega (arith, c.requires.room.1, lines_ready c.args.state c.requires.sound c.args.events.now c.requires.room.0 ran.answer ran.buffer))
+    lines_inside a.state r.sound a.events.now r.room.0 ran.answer ran.buffer r.room.1
 
 pub returns-then-ran-eq-PAUSED : goal.returns-then-ran-eq-PAUSED
-returns-then-ran-eq-PAUSED g c =
+returns-then-ran-eq-PAUSED c =
+    let a = c.args in
+    let r = c.requires in
     let ran = c.run_lazy-ran.ensures in
-    let bytes = ran-bytes c.args.state c.requires.sound c.args.events.now c.requires.room.0 ran.answer ran.buffer in
-    let turn = turn_paused c.args.state c.requires.sound c.args.events.now c.requires.room.0 ran.answer ran.buffer c.if-ran-eq-PAUSED.true in
-    record { answer = turn.0; events = bytes; text = rw c.clear.ensures at c.write_lines.ensures ∙ turn.1 }
+    let paused = c.if-ran-eq-PAUSED.true in
+    let turn = turn_paused a.state r.sound a.events.now r.room.0 ran.answer ran.buffer paused in
+    let written =
+    paused_written a.state r.sound a.events.now r.room.0 ran.answer ran.buffer r.room.1 c.write_lines-lines.ensures paused
+    in
+    record { size = written.0; answer = turn.0; events = written.1.0; text = written.1.1 }
 
-pub write_end-requires : goal.write_end-requires
-write_end-requires g c =
+pub write_end-end-requires : goal.write_end-end-requires
+write_end-end-requires c =
+    let a = c.args in
+    let r = c.requires in
     let ran = c.run_lazy-ran.ensures in
-    let few = lines_ready c.args.state c.requires.sound c.args.events.now c.requires.room.0 ran.answer ran.buffer in
-    let end = end-ready c.args.state c.requires.sound c.args.events.now c.requires.room.0 ran.answer ran.buffer in
-    rw (c.write_lines.ensures, c.clear.ensures) (omega (arith, c.requires.room.1, few, end))
+    end-room a.state r.sound a.events.now r.room.0 ran.answer ran.buffer r.room.1 c.write_lines-lines.ensures
 
 pub returns : goal.returns
-returns g c =
+returns c =
+    let a = c.args in
+    let r = c.requires in
     let ran = c.run_lazy-ran.ensures in
-    let bytes = ran-bytes c.args.state c.requires.sound c.args.events.now c.requires.room.0 ran.answer ran.buffer in
-    let turn = turn_stopped c.args.state c.requires.sound c.args.events.now c.requires.room.0 ran.answer ran.buffer c.if-ran-eq-PAUSED.false in
-    record { answer = turn.0; events = bytes; text = rw (c.write_lines.ensures, c.clear.ensures) at c.write_end.ensures ∙ turn.1 }
+    let stopped = c.if-ran-eq-PAUSED.false in
+    let turn = turn_stopped a.state r.sound a.events.now r.room.0 ran.answer ran.buffer stopped in
+    let written =
+    stopped_written a.state r.sound a.events.now r.room.0 ran.answer ran.buffer r.room.1 c.write_lines-lines.ensures c.write_end-end.ensures stopped
+    in
+    record { size = written.0; answer = turn.0; events = written.1.0; text = written.1.1 }

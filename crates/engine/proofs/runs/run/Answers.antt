@@ -10,6 +10,7 @@ use Rattle.machine.specs.Sound.{SoundInWords, RunningWidths}
 use Rattle.machine.proofs.Laws.SoundTest.{words_clauses}
 use Rattle.machine.specs.declared.Running.{Running}
 use Rattle.reach.proofs.Laws.Reached.{table_ready}
+use Rattle.instant.proofs.Laws.Unread.{own_ready, own_taken}
 use Rattle.engine.proofs.Laws.Aheads.{ahead-ready}
 use Rattle.engine.proofs.Laws.RunLoop as law
 use Rattle.engine.proofs.runs.run.Goals.{Start, Else-not-is_paused, else-loop-test, then-loop-test+then-not-is_paused}
@@ -47,17 +48,22 @@ module _ (c : Else-not-is_paused) where
 pub take_instant-step-requires : goal.take_instant-step-requires
 take_instant-step-requires c =
     let t = (goal.at.take_instant-step-requires c).Else-not-is_paused in
-    law.instant-ready c.loop.invariant (more t) (paused t) c.requires.ranges_are c.reach_table-reach.ensures
+    own_ready c.args.plan.now (law.instant-ready c.loop.invariant (more t) (paused t) c.requires.ranges_are c.reach_table-reach.ensures)
 
 pub look_ahead-ahead-requires-in-loop : goal.look_ahead-ahead-requires-in-loop
 look_ahead-ahead-requires-in-loop c =
     let t = (goal.at.look_ahead-ahead-requires-in-loop c).Else-not-is_paused in
-    ahead-ready _ _ (law.sound_then c.loop.invariant (more t) (paused t) c.take_instant-step.ensures.figures)
+    let l = c.loop.invariant in
+    let ready = law.instant-ready l (more t) (paused t) c.requires.ranges_are c.reach_table-reach.ensures in
+    ahead-ready _ _ (law.sound_then l (more t) (paused t) (own_taken c.args.plan.now c.take_instant-step.ensures ready).figures)
 
 pub loop-preserved : goal.loop-preserved
 loop-preserved c =
-    let t = (goal.at.loop-preserved c).Else-not-is_paused in let done = c.take_instant-step.ensures in
-    law.advanced c.loop.invariant (more t) (paused t) done.figures done.sources c.look_ahead-ahead-in-loop.ensures done.bytes done.place
+    let t = (goal.at.loop-preserved c).Else-not-is_paused in
+    let l = c.loop.invariant in
+    let ready = law.instant-ready l (more t) (paused t) c.requires.ranges_are c.reach_table-reach.ensures in
+    let done = own_taken c.args.plan.now c.take_instant-step.ensures ready in
+    law.advanced l (more t) (paused t) done.figures done.sources c.look_ahead-ahead-in-loop.ensures done.bytes done.place
 
 -- ---- the end, by the budget or by the status
 

@@ -1,0 +1,5 @@
+-- the number falls to its tenth
+use Rattle.listingtext.proofs.+write_number.Given as goal
+
+abbrev pub decreases-write_number : goal.decreases-write_number
+decreases-write_number l = l.number
