@@ -1,8 +1,9 @@
 // The text of the listing program, as ASCII bytes at the start of a lent buffer: numbers, and the lines that they make up. Each function answers the
-// length of its text, and the bytes behind the text keep their value.
+// length of its text, `write_field` the place behind it, and the bytes behind the text keep their value. `write!` would say it shorter, but std leaves open
+// whether a `Display` fails, and a listing that fits is to be printed whole.
 #![tactic(auto)]
 
-ghost use Rattle.std.specs.Prelude.{◌≡◌, ◌+◌, ◌*◌, ◌≤◌, List, ℕ, length};
+ghost use Rattle.std.specs.Prelude.{◌≡◌, ◌+◌, ◌*◌, ◌≤◌, List, ℕ, nat_abs, length};
 ghost use Rattle.plan.specs.Numbers.{event_bytes};
 ghost use Rattle.listingtext.specs.Decimal.{decimal, signed_decimal};
 ghost use Rattle.listingtext.specs.Lines.{field, event_line, lines_of, end_line, refusal_line};
@@ -28,12 +29,19 @@ pub fn write_number(buffer: &mut [u8], number: u64) -> usize
     front + 1
 }
 
+// How far a value is from 0.
+fn magnitude(value: i64) -> u64
+    ensures { result ≡ nat_abs value }
+{
+    value.unsigned_abs()
+}
+
 // A number that may be below 0.
 pub fn write_signed(buffer: &mut [u8], value: i64) -> usize
     requires { length (signed_decimal value) ≤ length buffer.old }
     ensures { Printed (signed_decimal value) buffer.old result buffer.new }
 {
-    let size = value.unsigned_abs();
+    let size = magnitude(value);
     if value < 0 {
         buffer[0] = b'-';
         return 1 + write_number(&mut buffer[1..], size);

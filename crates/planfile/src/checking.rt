@@ -9,7 +9,7 @@ use directory::check_directory;
 use plan::Refusal;
 use planrules::check_plan;
 
-// The refusals 4 to 9, of the plan that the file holds. A function of its own, so that a file whose directory is refused pays nothing for a plan's 9 KB: a
+// The refusals 4 to 9, of the plan that the file holds. A function of its own, so that no 9 KB are cleared for a file whose directory is refused: a
 // function clears its locals where it begins.
 fn check_sections(file: &[u8]) -> Result<(), Refusal>
     requires { Directory file.now }
