@@ -5,7 +5,7 @@ ghost use Rattle.std.specs.Prelude.{◌≡◌, ◌≤◌, IfOk, length};
 ghost use Rattle.plan.specs.Numbers.{listing_input};
 ghost use Rattle.listingturns.specs.Turns.{event_space, text_space};
 
-use listingturns::{EVENT_SPACE, TEXT_SPACE, Turn, begin, take_turn};
+use listingturns::{EVENT_SPACE, TEXT_SPACE, Turn, begin_into, take_turn_into};
 use plan::LISTING_INPUT;
 use std::io;
 use std::io::Read;
@@ -55,10 +55,10 @@ fn main(rt: HostRuntime) -> io::Result<()> {
     let events: &mut [u8] = &mut records;
     let mut lines = text_space();
     let text: &mut [u8] = &mut lines;
-    let (size, mut turn) = begin(&file[..got], text);
+    let (size, mut turn) = begin_into(&file[..got], text);
     rt.write_all(&text[..size])?;
     while let Turn::More(state) = turn {
-        let (size, next) = take_turn(state, events, text);
+        let (size, next) = take_turn_into(state, events, text);
         rt.write_all(&text[..size])?;
         turn = next;
     }

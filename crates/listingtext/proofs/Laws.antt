@@ -5,3 +5,4 @@ pub mod Lines
 pub mod Printing
 pub mod Signs
 pub mod Sizes
+pub mod Strings

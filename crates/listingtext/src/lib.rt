@@ -1,6 +1,6 @@
-// The text of the listing program, as ASCII bytes at the start of a lent buffer: numbers, and the lines that they make up. Each function answers the
-// length of its text, `write_field` the place behind it, and the bytes behind the text keep their value. `write!` would say it shorter, but std leaves open
-// whether a `Display` fails, and a listing that fits is to be printed whole.
+// The text of the listing program, as ASCII bytes at the start of a lent buffer: numbers, and the lines that they make up. Each function that writes answers
+// the length of its text, `write_field` the place behind it, and the bytes behind the text keep their value. `write!` would say it shorter, but std leaves
+// open whether a `Display` fails, and a listing that fits is to be printed whole.
 #![tactic(auto)]
 
 ghost use Rattle.std.specs.Prelude.{◌≡◌, ◌+◌, ◌*◌, ◌≤◌, List, ℕ, nat_abs, length};
@@ -9,6 +9,7 @@ ghost use Rattle.listingtext.specs.Decimal.{decimal, signed_decimal};
 ghost use Rattle.listingtext.specs.Lines.{field, event_line, lines_of, end_line, refusal_line};
 ghost use Rattle.listingtext.specs.Printed.{Printed, PrintedAt};
 
+use itoa::Buffer;
 use plan::EVENT_BYTES;
 use words::{read_i32, read_u32};
 
@@ -49,8 +50,8 @@ pub fn write_signed(buffer: &mut [u8], value: i64) -> usize
     write_number(buffer, size)
 }
 
-// A number that is printed in decimal digits.
-pub trait Number: Copy {
+// A number whose decimal digits are written into a lent buffer.
+pub trait WrittenNumber: Copy {
     // Its digits, behind a '-' where it is below 0.
     ghost digits: { Self → List ℕ };
 
@@ -59,7 +60,7 @@ pub trait Number: Copy {
         ensures { Printed (digits self) buffer.old result buffer.new };
 }
 
-impl Number for u64 {
+impl WrittenNumber for u64 {
     ghost digits = { decimal };
 
     fn write(self, buffer: &mut [u8]) -> usize {
@@ -67,7 +68,7 @@ impl Number for u64 {
     }
 }
 
-impl Number for i64 {
+impl WrittenNumber for i64 {
     ghost digits = { signed_decimal };
 
     fn write(self, buffer: &mut [u8]) -> usize {
@@ -75,8 +76,37 @@ impl Number for i64 {
     }
 }
 
+// A number whose decimal digits are handed out as a string, which stands in the buffer of itoa that is lent. The listing program writes bytes and does not
+// call `format`. Other crates can. A string can't be lent as a slice of bytes to be written, so this is not `WrittenNumber`.
+pub trait Number: Copy {
+    // Its digits, behind a '-' where it is below 0.
+    ghost digits: { Self → List ℕ };
+
+    fn format(self, buffer: &mut Buffer) -> &str
+        ensures { result.now ≡ digits self };
+}
+
+// Two impls of one body: the definition of the digits is another for each type, and the gate takes no impl that a macro writes.
+impl Number for u64 {
+    ghost digits = { decimal };
+
+    #[tactic(auto, using(crate::proofs::Laws::Library::printing))]
+    fn format(self, buffer: &mut Buffer) -> &str {
+        buffer.format::<u64>(self)
+    }
+}
+
+impl Number for i64 {
+    ghost digits = { signed_decimal };
+
+    #[tactic(auto, using(crate::proofs::Laws::Library::printing))]
+    fn format(self, buffer: &mut Buffer) -> &str {
+        buffer.format::<i64>(self)
+    }
+}
+
 // From byte `at` on, a number and what ends it: a space or the line's end. What is answered is the place behind it.
-fn write_field<D: Number>(buffer: &mut [u8], at: usize, number: D, end: u8) -> usize
+fn write_field<D: WrittenNumber>(buffer: &mut [u8], at: usize, number: D, end: u8) -> usize
     requires { at + length (field (D.digits number) end) ≤ length buffer.old }
     ensures { PrintedAt at (field (D.digits number) end) buffer.old result buffer.new }
 {

@@ -5,3 +5,4 @@ pub mod Joined
 pub mod Fits
 pub mod Answers
 pub mod Loop
+pub mod Strings

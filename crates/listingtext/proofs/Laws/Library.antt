@@ -1,6 +1,6 @@
--- Laws: the decimal digits of a number are those that std prints. Assumes nothing.
+-- Laws: what std prints of a number are its decimal digits. Assumes nothing.
 use Rattle.std.specs.Prelude.{◌≡◌, List, [], ◌∷◌, ◌++◌, ℕ, ◌/◌, ◌%◌, ◌^◌, ◌≤◌, ◌<◌, ℤ, pos, negsuc}
-use Rattle.std.proofs.Common.{sym, ap, arith}
+use Rattle.std.proofs.Common.{to_z-of_z, sym, ap, arith}
 use Rattle.std.specs.Int.Signed.{mag}
 use Rattle.std.specs.Fmt.{decimal as printed, signed_decimal as signed_printed}
 use Rattle.std.proofs.lemmas.Fmt.{decimal_by_steps}
@@ -17,3 +17,6 @@ pub signed_printed_is : (z : ℤ) → mag z < 2 ^ 63 → signed_printed z ≡ si
 unfolding signed_decimal
 signed_printed_is (pos n) h = printed_is n (omega arith)
 signed_printed_is (negsuc n) h = ap (λ (text : List ℕ). minus ∷ text) (printed_is _ (omega arith))
+
+-- what itoa answers of a number
+pub ruleset printing = (printed_is, signed_printed_is, to_z-of_z)

@@ -7,6 +7,6 @@ use Rattle.listingtext.proofs.write_field.Goals as goal
 pub returns : goal.returns
 returns g c =
     let a = c.args in
-    let digits = g.D.Number.digits a.number in
+    let digits = g.D.WrittenNumber.digits a.number in
     let room : a.at + (length digits + 1) ≤ length a.buffer.now = omega (arith, length-append digits (a.end ∷ [])) in
     then_byte_at (in_part a.at (omega arith) c.write.ensures) a.end (omega arith)

@@ -1,24 +1,12 @@
--- An accepted file prints nothing yet, another its refusal.
+-- What was written is the refusal, or nothing, and fits.
 use Rattle.std.proofs.Common.{arith}
-use Rattle.listingturns.proofs.Laws.Fits.{refusal_fits}
-use Rattle.listingturns.proofs.Laws.Answers.{first-accepted, first-refused, accepted_written, refused_written}
+use Rattle.listingturns.proofs.Laws.Fits.{texts_fit}
+use Rattle.listingturns.proofs.Laws.Strings.{begin_utf8, front}
 use Rattle.listingturns.proofs.begin.Goals as goal
 
-pub returns-then-loaded-eq-ACCEPTED : goal.returns-then-loaded-eq-ACCEPTED
-returns-then-loaded-eq-ACCEPTED c =
+pub set_text-requires : goal.set_text-requires
+set_text-requires g c =
     let file = c.args.file.now in
-    let accepted = c.if-loaded-eq-ACCEPTED.true in
-    let written = accepted_written file c.load-loaded.ensures c.args.text.now accepted in
-    record { size = written.0; answer = (first-accepted file c.load-loaded.ensures accepted).0; text = written.1 }
-
-pub write_refusal-size-requires : goal.write_refusal-size-requires
-write_refusal-size-requires c =
-    let file = c.args.file.now in
-    rw c.load-loaded.ensures (omega (arith, c.requires, refusal_fits file (record { byte = λ i. (c.type_inv.file i).fits })))
-
-pub returns : goal.returns
-returns c =
-    let file = c.args.file.now in
-    let refused = c.if-loaded-eq-ACCEPTED.false in
-    let written = refused_written file c.load-loaded.ensures refused c.write_refusal-size.ensures in
-    record { size = written.0; answer = (first-refused file c.load-loaded.ensures refused).0; text = written.1 }
+    let written = c.begin_into-size.ensures in
+    let fits = texts_fit.1 file (record { byte = λ i. (c.type_inv.file i).fits }) in
+    (omega (arith, g.N.fits), rw (front _ _ written.size written.text) (begin_utf8 file, omega (arith, c.requires, fits)))
